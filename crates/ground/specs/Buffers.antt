@@ -1,0 +1,52 @@
+-- A lent buffer: its front written over, and the rest as it was. Assumes nothing.
+use mathlib.Core.List.{List, [], append-nil, _++_, _∷_}
+use mathlib.Core.Path.{ap, refl, _≡_}
+use Prim.Native.Nat.{suc, zero, ℕ, _+_, _-_, _<_, _≤_}
+use native.Mathlib.Numerals.{add-one}
+use native.Mathlib.Omega.{arith}
+use lib.ListN.{drop, drop-of-length-le, getD, length, length-append, length-drop, length-take, set, take}
+use lib.Seq.{take-all}
+
+-- m written at the front of d
+abbrev pub front : List ℕ → List ℕ → List ℕ
+front m d = m ++ drop (length m) d
+
+-- the first n places of d written over with those of s
+unfoldable pub over : ℕ → List ℕ → List ℕ → List ℕ
+over n s d = take n s ++ drop n d
+
+-- ## The loop that writes place by place: before it, one place more, after it
+
+pub over-none : (s d : List ℕ) → d ≡ over 0 s d
+unfolding over
+over-none s d = refl
+
+over-suc : (n : ℕ) (s d : List ℕ) → n < length s → n < length d → set (take n s ++ drop n d) n (getD s n 0) ≡ take (suc n) s ++ drop (suc n) d
+over-suc n s [] l h = absurd (omega arith)
+over-suc n [] (x ∷ d) l h = absurd (omega arith)
+over-suc zero (y ∷ s) (x ∷ d) l h = refl
+over-suc (suc n) (y ∷ s) (x ∷ d) l h = ap (λ z. y ∷ z) (over-suc n s d (omega arith) (omega arith))
+
+pub over-more : (n : ℕ) (s d e : List ℕ) → n < length s → n < length d → e ≡ over n s d → set e n (getD s n 0) ≡ over (n + 1) s d
+unfolding over
+over-more n s d e l h q = rw (q, add-one) (over-suc n s d l h)
+
+pub over-end : (i n : ℕ) (s d e : List ℕ) → i ≤ n → n ≤ i → e ≡ over i s d → e ≡ over n s d
+over-end i n s d e l g q = let p : i ≡ n = omega arith in rw (← p) q
+
+pub over-length : (n : ℕ) (s d : List ℕ) → n ≤ length s → n ≤ length d → length (over n s d) ≡ length d
+unfolding over
+over-length n s d l h = simp (length-append, length-take, length-drop) (omega arith)
+
+-- the front of s is m: then m stands at the front of d
+pub over-front : (n : ℕ) (s d m : List ℕ) → take n s ≡ m → length m ≡ n → over n s d ≡ front m d
+unfolding over
+over-front n s d m e f = rw (e, f)
+
+-- ## The rest from `at` on, lent as `&mut b[at..]`: what is lent, and the whole once m stands there
+
+pub rest-part : (b : List ℕ) (at : ℕ) → take (length b - at) (drop at b) ≡ drop at b
+rest-part b at = take-all (length b - at) (drop at b) (omega (arith, length-drop at b))
+
+pub rest-put : (b m : List ℕ) (at : ℕ) → take at b ++ (m ++ drop (length b - at) (drop at b)) ≡ take at b ++ m
+rest-put b m at = rw (drop-of-length-le (drop at b) {i = length b - at} (omega (arith, length-drop at b)), append-nil m)

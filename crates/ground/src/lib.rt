@@ -1,0 +1,73 @@
+// What every crate uses and that says nothing of images: refusals, a range, a bit of a number, the lower of two numbers.
+ghost use mathlib.Core.Path.{_≡_};
+ghost use Prim.Native.Nat.{_<_, min};
+ghost use Rattle.ground.specs.Bits.{bit};
+ghost use Rattle.ground.specs.Refusals.{refusal, refuseIf, outside};
+
+// A refusal by its number, with up to four places, unused ones 0. A place holds any argument unchanged.
+pub struct Refusal {
+    pub number: u32,
+    pub a: usize,
+    pub b: usize,
+    pub c: usize,
+    pub d: usize,
+}
+
+// What a check answers.
+pub enum Check {
+    Passed,
+    Refused(Refusal),
+}
+
+// What a call answers that gives one number.
+pub enum Answer {
+    Value(u32),
+    Refused(Refusal),
+}
+
+// What a call answers that writes into lent slices: how many places of each it wrote.
+pub enum Written {
+    Places(usize),
+    Refused(Refusal),
+}
+
+// Refused with this number and these two places where the test holds.
+pub fn refuse_if(bad: bool, number: u32, a: usize, b: usize) -> Check
+    ensures { λ r. ⌜ r ≡ refuseIf bad (refusal number a b 0 0) ⌝ }
+{
+    if bad {
+        return Check::Refused(Refusal {
+            number,
+            a,
+            b,
+            c: 0,
+            d: 0,
+        });
+    }
+    Check::Passed
+}
+
+// Whether m is outside low..high.
+pub fn is_outside(low: usize, high: usize, m: usize) -> bool
+    ensures { λ r. ⌜ r ≡ outside low high m ⌝ }
+{
+    if m < low {
+        return true;
+    }
+    high < m
+}
+
+// Bit i of s, 1 or 0.
+pub fn side(s: u64, i: usize) -> u64
+    requires { ⌜ i < 64 ⌝ }
+    ensures { λ r. ⌜ r ≡ bit s i ⌝ }
+{
+    (s >> i) & 1
+}
+
+// The lower of the two.
+pub fn lower(x: u32, y: u32) -> u32
+    ensures { λ r. ⌜ r ≡ min x y ⌝ }
+{
+    if y < x { y } else { x }
+}

@@ -1,0 +1,103 @@
+-- The demands of the two readings and of the order, each as one theorem: what a reader of the demands looks for, and what the
+-- crates above cite. Assumes nothing.
+use mathlib.Core.List.{List, []}
+use mathlib.Core.Logic.{_↔_}
+use mathlib.Core.Path.{_≡_}
+use Prim.Native.Nat.{suc, zero, ℕ, _*_, _+_, _<_, _≤_}
+use native.Mathlib.Omega.{arith}
+use lib.ListN.{length}
+use Rattle.ground.specs.Bits.{bit}
+use Rattle.theory.specs.FarSides.{FarSide}
+use Rattle.theory.specs.FourPoint.{FourPoint, failing}
+use Rattle.theory.specs.Index.{AtLeast, clipped}
+use Rattle.theory.specs.Laws.ClosedSum.{closed-sum}
+use Rattle.theory.specs.Laws.OneTree.{measured-tree}
+use Rattle.theory.specs.Laws.OnlyOne.{exact-exists, exact-is}
+use Rattle.theory.specs.Laws.Ring.{one-run}
+use Rattle.theory.specs.Laws.RowCount.{row-count}
+use Rattle.theory.specs.Laws.Runs.{OneRun, one-run-list}
+use Rattle.theory.specs.Laws.Sorted.{none-failing}
+use Rattle.theory.specs.Laws.Stable.{cost-near, measured-cost}
+use Rattle.theory.specs.Laws.Under.{measured-under}
+use Rattle.theory.specs.Laws.Walk.{order-all}
+use Rattle.theory.specs.LinkTables.{LinkTable, Row, allCosts, costOf, path}
+use Rattle.theory.specs.Order.{AllOnce, closed, order}
+use Rattle.theory.specs.Readings.{Exact, Near, measured}
+use Rattle.theory.specs.Tables.{WellFormed}
+
+-- A link table, and as many rows as a tree has: the drawn links form one tree.
+pub record OneTree (L n : ℕ) (T : List Row) : Type 0 where
+  pub tree : LinkTable L n T
+  pub least : n ≤ length T
+  pub most : length T + 3 ≤ 2 * n
+
+-- Every link table has n to 2 n - 3 rows.
+pub one-tree : (L n : ℕ) (T : List Row) → 3 ≤ n → LinkTable L n T → OneTree L n T
+one-tree L n T h t = let c = row-count L n T h t in record { tree = t; least = c .0; most = c .1 }
+
+-- ## Demand 2, of a well-formed table
+
+pub record ExactReading (L : ℕ) (d : ℕ → ℕ → ℕ) (n : ℕ) : Type 0 where
+  -- no four images in ascending order fail exactly when the four-point condition holds
+  pub scanned : (failing d n ≡ []) ↔ FourPoint d n
+  -- which is exactly when some link table has path costs equal to twice the entries
+  pub accepted : FourPoint d n ↔ ((T : List Row) × Exact L d n T)
+  -- the answer is that table: only one exists, and on an accepted table both readings agree
+  pub answer : (T : List Row) → FourPoint d n → Exact L d n T ↔ (T ≡ measured L d n)
+
+pub exact-reading : (L : ℕ) (d : ℕ → ℕ → ℕ) (n : ℕ) → 2 ≤ n → WellFormed L d n → ExactReading L d n
+exact-reading L d zero h c = absurd (omega arith)
+exact-reading L d (suc zero) h c = absurd (omega arith)
+exact-reading L d (suc (suc k)) h c =
+    record { scanned = none-failing L d (suc (suc k)) c; accepted = exact-exists L d k c; answer = exact-is L d k c }
+
+-- ## The measured reading, of every well-formed table
+
+pub record MeasuredReading (L : ℕ) (d : ℕ → ℕ → ℕ) (n : ℕ) : Type 0 where
+  -- the drawn links always form one tree
+  pub drawn : OneTree L n (measured L d n)
+  -- no path cost in it is above twice the entry
+  pub under : {i j : ℕ} → i < n → j < n → path (measured L d n) i j ≤ 2 * d i j
+  -- it gives every division its index, or 0 where that is negative
+  pub index : (S : ℕ) → FarSide n S → costOf (measured L d n) S ≡ clipped L d n (bit S)
+
+pub measured-reading : (L : ℕ) (d : ℕ → ℕ → ℕ) (n : ℕ) → 3 ≤ n → WellFormed L d n → MeasuredReading L d n
+measured-reading L d zero h c = absurd (omega arith)
+measured-reading L d (suc zero) h c = absurd (omega arith)
+measured-reading L d (suc (suc k)) h c = record {
+  drawn = one-tree L (suc (suc k)) _ h (measured-tree L d k c);
+  under = λ {i} {j} hi hj. measured-under L d (suc (suc k)) i j c hi hj;
+  index = λ S f. measured-cost L d (suc (suc k)) S f;
+}
+
+-- ## Demand 3
+
+-- of an accepted table with the tree T, and of a second table e, no entry differing by more than D
+pub record Stable (L D : ℕ) (e : ℕ → ℕ → ℕ) (n : ℕ) (T : List Row) : Type 0 where
+  -- for each division the doubled cost that the second's measured reading gives it and the one in T differ by at most 4 D,
+  -- an absent link counting as zero
+  pub near : (S : ℕ) → FarSide n S
+      → (costOf T S ≤ costOf (measured L e n) S + 4 * D) × (costOf (measured L e n) S ≤ costOf T S + 4 * D)
+  -- the drawn links form one tree, and no path cost in it is above twice the second's entry
+  pub reading : MeasuredReading L e n
+
+pub stable : (L D : ℕ) (d e : ℕ → ℕ → ℕ) (n : ℕ) (T : List Row) → 3 ≤ n → WellFormed L d n → WellFormed L e n → Exact L d n T
+    → Near D d e n → Stable L D e n T
+stable L D d e n T h c c′ x p = record { near = λ S f. cost-near L D d e n T c c′ x p S f; reading = measured-reading L e n h c′ }
+
+-- ## The order around the tree, of every well-formed table
+
+pub record Ordered (L : ℕ) (d : ℕ → ℕ → ℕ) (n f last : ℕ) : Type 0 where
+  -- all images once, first and last at the ends
+  pub images : AllOnce n f last (order d n f last)
+  -- every division with index above 0 is a run of neighbours on the ring
+  pub runs : (S : ℕ) → FarSide n S → AtLeast d n (bit S) 1 → OneRun S f (order d n f last)
+  -- on an accepted table the closed sum is the sum of all doubled costs
+  pub sums : (T : List Row) → Exact L d n T → closed d (order d n f last) ≡ allCosts T
+
+pub ordered : (L : ℕ) (d : ℕ → ℕ → ℕ) (n f last : ℕ) → WellFormed L d n → f < n → last < n → (f ≡ last → ⊥) → Ordered L d n f last
+ordered L d n f last c hf hl ne = record {
+  images = order-all d n f hf last hl ne;
+  runs = λ S s p. one-run-list S f _ (one-run L d n c f hf S s p last hl ne);
+  sums = λ T x. closed-sum L d n T c x f last hf hl ne;
+}

@@ -1,0 +1,48 @@
+-- The four-point condition, in document 01's words.
+use mathlib.Core.Bool.{Bool}
+use mathlib.Core.List.{List, map}
+use Prim.Native.Nat.{max, ℕ, _+_, _-_, _<_, _≤_}
+use lib.Dec.{eqb, ltb}
+use Rattle.ground.specs.Counts.{one-if}
+use Rattle.ground.specs.Filters.{filter}
+use Rattle.ground.specs.Ranges.{from, gather}
+
+-- how often the largest of three numbers occurs among them
+abbrev pub largest : ℕ → ℕ → ℕ → ℕ
+largest x y z = one-if (eqb x (max x (max y z))) + one-if (eqb y (max x (max y z))) + one-if (eqb z (max x (max y z)))
+
+-- for all images i, j, k, l, repeats allowed, of the three sums the largest occurs at least twice
+pub record FourPoint (d : ℕ → ℕ → ℕ) (n : ℕ) : Type 0 where
+  pub twice : {i j k l : ℕ} → i < n → j < n → k < n → l < n → 2 ≤ largest (d i j + d k l) (d i k + d j l) (d i l + d j k)
+
+-- four images
+pub record Four : Type 0 where
+  pub fst : ℕ
+  pub snd : ℕ
+  pub trd : ℕ
+  pub fth : ℕ
+
+abbrev pub four : ℕ → ℕ → ℕ → ℕ → Four
+four i j k l = record { fst = i; snd = j; trd = k; fth = l }
+
+-- i ≤ j ≤ k ≤ l below n, in dictionary order: those that begin with i, j, k; with i, j; with i; all of them
+abbrev pub fours₃ : ℕ → ℕ → ℕ → ℕ → List Four
+fours₃ n i j k = map (four i j k) (from k (n - k))
+
+abbrev pub fours₂ : ℕ → ℕ → ℕ → List Four
+fours₂ n i j = gather (from j (n - j)) (fours₃ n i j)
+
+abbrev pub fours₁ : ℕ → ℕ → List Four
+fours₁ n i = gather (from i (n - i)) (fours₂ n i)
+
+abbrev pub fours : ℕ → List Four
+fours n = gather (from 0 n) (fours₁ n)
+
+-- the largest sum of these four occurs once only
+abbrev pub fails : (ℕ → ℕ → ℕ) → Four → Bool
+fails d q =
+    ltb (largest (d (q .fst) (q .snd) + d (q .trd) (q .fth)) (d (q .fst) (q .trd) + d (q .snd) (q .fth)) (d (q .fst) (q .fth) + d (q .snd) (q .trd))) 2
+
+-- those that fail, in dictionary order: no wiring, and the first of them shows why
+abbrev pub failing : (ℕ → ℕ → ℕ) → ℕ → List Four
+failing d n = filter (fails d) (fours n)

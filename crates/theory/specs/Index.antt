@@ -1,0 +1,21 @@
+-- The index of a division, in document 01's words. The division is given by its sides: s i is 0 for an image i of A, 1 for one of B.
+use Prim.Native.Nat.{min, ℕ, _*_, _+_, _-_, _≤_}
+use Rattle.ground.specs.Least.{On, leastOn}
+
+-- min(d(a,b) + d(a',b'), d(a,b') + d(a',b)) - d(a,a') - d(b,b'), with 2 L added so that nothing is below 0
+abbrev pub gain : ℕ → (ℕ → ℕ → ℕ) → ℕ → ℕ → ℕ → ℕ → ℕ
+gain L d a a′ b b′ = 2 * L + min (d a b + d a′ b′) (d a b′ + d a′ b) - d a a′ - d b b′
+
+-- the least of them over a, a' in A and b, b' in B, repeats allowed: the signed index with 2 L added
+unfoldable pub shifted : ℕ → (ℕ → ℕ → ℕ) → ℕ → (ℕ → ℕ) → ℕ
+shifted L d n s =
+    leastOn n s 0 (4 * L) (λ a. leastOn n s 0 (4 * L) (λ a′. leastOn n s 1 (4 * L) (λ b. leastOn n s 1 (4 * L) (λ b′. gain L d a a′ b b′))))
+
+-- the index, or 0 where it is negative
+abbrev pub clipped : ℕ → (ℕ → ℕ → ℕ) → ℕ → (ℕ → ℕ) → ℕ
+clipped L d n s = shifted L d n s - 2 * L
+
+-- the index is at least v, quad by quad
+pub record AtLeast (d : ℕ → ℕ → ℕ) (n : ℕ) (s : ℕ → ℕ) (v : ℕ) : Type 0 where
+  pub low : {a a′ b b′ : ℕ} → On n s 0 a → On n s 0 a′ → On n s 1 b → On n s 1 b′
+      → v + d a a′ + d b b′ ≤ d a b + d a′ b′

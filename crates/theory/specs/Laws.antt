@@ -1,0 +1,38 @@
+-- The laws, from the definitions up to the demands.
+-- The four-point condition.
+pub mod FourPoint
+pub mod Sorted
+-- Divisions and the index.
+pub mod Nested
+pub mod FarSides
+pub mod OwnLinks
+pub mod Divisions
+pub mod Index
+pub mod Attained
+pub mod OneMore
+pub mod FewSteps
+-- The drawn links form one tree.
+pub mod OneTree
+pub mod RowsGrow
+pub mod ReadingGrows
+-- Path costs.
+pub mod Paths
+pub mod RowsFound
+pub mod Positions
+pub mod Under
+pub mod Over
+-- Only one, how many rows, how far off.
+pub mod Among
+pub mod OnlyOne
+pub mod RowCount
+pub mod Stable
+-- The order around the tree.
+pub mod Next
+pub mod Walk
+pub mod Ring
+pub mod ClosedSum
+pub mod Runs
+-- Link tables that are climbed and compared.
+pub mod Contained
+pub mod Routes
+pub mod Comparison

@@ -1,0 +1,153 @@
+-- Law I4, one image more: the index over k + 1 images from the index over k and the quads in which image k takes part.
+-- Assumes nothing.
+use mathlib.Core.Logic.{inl, inr, _⊎_}
+use mathlib.Core.Path.{ap, sym, _∙_, _≡_}
+use Prim.Native.Nat.{min, suc, ℕ, _*_, _+_, _-_, _<_, _≤_}
+use native.Mathlib.Nat.{le-antisymm, le-trans}
+use native.Mathlib.Omega.{arith}
+use lib.Dec.{eqb}
+use borrow.Author.Tests.{eqb-false, eqb-true}
+use borrow.Table.Steps.{cases}
+use Rattle.ground.specs.Least.{On, le-leastOn, leastOn, leastOn-cap, leastOn-le}
+use Rattle.theory.specs.Index.{gain, shifted}
+use Rattle.theory.specs.Laws.Index.{le-shifted, shifted-cap, shifted-le}
+use Rattle.theory.specs.Tables.{WellFormed}
+
+-- one pairing of a quad with image k: a on k's side, b and b′ on the other
+abbrev pub pairing : ℕ → (ℕ → ℕ → ℕ) → ℕ → ℕ → ℕ → ℕ → ℕ
+pairing L d k a b b′ = 2 * L + (d k b + d a b′) - (d k a + d b b′)
+
+-- the least of them
+unfoldable pub ext : ℕ → (ℕ → ℕ → ℕ) → ℕ → (ℕ → ℕ) → ℕ
+ext L d k s = leastOn (suc k) s (s k) (4 * L) (λ a. leastOn k s (1 - s k) (4 * L) (λ b. leastOn k s (1 - s k) (4 * L) (λ b′. pairing L d k a b b′)))
+
+module _ (L : ℕ) (d : ℕ → ℕ → ℕ) (k : ℕ) (s : ℕ → ℕ) where
+  pub ext-le : {a b b′ : ℕ} → On (suc k) s (s k) a → On k s (1 - s k) b → On k s (1 - s k) b′ → ext L d k s ≤ pairing L d k a b b′
+  unfolding ext
+  ext-le {a} {b} {b′} ha hb hb′ = le-trans (leastOn-le s (s k) (4 * L) _ (suc k) a ha) (le-trans (leastOn-le s (1 - s k) (4 * L) _ k b hb) (leastOn-le s (1 - s k) (4 * L) _ k b′ hb′))
+
+  pub le-ext : (v : ℕ) → v ≤ 4 * L → ((a b b′ : ℕ) → On (suc k) s (s k) a → On k s (1 - s k) b → On k s (1 - s k) b′ → v ≤ pairing L d k a b b′) → v ≤ ext L d k s
+  unfolding ext
+  le-ext v c h = le-leastOn s (s k) (4 * L) _ (suc k) v c (λ a ha. le-leastOn s (1 - s k) (4 * L) _ k v c (λ b hb. le-leastOn s (1 - s k) (4 * L) _ k v c (λ b′ hb′. h a b b′ ha hb hb′)))
+
+  pub ext-cap : ext L d k s ≤ 4 * L
+  unfolding ext
+  ext-cap = leastOn-cap s (s k) (4 * L) _ (suc k)
+
+  module _ (c : WellFormed L d (suc k)) (two : s k < 2) where
+    up : {g a : ℕ} → On k s g a → On (suc k) s g a
+    up o = (omega arith, o .1)
+
+    -- what is not image k is one of the first k
+    down : {g a : ℕ} → On (suc k) s g a → (a ≡ k → ⊥) → On k s g a
+    down o h = (omega arith, o .1)
+
+    shifted-ext : shifted L d (suc k) s ≤ ext L d k s
+    shifted-ext = le-ext (shifted L d (suc k) s) (shifted-cap L d (suc k) s) (λ a b b′ ha hb hb′.
+        cases (eqb (s k) 0)
+        (λ e.
+        let k0 = eqb-true (s k) 0 e in
+        let b1 : s b ≡ 1 = omega (arith, hb .1) in
+        let b1′ : s b′ ≡ 1 = omega (arith, hb′ .1) in
+        omega (arith, shifted-le L d (suc k) s {a = k} {a′ = a} {b = b} {b′ = b′} (omega arith, k0) (ha .0, ha .1 ∙ k0) (omega arith, b1) (omega arith, b1′)))
+        (λ e.
+        let k1 : s k ≡ 1 = omega (arith, eqb-false (s k) 0 e) in
+        let b0 : s b ≡ 0 = omega (arith, hb .1) in
+        let b0′ : s b′ ≡ 0 = omega (arith, hb′ .1) in
+        let x : b < suc k = omega arith in
+        let y : b′ < suc k = omega arith in
+        let z : k < suc k = omega arith in
+        omega (arith, shifted-le L d (suc k) s {a = b} {a′ = b′} {b = k} {b′ = a} (x, b0) (y, b0′) (z, k1) (ha .0, ha .1 ∙ k1), c .same x z, c .same y (ha .0))))
+
+    shifted-fewer : shifted L d (suc k) s ≤ shifted L d k s
+    shifted-fewer = le-shifted L d k s (shifted L d (suc k) s) (shifted-cap L d (suc k) s)
+        (λ a a′ b b′ ha ha′ hb hb′. shifted-le L d (suc k) s (up ha) (up ha′) (up hb) (up hb′))
+
+    -- a quad with image k is one of ext's, in both pairings
+    quad-ext : {a a′ b b′ : ℕ} → On (suc k) s 0 a → On (suc k) s 0 a′ → On (suc k) s 1 b → On (suc k) s 1 b′
+        → (a ≡ k) ⊎ ((a′ ≡ k) ⊎ ((b ≡ k) ⊎ (b′ ≡ k))) → ext L d k s ≤ gain L d a a′ b b′
+    quad-ext {a} {a′} {b} {b′} ha ha′ hb hb′ (inl e) =
+        let k0 : 0 ≡ s k = sym (ha .1) ∙ ap s e in
+        let o : 1 ≡ 1 - s k = omega arith in
+        let ob = down hb (λ t. omega (arith, ap s t, hb .1)) in
+        let ob′ = down hb′ (λ t. omega (arith, ap s t, hb′ .1)) in
+        omega (
+          arith,
+          ext-le {a = a′} {b = b} {b′ = b′} (ha′ .0, ha′ .1 ∙ k0) (ob .0, ob .1 ∙ o) (ob′ .0, ob′ .1 ∙ o),
+          ext-le {a = a′} {b = b′} {b′ = b} (ha′ .0, ha′ .1 ∙ k0) (ob′ .0, ob′ .1 ∙ o) (ob .0, ob .1 ∙ o),
+          c .same (hb .0) (hb′ .0),
+          ap (λ (x : ℕ). d x b) e,
+          ap (λ (x : ℕ). d x b′) e,
+          ap (λ (x : ℕ). d x a′) e,
+        )
+    quad-ext {a} {a′} {b} {b′} ha ha′ hb hb′ (inr (inl e)) =
+        let k0 : 0 ≡ s k = sym (ha′ .1) ∙ ap s e in
+        let o : 1 ≡ 1 - s k = omega arith in
+        let ob = down hb (λ t. omega (arith, ap s t, hb .1)) in
+        let ob′ = down hb′ (λ t. omega (arith, ap s t, hb′ .1)) in
+        omega (
+          arith,
+          ext-le {a = a} {b = b} {b′ = b′} (ha .0, ha .1 ∙ k0) (ob .0, ob .1 ∙ o) (ob′ .0, ob′ .1 ∙ o),
+          ext-le {a = a} {b = b′} {b′ = b} (ha .0, ha .1 ∙ k0) (ob′ .0, ob′ .1 ∙ o) (ob .0, ob .1 ∙ o),
+          c .same (hb .0) (hb′ .0),
+          c .same (ha .0) (ha′ .0),
+          ap (λ (x : ℕ). d x b) e,
+          ap (λ (x : ℕ). d x b′) e,
+          ap (λ (x : ℕ). d x a) e,
+        )
+    quad-ext {a} {a′} {b} {b′} ha ha′ hb hb′ (inr (inr (inl e))) =
+        let k1 : 1 ≡ s k = sym (hb .1) ∙ ap s e in
+        let o : 0 ≡ 1 - s k = omega arith in
+        let oa = down ha (λ t. omega (arith, ap s t, ha .1)) in
+        let oa′ = down ha′ (λ t. omega (arith, ap s t, ha′ .1)) in
+        omega (
+          arith,
+          ext-le {a = b′} {b = a} {b′ = a′} (hb′ .0, hb′ .1 ∙ k1) (oa .0, oa .1 ∙ o) (oa′ .0, oa′ .1 ∙ o),
+          ext-le {a = b′} {b = a′} {b′ = a} (hb′ .0, hb′ .1 ∙ k1) (oa′ .0, oa′ .1 ∙ o) (oa .0, oa .1 ∙ o),
+          c .same (ha .0) (ha′ .0),
+          c .same (ha .0) (hb .0),
+          c .same (ha′ .0) (hb .0),
+          c .same (ha .0) (hb′ .0),
+          c .same (ha′ .0) (hb′ .0),
+          ap (λ (x : ℕ). d x a) e,
+          ap (λ (x : ℕ). d x a′) e,
+          ap (λ (x : ℕ). d x b′) e,
+        )
+    quad-ext {a} {a′} {b} {b′} ha ha′ hb hb′ (inr (inr (inr e))) =
+        let k1 : 1 ≡ s k = sym (hb′ .1) ∙ ap s e in
+        let o : 0 ≡ 1 - s k = omega arith in
+        let oa = down ha (λ t. omega (arith, ap s t, ha .1)) in
+        let oa′ = down ha′ (λ t. omega (arith, ap s t, ha′ .1)) in
+        omega (
+          arith,
+          ext-le {a = b} {b = a} {b′ = a′} (hb .0, hb .1 ∙ k1) (oa .0, oa .1 ∙ o) (oa′ .0, oa′ .1 ∙ o),
+          ext-le {a = b} {b = a′} {b′ = a} (hb .0, hb .1 ∙ k1) (oa′ .0, oa′ .1 ∙ o) (oa .0, oa .1 ∙ o),
+          c .same (ha .0) (ha′ .0),
+          c .same (hb .0) (hb′ .0),
+          c .same (ha .0) (hb .0),
+          c .same (ha′ .0) (hb .0),
+          c .same (ha .0) (hb′ .0),
+          c .same (ha′ .0) (hb′ .0),
+          ap (λ (x : ℕ). d x a) e,
+          ap (λ (x : ℕ). d x a′) e,
+          ap (λ (x : ℕ). d x b) e,
+        )
+
+    ext-shifted : min (shifted L d k s) (ext L d k s) ≤ shifted L d (suc k) s
+    ext-shifted =
+        le-shifted L d (suc k) s (min (shifted L d k s) (ext L d k s)) (omega (arith, ext-cap)) (λ a a′ b b′ ha ha′ hb hb′.
+        let q = quad-ext ha ha′ hb hb′ in
+        cases (eqb a k) (λ t. omega (arith, q (inl (eqb-true a k t))))
+        (λ t. cases (eqb a′ k) (λ u. omega (arith, q (inr (inl (eqb-true a′ k u)))))
+        (λ u. cases (eqb b k) (λ v. omega (arith, q (inr (inr (inl (eqb-true b k v))))))
+        (λ v. cases (eqb b′ k) (λ w. omega (arith, q (inr (inr (inr (eqb-true b′ k w))))))
+        (λ w. omega (arith, shifted-le L d k s (down ha (eqb-false a k t)) (down ha′ (eqb-false a′ k u)) (down hb (eqb-false b k v)) (down hb′ (eqb-false b′ k w))))))))
+
+    -- I4. Over no far image below k, shifted L d k s is the start value, and ext decides alone.
+    pub shifted-more : shifted L d (suc k) s ≡ min (shifted L d k s) (ext L d k s)
+    shifted-more = le-antisymm (omega (arith, shifted-fewer, shifted-ext)) ext-shifted
+
+-- over images none of which is far, there is no quad: the start value stands
+pub shifted-none : (L : ℕ) (d : ℕ → ℕ → ℕ) (k : ℕ) (s : ℕ → ℕ) → ((a : ℕ) → a < k → s a ≡ 0) → shifted L d k s ≡ 4 * L
+shifted-none L d k s h =
+    le-antisymm (shifted-cap L d k s) (le-shifted L d k s (4 * L) (omega arith) (λ a a′ b b′ ha ha′ hb hb′. absurd (omega (arith, h b (hb .0), hb .1))))

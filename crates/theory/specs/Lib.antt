@@ -1,0 +1,13 @@
+-- What a reader must believe: document 01's definitions, a short file to a topic, in its order.
+pub mod Tables
+pub mod FourPoint
+pub mod FarSides
+pub mod LinkTables
+pub mod Routes
+pub mod Index
+pub mod Readings
+pub mod Order
+pub mod Comparison
+-- What is true of them: the proofs, and on one page the theorems that answer the demands.
+pub mod Laws
+pub mod Demands
