@@ -1,6 +1,9 @@
-// The meaning of everything is in specs/. The one function here is what the definition of an inner division itself names.
+// The meaning of everything is in specs/. Here stand only the limit, and the one test that a definition names as code.
 ghost use mathlib.Core.Path.{_≡_};
 ghost use Rattle.theory.specs.FarSides.{inner};
+
+// The limit on an entry, `limit` of specs/Tables.antt; a doubled cost is at most twice as much.
+pub const LIMIT: u32 = 1000000;
 
 // Whether the far side s is an inner division of n images, counted as its ones; otherwise it is some image's own link.
 pub fn is_inner(n: usize, s: u64) -> bool
