@@ -19,3 +19,4 @@ pub mod First
 pub mod Folds
 pub mod Buffers
 pub mod Refusals
+pub mod Lowest

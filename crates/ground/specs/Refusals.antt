@@ -59,7 +59,11 @@ value-stops y v e f = rw (← f, e)
 pub value-goes : {x : Check} {u : ℕ} (y : Check) (v : ℕ) → x ≡ Passed → x ≡ y → u ≡ v → Value u ≡ valueIf y v
 value-goes y v e f g = rw (← f, e, g)
 
--- ## What a chain that passed says
+-- ## What a chain says
+
+pub then-assoc : (x y z : Check) → ((x then y) then z) ≡ (x then (y then z))
+then-assoc Passed y z = refl
+then-assoc (Refused r) y z = refl
 
 pub then-passed : (y z : Check) → (y then z) ≡ Passed → (y ≡ Passed) × (z ≡ Passed)
 then-passed Passed z e = (refl, e)

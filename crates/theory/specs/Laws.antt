@@ -2,6 +2,7 @@
 -- The four-point condition.
 pub mod FourPoint
 pub mod Sorted
+pub mod ImageOne
 -- Divisions and the index.
 pub mod Nested
 pub mod FarSides

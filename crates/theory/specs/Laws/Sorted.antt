@@ -17,12 +17,13 @@ use Rattle.theory.specs.Tables.{WellFormed}
 
 -- ## Which fours are listed
 
+pub mem-fours₁ : (n i j k l : ℕ) → i ≤ j → j ≤ k → k ≤ l → l < n → List·Memᴰ (four i j k l) (fours₁ n i)
+mem-fours₁ n i j k l p q r h =
+    mem-gather (fours₂ n i) (mem-from i (n - i) j p (omega arith))
+    (mem-gather (fours₃ n i j) (mem-from j (n - j) k q (omega arith)) (mem-map (four i j k) (mem-from k (n - k) l r (omega arith))))
+
 pub mem-fours : (n i j k l : ℕ) → i ≤ j → j ≤ k → k ≤ l → l < n → List·Memᴰ (four i j k l) (fours n)
-mem-fours n i j k l p q r h =
-    mem-gather (fours₁ n) (mem-from 0 n i (omega arith) (omega arith))
-    (mem-gather (fours₂ n i) (mem-from i (n - i) j p (omega arith))
-    (mem-gather (fours₃ n i j) (mem-from j (n - j) k q (omega arith))
-    (mem-map (four i j k) (mem-from k (n - k) l r (omega arith)))))
+mem-fours n i j k l p q r h = mem-gather (fours₁ n) (mem-from 0 n i (omega arith) (omega arith)) (mem-fours₁ n i j k l p q r h)
 
 pub record Sorted (n : ℕ) (q : Four) : Type 0 where
   pub one : q .fst ≤ q .snd
@@ -66,10 +67,11 @@ module _ (P : ℕ → ℕ → ℕ → ℕ → Type 0) (s : Symmetric P) (h : (i 
   pub sorted-enough : (i j k l : ℕ) → P i j k l
   sorted-enough i j k l = cases (leb i j) (λ a. two i j k l (leb-true i j a)) (λ a. s .first (two j i k l (omega (arith, leb-false i j a))))
 
-abbrev Holds : (ℕ → ℕ → ℕ) → ℕ → ℕ → ℕ → ℕ → ℕ → Type 0
+-- the condition at four images
+abbrev pub Holds : (ℕ → ℕ → ℕ) → ℕ → ℕ → ℕ → ℕ → ℕ → Type 0
 Holds d n i j k l = i < n → j < n → k < n → l < n → 2 ≤ largest (d i j + d k l) (d i k + d j l) (d i l + d j k)
 
-condition-symmetric : (L : ℕ) (d : ℕ → ℕ → ℕ) (n : ℕ) → WellFormed L d n → Symmetric (Holds d n)
+pub condition-symmetric : (L : ℕ) (d : ℕ → ℕ → ℕ) (n : ℕ) → WellFormed L d n → Symmetric (Holds d n)
 condition-symmetric L d n c = record {
   first = λ {i} {j} {k} {l} p hj hi hk hl.
       largest-same (d i j + d k l) (d i l + d j k) (d i k + d j l) (d j i + d k l) (d j k + d i l) (d j l + d i k)
