@@ -36,6 +36,11 @@ all-ends f i n l e = let m : n - i ≡ 0 = omega arith in sym (rw m at e)
 
 -- ## What it says
 
+pub all-same : (f g : ℕ → Check) (i m : ℕ) → ((k : ℕ) → f k ≡ g k) → checkAll f i m ≡ checkAll g i m
+unfolding checkAll
+all-same f g i zero h = refl
+all-same f g i (suc m) h = rw (h i, all-same f g (suc i) m h)
+
 pub all-passed : (f : ℕ → Check) (i m : ℕ) → checkAll f i m ≡ Passed → (k : ℕ) → i ≤ k → k < i + m → f k ≡ Passed
 unfolding checkAll
 all-passed f i zero e k l h = absurd (omega arith)

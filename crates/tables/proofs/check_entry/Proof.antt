@@ -1,0 +1,29 @@
+-- `tables::check_entry` meets its contract. Assumes nothing.
+use borrow.Author.Needs.{needs}
+use Rattle.tables.proofs.check_entry.Statement.{statement}
+use Rattle.tables.proofs.check_entry.Tie as tie
+
+at-requires : tie.Need-at-requires
+at-requires c κs = search needs
+
+add-refuse-if : tie.Need-add-refuse-if
+add-refuse-if c = search needs
+
+add-refuse-if-2 : tie.Need-add-refuse-if-2
+add-refuse-if-2 c = search needs
+
+refuse-if-requires : tie.Need-refuse-if-requires
+refuse-if-requires c κs = search needs
+
+returns : tie.Need-returns
+returns c = rw (← c .before .at .ensures) (c .refuse-if .ensures)
+
+pub check-entry-spec : {M : Type 1} → statement M
+check-entry-spec =
+    tie.close
+    (tie.spec
+    at-requires
+    add-refuse-if
+    add-refuse-if-2
+    refuse-if-requires
+    returns)

@@ -1,0 +1,25 @@
+-- `tables::check_zero` meets its contract. Assumes nothing.
+use borrow.Author.Needs.{needs}
+use Rattle.tables.proofs.check_zero.Statement.{statement}
+use Rattle.tables.proofs.check_zero.Tie as tie
+
+at-requires : tie.Need-at-requires
+at-requires c κs = search needs
+
+add-refuse-if : tie.Need-add-refuse-if
+add-refuse-if c = search needs
+
+refuse-if-requires : tie.Need-refuse-if-requires
+refuse-if-requires c κs = search needs
+
+returns : tie.Need-returns
+returns c = rw (← c .before .at .ensures) (c .refuse-if .ensures)
+
+pub check-zero-spec : {M : Type 1} → statement M
+check-zero-spec =
+    tie.close
+    (tie.spec
+    at-requires
+    add-refuse-if
+    refuse-if-requires
+    returns)

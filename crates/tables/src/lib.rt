@@ -1,0 +1,160 @@
+// Cost tables: an entry, and the checks that a table passes or is refused by. Images are counted from 0.
+use ground::Check;
+ghost use mathlib.Core.Path.{_≡_};
+ghost use Prim.Native.Nat.{_+_, _-_, _<_, _≤_, _*_};
+ghost use lib.ListN.{length};
+ghost use Rattle.ground.specs.Lowest.{checkAll};
+ghost use Rattle.theory.specs.Tables.{limit, cost, CostTable};
+ghost use Rattle.tables.specs.Checks.{imagesCheck, sizeCheck, entryCheck, entriesCheck, zeroCheck, diagonalCheck, mirrorCheck, symmetryCheck, costsCheck};
+ghost use Rattle.tables.specs.Formed.{Sized};
+
+// The entry of images i and j in a table of the right size.
+fn at(t: &[u32], n: usize, i: usize, j: usize) -> u32
+    requires { ⌜ Sized n (now t) × (i < n) × (j < n) ⌝ }
+    ensures { λ r. ⌜ r ≡ cost (now (t .entry)) n i j ⌝ }
+{
+    t[i * n + j]
+}
+
+// The entry of images i and j in a cost table.
+pub fn entry(t: &[u32], n: usize, i: usize, j: usize) -> u32
+    requires { ⌜ CostTable limit n (now t) × (i < n) × (j < n) ⌝ }
+    ensures { λ r. ⌜ (r ≡ cost (now (t .entry)) n i j) × (r ≤ limit) ⌝ }
+{
+    at(t, n, i, j)
+}
+
+// Refusal 1.
+pub fn check_images(n: usize) -> Check
+    ensures { λ r. ⌜ r ≡ imagesCheck n ⌝ }
+{
+    ground::refuse_if(ground::is_outside(3, 64, n), 1, n, 0)
+}
+
+// Refusals 1 and 2. Nothing is computed from n before it is known to be small.
+pub fn check_size(n: usize, t: &[u32]) -> Check
+    ensures { λ r. ⌜ r ≡ sizeCheck n (now (t .entry)) ⌝ }
+{
+    let c = check_images(n);
+    match c {
+        Check::Refused(_) => c,
+        Check::Passed => ground::refuse_if(t.len() != n * n, 2, 0, 0),
+    }
+}
+
+fn check_entry(limit: u32, n: usize, t: &[u32], i: usize, j: usize) -> Check
+    requires { ⌜ Sized n (now t) × (i < n) × (j < n) ⌝ }
+    ensures { λ r. ⌜ r ≡ entryCheck limit (cost (now (t .entry)) n) i j ⌝ }
+{
+    ground::refuse_if(limit < at(t, n, i, j), 4, i + 1, j + 1)
+}
+
+// Refusal 4 in row i.
+fn check_row(limit: u32, n: usize, t: &[u32], i: usize) -> Check
+    requires { ⌜ Sized n (now t) × (i < n) ⌝ }
+    ensures { λ r. ⌜ r ≡ checkAll (entryCheck limit (cost (now (t .entry)) n) i) 0 n ⌝ }
+{
+    let mut j = 0;
+    while j < n {
+        let c = check_entry(limit, n, t, i, j);
+        match c {
+            Check::Refused(_) => return c,
+            Check::Passed => j += 1,
+        }
+    }
+    Check::Passed
+}
+
+// Refusal 4 in the whole table.
+fn check_entries(limit: u32, n: usize, t: &[u32]) -> Check
+    requires { ⌜ Sized n (now t) ⌝ }
+    ensures { λ r. ⌜ r ≡ entriesCheck limit (cost (now (t .entry)) n) n ⌝ }
+{
+    let mut i = 0;
+    while i < n {
+        let c = check_row(limit, n, t, i);
+        match c {
+            Check::Refused(_) => return c,
+            Check::Passed => i += 1,
+        }
+    }
+    Check::Passed
+}
+
+fn check_zero(n: usize, t: &[u32], i: usize) -> Check
+    requires { ⌜ Sized n (now t) × (i < n) ⌝ }
+    ensures { λ r. ⌜ r ≡ zeroCheck (cost (now (t .entry)) n) i ⌝ }
+{
+    ground::refuse_if(0 < at(t, n, i, i), 5, i + 1, 0)
+}
+
+// Refusal 5.
+fn check_diagonal(n: usize, t: &[u32]) -> Check
+    requires { ⌜ Sized n (now t) ⌝ }
+    ensures { λ r. ⌜ r ≡ diagonalCheck (cost (now (t .entry)) n) n ⌝ }
+{
+    let mut i = 0;
+    while i < n {
+        let c = check_zero(n, t, i);
+        match c {
+            Check::Refused(_) => return c,
+            Check::Passed => i += 1,
+        }
+    }
+    Check::Passed
+}
+
+fn check_mirror(n: usize, t: &[u32], i: usize, j: usize) -> Check
+    requires { ⌜ Sized n (now t) × (i < n) × (j < n) ⌝ }
+    ensures { λ r. ⌜ r ≡ mirrorCheck (cost (now (t .entry)) n) i j ⌝ }
+{
+    ground::refuse_if(at(t, n, i, j) != at(t, n, j, i), 6, i + 1, j + 1)
+}
+
+// Refusal 6 in row i, right of the diagonal.
+fn check_mirrors(n: usize, t: &[u32], i: usize) -> Check
+    requires { ⌜ Sized n (now t) × (i < n) ⌝ }
+    ensures { λ r. ⌜ r ≡ checkAll (mirrorCheck (cost (now (t .entry)) n) i) (i + 1) (n - (i + 1)) ⌝ }
+{
+    let mut j = i + 1;
+    while j < n {
+        let c = check_mirror(n, t, i, j);
+        match c {
+            Check::Refused(_) => return c,
+            Check::Passed => j += 1,
+        }
+    }
+    Check::Passed
+}
+
+// Refusal 6 in the whole table.
+fn check_symmetry(n: usize, t: &[u32]) -> Check
+    requires { ⌜ Sized n (now t) ⌝ }
+    ensures { λ r. ⌜ r ≡ symmetryCheck (cost (now (t .entry)) n) n ⌝ }
+{
+    let mut i = 0;
+    while i < n {
+        let c = check_mirrors(n, t, i);
+        match c {
+            Check::Refused(_) => return c,
+            Check::Passed => i += 1,
+        }
+    }
+    Check::Passed
+}
+
+// Refusals 4, 5, 6 of a table of the right size.
+pub fn check_costs(limit: u32, n: usize, t: &[u32]) -> Check
+    requires { ⌜ Sized n (now t) ⌝ }
+    ensures { λ r. ⌜ r ≡ costsCheck limit (cost (now (t .entry)) n) n ⌝ }
+{
+    let c = check_entries(limit, n, t);
+    let Check::Passed = c else {
+        return c;
+    };
+    let e = check_diagonal(n, t);
+    let Check::Passed = e else {
+        return e;
+    };
+    check_symmetry(n, t)
+}

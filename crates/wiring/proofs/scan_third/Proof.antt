@@ -1,0 +1,61 @@
+-- `wiring::scan_third` meets its contract: what is left answers as the whole does. Assumes nothing.
+use mathlib.Core.Path.{_≡_, refl}
+use Prim.Native.Nat.{_-_, _≤_}
+use borrow.Author.Needs.{needs}
+use Rattle.ground.specs.Lowest.{all-ends, all-goes, all-stops, checkAll}
+use Rattle.theory.specs.Tables.{cost}
+use Rattle.wiring.specs.Scan.{lastScan, thirdScan}
+use Rattle.wiring.proofs.scan_third.Statement.{statement}
+use Rattle.wiring.proofs.scan_third.Tie as tie
+
+abbrev Inv-loop : tie.InvT-loop
+Inv-loop n t j k₀ k = (k ≤ n) × (thirdScan (cost t n) n j ≡ checkAll (lastScan (cost t n) n j) k (n - k))
+
+abbrev μ-loop : tie.MeasureT-loop
+μ-loop n t j k₀ k = n - k
+
+loop-holds : tie.Need-loop-holds Inv-loop μ-loop
+unfolding thirdScan
+loop-holds c = (search needs, refl)
+
+scan-last-requires : tie.Need-scan-last-requires Inv-loop μ-loop
+scan-last-requires c κs = search needs
+
+enum-told : tie.Need-enum-told Inv-loop μ-loop
+enum-told c = search needs
+
+returns : tie.Need-returns Inv-loop μ-loop
+returns c =
+    all-stops _ _ _ (search needs) (c .before .before .before .before .loop .inv .1) (c .enum-told .given .1) (c .before .before .scan-last .ensures)
+
+enum-told-2 : tie.Need-enum-told-2 Inv-loop μ-loop
+enum-told-2 c = search needs
+
+add-k : tie.Need-add-k Inv-loop μ-loop
+add-k c = search needs
+
+loop-less : tie.Need-loop-less Inv-loop μ-loop
+loop-less c = search needs
+
+loop-again : tie.Need-loop-again Inv-loop μ-loop
+loop-again c =
+    (search needs, all-goes _ _ _ (search needs) (c .before .before .before .before .loop .inv .1) (c .enum-told2 .given .1) (c .before .before .scan-last .ensures))
+
+returns-2 : tie.Need-returns-2 Inv-loop μ-loop
+returns-2 c = all-ends _ _ _ (search needs) (c .before .loop .inv .1)
+
+pub scan-third-spec : {M : Type 1} → statement M
+scan-third-spec =
+    tie.close
+    (tie.spec
+    Inv-loop
+    μ-loop
+    loop-holds
+    scan-last-requires
+    enum-told
+    returns
+    enum-told-2
+    add-k
+    loop-less
+    loop-again
+    returns-2)
