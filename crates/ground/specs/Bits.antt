@@ -8,6 +8,7 @@ use lib.Pow.{pow-pos, shr-shr}
 use borrow.Author.Tests.{eqb-false, eqb-true}
 use borrow.Table.Steps.{cases}
 
+-- bit i of x, by recursion on the place, so that each step is a half and a remainder by 2
 abbrev pub bit : ℕ → ℕ → ℕ
 bit x zero = x % 2
 bit x (suc i) = bit (x / 2) i

@@ -9,6 +9,7 @@ use lib.Dec.{eqb, leb}
 use borrow.Author.Tests.{eq-eqb, eqb-false, eqb-true, leb-false, leb-true}
 use borrow.Table.Steps.{cases}
 
+-- a is below n and on the side g of s
 abbrev pub On : ℕ → (ℕ → ℕ) → ℕ → ℕ → Type 0
 On n s g a = (a < n) × (s a ≡ g)
 
@@ -76,9 +77,25 @@ module _ (s : ℕ → ℕ) (g cap : ℕ) (f : ℕ → ℕ) where
       go (inr e) = (a, o, omega (arith, leastOn-le n a o))
 
   -- one number more, as a loop's counter says it
-  pub leastOn-more : (n : ℕ) → leastOn (n + 1) s g cap f ≡ lowerIf (eqb (s n) g) f n (leastOn n s g cap f)
+  leastOn-more : (n : ℕ) → leastOn (n + 1) s g cap f ≡ lowerIf (eqb (s n) g) f n (leastOn n s g cap f)
   unfolding leastOn
   leastOn-more n = rw add-one
+
+  -- ## A loop with the least value m so far: before it, one number more, after it
+
+  pub leastOn-none : cap ≡ leastOn 0 s g cap f
+  unfolding leastOn
+  leastOn-none = refl
+
+  pub leastOn-turn : (n : ℕ) {m r : ℕ} → m ≡ leastOn n s g cap f → r ≡ lowerIf (eqb (s n) g) f n m → r ≡ leastOn (n + 1) s g cap f
+  leastOn-turn n e h = rw (leastOn-more n, ← e) h
+
+  pub leastOn-end : (i n : ℕ) {m : ℕ} → i ≤ n → n ≤ i → m ≡ leastOn i s g cap f → m ≡ leastOn n s g cap f
+  leastOn-end i n l h e = let q : i ≡ n = omega arith in rw (← q) e
+
+-- over more numbers it is at most as much
+pub leastOn-fewer : (s : ℕ → ℕ) (g cap : ℕ) (f : ℕ → ℕ) (m n : ℕ) → m ≤ n → leastOn n s g cap f ≤ leastOn m s g cap f
+leastOn-fewer s g cap f m n h = le-leastOn s g cap f m (leastOn n s g cap f) (leastOn-cap s g cap f n) (λ a o. leastOn-le s g cap f n a (omega arith, o .1))
 
 -- only the numbers below n count
 pub leastOn-same : (s t : ℕ → ℕ) (g cap : ℕ) (f h : ℕ → ℕ) (n : ℕ) → ((a : ℕ) → a < n → s a ≡ t a) → ((a : ℕ) → a < n → f a ≡ h a)

@@ -1,0 +1,28 @@
+-- What the index call answers.
+use mathlib.Core.Bool.{Bool, _||_}
+use mathlib.Core.List.{List}
+use Prim.Native.Nat.{ℕ, _^_}
+use lib.Dec.{eqb, leb}
+use Rattle.ground.specs.Bits.{bit}
+use Rattle.ground.specs.Refusals.{refusal, refuseIf, valueIf, _then_}
+use Rattle.ground.specs.declared.Answer.{Answer}
+use Rattle.ground.specs.declared.Check.{Check}
+use Rattle.theory.specs.Index.{clipped}
+use Rattle.theory.specs.Tables.{cost}
+use Rattle.tables.specs.Checks.{costsCheck, sizeCheck}
+
+-- empty, with image 1, or with an image beyond n
+abbrev pub badFarSide : ℕ → ℕ → Bool
+badFarSide n S = eqb S 0 || (eqb (bit S 0) 1 || leb (2 ^ n) S)
+
+-- 12: a bad far side
+abbrev pub farSideCheck : ℕ → ℕ → Check
+farSideCheck n S = refuseIf (badFarSide n S) (refusal 12 0 0 0 0)
+
+-- 1, 2, 4, 5, 6, 12
+abbrev pub indexCheck : ℕ → ℕ → List ℕ → ℕ → Check
+indexCheck L n t S = sizeCheck n t then costsCheck L (cost t n) n then farSideCheck n S
+
+-- the index, or 0 where it is negative
+abbrev pub indexAnswer : ℕ → ℕ → List ℕ → ℕ → Answer
+indexAnswer L n t S = valueIf (indexCheck L n t S) (clipped L (cost t n) n (bit S))

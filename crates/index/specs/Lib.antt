@@ -1,0 +1,6 @@
+-- What the contracts of `index` cite, and the laws that its proofs use.
+pub mod Call
+pub mod Passed
+pub mod Outsiders
+pub mod Beyond
+pub mod Grown

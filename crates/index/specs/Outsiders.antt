@@ -1,0 +1,31 @@
+-- A least value over one side, without a test: what is on the other side is made too large to count. Assumes nothing.
+use mathlib.Core.Bool.{cond, false, true}
+use mathlib.Core.Path.{_≡_}
+use Prim.Native.Nat.{max, min, ℕ, _*_, _+_, _-_, _<_, _≤_}
+use native.Mathlib.Omega.{arith}
+use lib.Dec.{eqb}
+use borrow.Author.Tests.{eq-eqb, ne-eqb}
+use borrow.Table.Steps.{cases}
+use Rattle.ground.specs.Least.{lowerIf}
+
+-- 0 for an image of side g, four limits for every other
+abbrev pub penalty : ℕ → (ℕ → ℕ) → ℕ → ℕ → ℕ
+penalty L s g i = cond (eqb (s i) g) 0 (4 * L)
+
+pub penalty-cap : (L : ℕ) (s : ℕ → ℕ) (g i : ℕ) → penalty L s g i ≤ 4 * L
+penalty-cap L s g i = cases (eqb (s i) g) (λ e. rw e (omega arith)) (λ e. rw e (omega arith))
+
+-- one image more of a least value m so far
+pub kept-out : (L : ℕ) (s : ℕ → ℕ) (g i m : ℕ) (f : ℕ → ℕ) → m ≤ 4 * L → min m (f i + penalty L s g i) ≡ lowerIf (eqb (s i) g) f i m
+kept-out L s g i m f h = cases (eqb (s i) g) (λ e. rw e (omega arith)) (λ e. rw e (omega arith))
+
+-- two sides that are equal, and that are not
+pub same-side : (x y : ℕ) → x < 2 → y < 2 → x ≡ y → eqb x (1 - y) ≡ false
+same-side x y h l e = ne-eqb x (1 - y) (λ f. omega arith)
+
+pub other-side : (x y : ℕ) → x < 2 → y < 2 → (x ≡ y → ⊥) → eqb x (1 - y) ≡ true
+other-side x y h l e = eq-eqb x (1 - y) (omega arith)
+
+-- a least value that reaches the floor: more images change nothing above it
+pub floored : (floor m r : ℕ) → r ≤ m → m ≤ floor → max floor m ≡ max floor r
+floored floor m r h l = omega arith
