@@ -75,3 +75,8 @@ refuseIf-passed false r e = refl
 
 pub outside-false : (low high m : ℕ) → outside low high m ≡ false → (low ≤ m) × (m ≤ high)
 outside-false low high m e = let p = or-false (ltb m low) (ltb high m) e in (ltb-false m low (p .0), ltb-false high m (p .1))
+
+-- an answer with a value is an accepted one, and its value is the one named
+pub value-accepted : (y : Check) (u v : ℕ) → valueIf y u ≡ Value v → (y ≡ Passed) × (u ≡ v)
+value-accepted Passed u v e = (refl, cc)
+value-accepted (Refused r) u v e = absurd (let q : _≡_ {A = ℕ} 0 1 = cc in omega arith)

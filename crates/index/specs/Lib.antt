@@ -4,3 +4,5 @@ pub mod Passed
 pub mod Outsiders
 pub mod Beyond
 pub mod Grown
+-- What the promise is worth.
+pub mod Promises

@@ -1,5 +1,6 @@
 // The index of a division, one image more at a time. Images are counted from 0.
-use ground::{Answer, Check};
+use ground::Answer;
+use ground::Check;
 ghost use mathlib.Core.Path.{_≡_};
 ghost use Prim.Native.Nat.{_+_, _-_, _*_, _<_, _≤_, min, max};
 ghost use lib.Dec.{eqb};
@@ -42,7 +43,17 @@ fn outsiders(s: u64, g: u64, n: usize) -> [u32; 64]
 }
 
 // Image b takes its turn at the least of limit + d(k,b) - d(b,e) so far.
-fn turn_near(t: &[u32], n: usize, s: u64, g: u64, k: usize, e: usize, p: &[u32], b: usize, best: u32) -> u32
+fn turn_near(
+    t: &[u32],
+    n: usize,
+    s: u64,
+    g: u64,
+    k: usize,
+    e: usize,
+    p: &[u32],
+    b: usize,
+    best: u32,
+) -> u32
     requires { ⌜ CostTable limit n (now t) × Filled (penalty limit (bit s) g) n (now p) × (k < n) × (e < n) × (b < n) × (best ≤ 4 * limit) ⌝ }
     ensures { λ r. ⌜ r ≡ lowerIf (eqb (bit s b) g) (λ b. limit + cost (now (t .entry)) n k b - cost (now (t .entry)) n b e) b best ⌝ }
 {
@@ -66,7 +77,18 @@ fn near(t: &[u32], n: usize, s: u64, g: u64, k: usize, e: usize, p: &[u32]) -> u
 }
 
 // Image a takes its turn at the least of low + limit + d(a,e) - d(k,a) so far.
-fn turn_side(t: &[u32], n: usize, s: u64, h: u64, k: usize, e: usize, low: u32, p: &[u32], a: usize, best: u32) -> u32
+fn turn_side(
+    t: &[u32],
+    n: usize,
+    s: u64,
+    h: u64,
+    k: usize,
+    e: usize,
+    low: u32,
+    p: &[u32],
+    a: usize,
+    best: u32,
+) -> u32
     requires { ⌜ CostTable limit n (now t) × Filled (penalty limit (bit s) h) n (now p) × (k < n) × (e < n) × (a < n) × (low ≤ 4 * limit) × (best ≤ 4 * limit) ⌝ }
     ensures { λ r. ⌜ r ≡ lowerIf (eqb (bit s a) h) (λ a. low + (limit + cost (now (t .entry)) n a e - cost (now (t .entry)) n k a)) a best ⌝ }
 {
@@ -90,7 +112,16 @@ fn least_side(t: &[u32], n: usize, s: u64, h: u64, k: usize, e: usize, low: u32,
 }
 
 // Image e takes its turn at the least value so far of the quads that image k brings.
-fn turn_more(t: &[u32], n: usize, s: u64, k: usize, own: &[u32], other: &[u32], e: usize, best: u32) -> u32
+fn turn_more(
+    t: &[u32],
+    n: usize,
+    s: u64,
+    k: usize,
+    own: &[u32],
+    other: &[u32],
+    e: usize,
+    best: u32,
+) -> u32
     requires { ⌜ CostTable limit n (now t) × Filled (penalty limit (bit s) (bit s k)) n (now own) × Filled (penalty limit (bit s) (1 - bit s k)) n (now other) × (k < n) × (e < n) ⌝ }
     ensures { λ r. ⌜ r ≡ lowerIf (eqb (bit s e) (1 - bit s k)) (extSide limit (cost (now (t .entry)) n) k (bit s)) e best ⌝ }
 {

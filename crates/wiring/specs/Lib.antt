@@ -2,3 +2,5 @@
 pub mod Check
 pub mod Once
 pub mod Scan
+-- What refusal 7 is worth.
+pub mod Promises

@@ -7,7 +7,7 @@ use Prim.Native.Nat.{suc, zero, ℕ, _+_, _-_, _<_}
 use native.Mathlib.Omega.{arith}
 use borrow.Table.Steps.{cases}
 use Rattle.ground.specs.Filters.{filter, filter-append}
-use Rattle.ground.specs.Lowest.{all-begins, all-same, checkAll}
+use Rattle.ground.specs.Lowest.{all-same, checkAll}
 use Rattle.ground.specs.Ranges.{from, gather}
 use Rattle.ground.specs.Refusals.{refusal, refuseIf, _then_}
 use Rattle.ground.specs.declared.Check.{Check}
@@ -24,7 +24,7 @@ first-append : (l r : List Four) → firstFour (l ++ r) ≡ (firstFour l then fi
 first-append [] r = refl
 first-append (q ∷ l) r = refl
 
-first-passed : (l : List Four) → firstFour l ≡ Passed → l ≡ []
+pub first-passed : (l : List Four) → firstFour l ≡ Passed → l ≡ []
 first-passed [] e = refl
 first-passed (q ∷ l) e = absurd (let z : _≡_ {A = ℕ} 0 1 = cc in omega arith)
 
@@ -42,40 +42,44 @@ module _ (p : Four → Bool) where
 
 -- ## The scan, level by level
 
--- the check of one four that begins with image 0
-abbrev pub fourCheck : (ℕ → ℕ → ℕ) → ℕ → ℕ → ℕ → Check
-fourCheck d j k l = refuseIf (fails d (four 0 j k l)) (refusal 7 1 (j + 1) (k + 1) (l + 1))
+-- the check of one four
+abbrev pub fourCheck : (ℕ → ℕ → ℕ) → ℕ → ℕ → ℕ → ℕ → Check
+fourCheck d i j k l = refuseIf (fails d (four i j k l)) (refusal 7 (i + 1) (j + 1) (k + 1) (l + 1))
 
 module _ (d : ℕ → ℕ → ℕ) (n : ℕ) where
-  -- those that begin with 0, j, k; with 0, j; with 0
-  unfoldable pub lastScan : ℕ → ℕ → Check
-  lastScan j k = checkAll (fourCheck d j k) k (n - k)
+  -- those that begin with i, j, k; with i, j; with i
+  unfoldable pub lastScan : ℕ → ℕ → ℕ → Check
+  lastScan i j k = checkAll (fourCheck d i j k) k (n - k)
 
-  unfoldable pub thirdScan : ℕ → Check
-  thirdScan j = checkAll (lastScan j) j (n - j)
+  unfoldable pub thirdScan : ℕ → ℕ → Check
+  thirdScan i j = checkAll (lastScan i j) j (n - j)
 
-  unfoldable pub scan : Check
-  scan = checkAll thirdScan 0 n
+  unfoldable pub secondScan : ℕ → Check
+  secondScan i = checkAll (thirdScan i) i (n - i)
 
-  one-four : (j k l : ℕ) → firstFour (filter (fails d) (four 0 j k l ∷ [])) ≡ fourCheck d j k l
-  one-four j k l = cases (fails d (four 0 j k l)) (λ e. rw e) (λ e. rw e)
+  one-four : (i j k l : ℕ) → firstFour (filter (fails d) (four i j k l ∷ [])) ≡ fourCheck d i j k l
+  one-four i j k l = cases (fails d (four i j k l)) (λ e. rw e) (λ e. rw e)
 
-  last-is : (j k : ℕ) → firstFour (filter (fails d) (fours₃ n 0 j k)) ≡ lastScan j k
+  last-is : (i j k : ℕ) → firstFour (filter (fails d) (fours₃ n i j k)) ≡ lastScan i j k
   unfolding lastScan
-  last-is j k = first-map (fails d) (four 0 j k) k (n - k) ∙ all-same _ (fourCheck d j k) k (n - k) (one-four j k)
+  last-is i j k = first-map (fails d) (four i j k) k (n - k) ∙ all-same _ (fourCheck d i j k) k (n - k) (one-four i j k)
 
-  third-is : (j : ℕ) → firstFour (filter (fails d) (fours₂ n 0 j)) ≡ thirdScan j
+  third-is : (i j : ℕ) → firstFour (filter (fails d) (fours₂ n i j)) ≡ thirdScan i j
   unfolding thirdScan
-  third-is j = first-gather (fails d) (fours₃ n 0 j) j (n - j) ∙ all-same _ (lastScan j) j (n - j) (last-is j)
+  third-is i j = first-gather (fails d) (fours₃ n i j) j (n - j) ∙ all-same _ (lastScan i j) j (n - j) (last-is i j)
 
-  scan-is : firstFour (filter (fails d) (fours₁ n 0)) ≡ scan
-  unfolding scan
-  scan-is = first-gather (fails d) (fours₂ n 0) 0 (n - 0) ∙ all-same _ thirdScan 0 (n - 0) third-is ∙ sym (all-begins thirdScan n)
+  second-is : (i : ℕ) → firstFour (filter (fails d) (fours₁ n i)) ≡ secondScan i
+  unfolding secondScan
+  second-is i = first-gather (fails d) (fours₂ n i) i (n - i) ∙ all-same _ (thirdScan i) i (n - i) (third-is i)
+
+  -- the whole check, as one after another in dictionary order
+  pub wiring-scan : wiringCheck d n ≡ checkAll secondScan 0 n
+  wiring-scan = first-gather (fails d) (fours₁ n) 0 n ∙ all-same _ secondScan 0 n second-is
 
 -- Where a four with image 0 in front fails, it is the first of all; and where none does, none fails at all.
-pub scan-wiring : (L : ℕ) (d : ℕ → ℕ → ℕ) (n : ℕ) → WellFormed L d n → 0 < n → scan d n ≡ wiringCheck d n
+pub scan-wiring : (L : ℕ) (d : ℕ → ℕ → ℕ) (n : ℕ) → WellFormed L d n → 0 < n → secondScan d n 0 ≡ wiringCheck d n
 scan-wiring L d zero c h = absurd (omega arith)
-scan-wiring L d (suc k) c h = sym (scan-is d (suc k)) ∙ go (firstFour front) refl
+scan-wiring L d (suc k) c h = sym (second-is d (suc k) 0) ∙ go (firstFour front) refl
   where
     front : List Four
     front = filter (fails d) (fours₁ (suc k) 0)

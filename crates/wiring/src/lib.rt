@@ -47,7 +47,7 @@ fn is_failing(n: usize, t: &[u32], j: usize, k: usize, l: usize) -> bool
 // Refusal 7 for the images 0, j, k, l.
 fn check_four(n: usize, t: &[u32], j: usize, k: usize, l: usize) -> Check
     requires { ⌜ CostTable limit n (now t) × (j < n) × (k < n) × (l < n) ⌝ }
-    ensures { λ r. ⌜ r ≡ fourCheck (cost (now (t .entry)) n) j k l ⌝ }
+    ensures { λ r. ⌜ r ≡ fourCheck (cost (now (t .entry)) n) 0 j k l ⌝ }
 {
     if is_failing(n, t, j, k, l) {
         return Check::Refused(Refusal {
@@ -64,7 +64,7 @@ fn check_four(n: usize, t: &[u32], j: usize, k: usize, l: usize) -> Check
 // Refusal 7 for the fours that begin with 0, j, k.
 fn scan_last(n: usize, t: &[u32], j: usize, k: usize) -> Check
     requires { ⌜ CostTable limit n (now t) × (j < n) × (k < n) ⌝ }
-    ensures { λ r. ⌜ r ≡ lastScan (cost (now (t .entry)) n) n j k ⌝ }
+    ensures { λ r. ⌜ r ≡ lastScan (cost (now (t .entry)) n) n 0 j k ⌝ }
 {
     let mut l = k;
     while l < n {
@@ -80,7 +80,7 @@ fn scan_last(n: usize, t: &[u32], j: usize, k: usize) -> Check
 // Refusal 7 for the fours that begin with 0, j.
 fn scan_third(n: usize, t: &[u32], j: usize) -> Check
     requires { ⌜ CostTable limit n (now t) × (j < n) ⌝ }
-    ensures { λ r. ⌜ r ≡ thirdScan (cost (now (t .entry)) n) n j ⌝ }
+    ensures { λ r. ⌜ r ≡ thirdScan (cost (now (t .entry)) n) n 0 j ⌝ }
 {
     let mut k = j;
     while k < n {

@@ -1,25 +1,25 @@
 -- `wiring::check_wiring` meets its contract: what is left answers as the whole does. Assumes nothing.
 use mathlib.Core.List.{List}
-use mathlib.Core.Path.{_∙_, _≡_}
+use mathlib.Core.Path.{_∙_, _≡_, refl}
 use Prim.Native.Nat.{ℕ, _-_, _≤_}
 use native.Mathlib.Omega.{arith}
 use borrow.Author.Needs.{needs}
-use Rattle.ground.specs.Lowest.{all-begins, all-ends, all-goes, all-stops, checkAll}
+use Rattle.ground.specs.Lowest.{all-ends, all-goes, all-stops, checkAll}
 use Rattle.theory.specs.Tables.{CostTable, cost, limit}
 use Rattle.wiring.specs.Check.{wiringCheck}
-use Rattle.wiring.specs.Scan.{scan, scan-wiring, thirdScan}
+use Rattle.wiring.specs.Scan.{scan-wiring, secondScan, thirdScan}
 use Rattle.wiring.proofs.check_wiring.Statement.{statement}
 use Rattle.wiring.proofs.check_wiring.Tie as tie
 
 abbrev Inv-loop : tie.InvT-loop
-Inv-loop n t j₀ j = (j ≤ n) × (scan (cost t n) n ≡ checkAll (thirdScan (cost t n) n) j (n - j))
+Inv-loop n t j₀ j = (j ≤ n) × (secondScan (cost t n) n 0 ≡ checkAll (thirdScan (cost t n) n 0) j (n - j))
 
 abbrev μ-loop : tie.MeasureT-loop
 μ-loop n t j₀ j = n - j
 
 loop-holds : tie.Need-loop-holds Inv-loop μ-loop
-unfolding scan
-loop-holds c = (search needs, all-begins _ _)
+unfolding secondScan
+loop-holds c = (search needs, refl)
 
 scan-third-requires : tie.Need-scan-third-requires Inv-loop μ-loop
 scan-third-requires c κs = search needs
@@ -28,7 +28,7 @@ enum-told : tie.Need-enum-told Inv-loop μ-loop
 enum-told c = search needs
 
 -- the fours with image 0 in front decide for all
-decides : {n : ℕ} {t : List ℕ} → CostTable limit n t → scan (cost t n) n ≡ wiringCheck (cost t n) n
+decides : {n : ℕ} {t : List ℕ} → CostTable limit n t → secondScan (cost t n) n 0 ≡ wiringCheck (cost t n) n
 decides {n} {t} p = scan-wiring limit (cost t n) n (p .formed) (omega (arith, p .some))
 
 returns : tie.Need-returns Inv-loop μ-loop

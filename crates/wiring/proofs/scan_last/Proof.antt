@@ -9,7 +9,7 @@ use Rattle.wiring.proofs.scan_last.Statement.{statement}
 use Rattle.wiring.proofs.scan_last.Tie as tie
 
 abbrev Inv-loop : tie.InvT-loop
-Inv-loop n t j k l₀ l = (l ≤ n) × (lastScan (cost t n) n j k ≡ checkAll (fourCheck (cost t n) j k) l (n - l))
+Inv-loop n t j k l₀ l = (l ≤ n) × (lastScan (cost t n) n 0 j k ≡ checkAll (fourCheck (cost t n) 0 j k) l (n - l))
 
 abbrev μ-loop : tie.MeasureT-loop
 μ-loop n t j k l₀ l = n - l

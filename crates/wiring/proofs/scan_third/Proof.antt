@@ -9,7 +9,7 @@ use Rattle.wiring.proofs.scan_third.Statement.{statement}
 use Rattle.wiring.proofs.scan_third.Tie as tie
 
 abbrev Inv-loop : tie.InvT-loop
-Inv-loop n t j k₀ k = (k ≤ n) × (thirdScan (cost t n) n j ≡ checkAll (lastScan (cost t n) n j) k (n - k))
+Inv-loop n t j k₀ k = (k ≤ n) × (thirdScan (cost t n) n 0 j ≡ checkAll (lastScan (cost t n) n 0 j) k (n - k))
 
 abbrev μ-loop : tie.MeasureT-loop
 μ-loop n t j k₀ k = n - k
