@@ -1,0 +1,3 @@
+-- What the contracts of `tree` cite: the two readings as calls, and the rows in local arrays.
+pub mod Readings
+pub mod LocalRows
