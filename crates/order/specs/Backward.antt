@@ -8,7 +8,7 @@ use lib.ListN.{drop, getD, length, length-map, length-set, set, take, take-appen
 use lib.Seq.{drop-set-lt, set-set}
 use Rattle.ground.specs.Buffers.{front}
 use Rattle.theory.specs.Order.{grow, next, order}
-use Rattle.order.specs.Next.{Marks, marks-more, marks-none, marks-swap, next-lt, next-marked, nextBy}
+use Rattle.order.specs.Next.{Marks, marks-more, marks-none, marks-swap, next-lt, next-marked, nextLeft}
 
 -- the images of the order at the places i, i + 1, .., n - 1, for i above 0
 unfoldable pub placesFrom : (ℕ → ℕ → ℕ) → ℕ → ℕ → ℕ → ℕ → List ℕ
@@ -90,12 +90,12 @@ module _ (d : ℕ → ℕ → ℕ) (n f last : ℕ) (o : List ℕ) where
         room = omega (arith, size);
       }
 
-  pub walked-next : (i placed x w : ℕ) (e : List ℕ) → f < n → Walked i placed x e → w ≡ nextBy d f x placed n → w < n
+  pub walked-next : (i placed x w : ℕ) (e : List ℕ) → f < n → Walked i placed x e → w ≡ nextLeft d f x placed n → w < n
   walked-next i placed x w e hf s q =
       let a = placesFrom d n f last i in omega (arith, next-marked d f x placed a (s .marks) n, next-lt d f x a n hf)
 
   pub walked-more : (i placed x w placed′ : ℕ) (e e′ : List ℕ) → f < n → Walked i placed x e → 1 < i
-      → w ≡ nextBy d f x placed n → placed′ ≡ bitOr placed (2 ^ w) → e′ ≡ set e (i - 1) (suc w) → Walked (i - 1) placed′ w e′
+      → w ≡ nextLeft d f x placed n → placed′ ≡ bitOr placed (2 ^ w) → e′ ≡ set e (i - 1) (suc w) → Walked (i - 1) placed′ w e′
   walked-more i placed x w placed′ e e′ hf s l q p r =
       let a = placesFrom d n f last i in
       let is : w ≡ next d f (getD a 0 0) a n = q ∙ next-marked d f x placed a (s .marks) n ∙ ap (λ (y : ℕ). next d f y a n) (s .here) in

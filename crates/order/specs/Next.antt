@@ -18,15 +18,15 @@ use Rattle.theory.specs.Laws.Next.{Least, None, next-is}
 use Rattle.theory.specs.Order.{better, next}
 
 -- the better of w and b, and b where w is placed
-unfoldable pub nextStep : (ℕ → ℕ → ℕ) → ℕ → ℕ → ℕ → ℕ → ℕ → ℕ
-nextStep d f x placed w b = cond (eqb (bit placed w) 0 && better d f x w b) w b
+unfoldable pub turnNext : (ℕ → ℕ → ℕ) → ℕ → ℕ → ℕ → ℕ → ℕ → ℕ
+turnNext d f x placed w b = cond (eqb (bit placed w) 0 && better d f x w b) w b
 
 -- of the images below n that are not placed, the best, the lowest number on a tie
-unfoldable pub nextBy : (ℕ → ℕ → ℕ) → ℕ → ℕ → ℕ → ℕ → ℕ
-nextBy d f x placed n = fold (nextStep d f x placed) n f
+unfoldable pub nextLeft : (ℕ → ℕ → ℕ) → ℕ → ℕ → ℕ → ℕ → ℕ
+nextLeft d f x placed n = fold (turnNext d f x placed) n f
 
-pub step-lt : (d : ℕ → ℕ → ℕ) (f x placed w b n : ℕ) → w < n → b < n → nextStep d f x placed w b < n
-unfolding nextStep
+pub step-lt : (d : ℕ → ℕ → ℕ) (f x placed w b n : ℕ) → w < n → b < n → turnNext d f x placed w b < n
+unfolding turnNext
 step-lt d f x placed w b n l h =
     cases (eqb (bit placed w) 0 && better d f x w b) (λ e. rw e l) (λ e. rw e h)
 
@@ -64,8 +64,8 @@ marks-swap placed w f l m = record {
 }
 
 -- with such bits the code finds the next image of document 01
-pub next-marked : (d : ℕ → ℕ → ℕ) (f x placed : ℕ) (l : List ℕ) → Marks placed (f ∷ l) → (m : ℕ) → nextBy d f x placed m ≡ next d f x l m
-unfolding nextBy nextStep fold next
+pub next-marked : (d : ℕ → ℕ → ℕ) (f x placed : ℕ) (l : List ℕ) → Marks placed (f ∷ l) → (m : ℕ) → nextLeft d f x placed m ≡ next d f x l m
+unfolding nextLeft turnNext fold next
 next-marked d f x placed l h zero = refl
 next-marked d f x placed l h (suc m) = rw (next-marked d f x placed l h m, h .told m)
 

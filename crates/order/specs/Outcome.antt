@@ -2,7 +2,7 @@
 -- Assumes nothing.
 use mathlib.Core.Bool.{Bool, _||_}
 use mathlib.Core.List.{List, map}
-use mathlib.Core.Path.{refl, _≡_}
+use mathlib.Core.Path.{_≡_}
 use Prim.Native.Nat.{suc, ℕ, _-_}
 use lib.Dec.{eqb, ltb}
 use lib.ListN.{length}
@@ -10,13 +10,11 @@ use Rattle.ground.specs.Buffers.{front}
 use Rattle.ground.specs.Refusals.{outside, placesIf, refusal, refuseIf, _then_}
 use Rattle.ground.specs.declared.Check.{Check}
 use Rattle.ground.specs.declared.Check.the-variants.{Passed, Refused}
-use Rattle.ground.specs.declared.Refusal.{Refusal}
 use Rattle.ground.specs.declared.Written.{Written}
-use Rattle.ground.specs.declared.Written.the-variants.{Places}
-use Rattle.ground.specs.declared.Written.the-variants as written
 use Rattle.theory.specs.Order.{order}
 use Rattle.theory.specs.Tables.{cost}
 use Rattle.tables.specs.Checks.{costsCheck, sizeCheck}
+use Rattle.ground.specs.declared.Written.the-variants as written
 
 -- 3: too little room for n places
 abbrev pub roomCheck : ℕ → ℕ → Check
@@ -60,14 +58,3 @@ orderOutcome L n t first last o = record {
 pub record Left (w : Outcome) (r : Written) (e : List ℕ) : Type 0 where
   pub answered : r ≡ w .answer
   pub left : e ≡ w .out
-
--- ## The two ways out of the call
-
-module _ (L n : ℕ) (t : List ℕ) (first last : ℕ) (o : List ℕ) where
-  pub left-refused : {c : Check} {r : Refusal} → c ≡ Refused r → c ≡ orderChecks L n t first last (length o)
-      → Left (orderOutcome L n t first last o) (written.Refused r) o
-  left-refused e f = rw (← f, e) (record { answered = refl; left = refl })
-
-  pub left-written : {c : Check} (e : List ℕ) → c ≡ Passed → c ≡ orderChecks L n t first last (length o)
-      → e ≡ front (images n t first last) o → Left (orderOutcome L n t first last o) (Places n) e
-  left-written e p f q = rw (← f, p) (record { answered = refl; left = q })

@@ -12,7 +12,7 @@ ghost use Rattle.ground.specs.Buffers.{front};
 ghost use Rattle.theory.specs.Order.{better, order};
 ghost use Rattle.theory.specs.Tables.{limit, cost, CostTable};
 ghost use Rattle.order.specs.Outcome.{badEnds, orderChecks, orderOutcome, Left};
-ghost use Rattle.order.specs.Next.{nextBy, nextStep};
+ghost use Rattle.order.specs.Next.{nextLeft, turnNext};
 
 // The signed difference of two entries.
 fn gap(x: u32, y: u32) -> i64
@@ -46,7 +46,7 @@ fn is_better(n: usize, t: &[u32], f: usize, x: usize, w: usize, b: usize) -> boo
 // The better of w and b, and b where w is placed.
 fn turn_next(n: usize, t: &[u32], f: usize, x: usize, placed: u64, w: usize, b: usize) -> usize
     requires { ⌜ CostTable limit n (now t) × (f < n) × (x < n) × (w < n) × (b < n) ⌝ }
-    ensures { λ r. ⌜ r ≡ nextStep (cost (now (t .entry)) n) f x placed w b ⌝ }
+    ensures { λ r. ⌜ r ≡ turnNext (cost (now (t .entry)) n) f x placed w b ⌝ }
 {
     if ground::side(placed, w) != 0 {
         return b;
@@ -60,7 +60,7 @@ fn turn_next(n: usize, t: &[u32], f: usize, x: usize, placed: u64, w: usize, b: 
 // The next image to the left of x: of those whose bit in placed is 0, the one with the least difference, the lowest number on a tie.
 fn next_left(n: usize, t: &[u32], f: usize, x: usize, placed: u64) -> usize
     requires { ⌜ CostTable limit n (now t) × (f < n) × (x < n) ⌝ }
-    ensures { λ r. ⌜ r ≡ nextBy (cost (now (t .entry)) n) f x placed n ⌝ }
+    ensures { λ r. ⌜ r ≡ nextLeft (cost (now (t .entry)) n) f x placed n ⌝ }
 {
     let mut b = f;
     let mut w = 0;

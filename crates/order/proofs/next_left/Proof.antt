@@ -4,12 +4,12 @@ use Prim.Native.Nat.{_-_, _<_, _≤_}
 use borrow.Author.Needs.{needs}
 use Rattle.ground.specs.Folds.{fold, fold-end, fold-more, fold-none}
 use Rattle.theory.specs.Tables.{cost}
-use Rattle.order.specs.Next.{nextBy, nextStep, step-lt}
+use Rattle.order.specs.Next.{nextLeft, turnNext, step-lt}
 use Rattle.order.proofs.next_left.Statement.{statement}
 use Rattle.order.proofs.next_left.Tie as tie
 
 abbrev Inv-loop : tie.InvT-loop
-Inv-loop n t f x placed b₀ w₀ b w = (w ≤ n) × (b ≡ fold (nextStep (cost t n) f x placed) w f) × (b < n)
+Inv-loop n t f x placed b₀ w₀ b w = (w ≤ n) × (b ≡ fold (turnNext (cost t n) f x placed) w f) × (b < n)
 
 abbrev μ-loop : tie.MeasureT-loop
 μ-loop n t f x placed b₀ w₀ b w = n - w
@@ -35,7 +35,7 @@ loop-again c =
     )
 
 returns : tie.Need-returns Inv-loop μ-loop
-unfolding nextBy
+unfolding nextLeft
 returns c = fold-end _ _ _ _ _ (search needs) (search needs) (c .before .loop .inv .1)
 
 pub next-left-spec : {M : Type 1} → statement M

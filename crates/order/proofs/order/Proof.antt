@@ -4,7 +4,7 @@ use native.Mathlib.Omega.{arith}
 use borrow.Author.Needs.{needs}
 use Rattle.theory.specs.Tables.{limit}
 use Rattle.order.specs.Asked.{passed-asked}
-use Rattle.order.specs.Outcome.{left-refused, left-written}
+use Rattle.order.specs.Promise.{left-refused, left-written}
 use Rattle.order.proofs.order.Statement.{statement}
 use Rattle.order.proofs.order.Tie as tie
 

@@ -1,7 +1,7 @@
 -- `order::turn_next` meets its contract. Assumes nothing.
 use borrow.Author.Needs.{needs}
 use borrow.Author.Tests.{eq-eqb, ne-eqb}
-use Rattle.order.specs.Next.{nextStep}
+use Rattle.order.specs.Next.{turnNext}
 use Rattle.order.proofs.turn_next.Statement.{statement}
 use Rattle.order.proofs.turn_next.Tie as tie
 
@@ -9,20 +9,20 @@ side-requires : tie.Need-side-requires
 side-requires c κs = search needs
 
 returns : tie.Need-returns
-unfolding nextStep
+unfolding turnNext
 returns c = rw (← c .before .side .ensures, ne-eqb _ _ (c .if1 .taken))
 
 is-better-requires : tie.Need-is-better-requires
 is-better-requires c κs = search needs
 
 returns-2 : tie.Need-returns-2
-unfolding nextStep
+unfolding turnNext
 returns-2 c =
     let e = c .before .before in
     rw (← e .before .side .ensures, eq-eqb _ _ (e .if1 .left), ← c .before .is-better .ensures, c .if2 .taken)
 
 returns-3 : tie.Need-returns-3
-unfolding nextStep
+unfolding turnNext
 returns-3 c =
     let e = c .before .before in
     rw (← e .before .side .ensures, eq-eqb _ _ (e .if1 .left), ← c .before .is-better .ensures, c .if2 .left)
