@@ -25,9 +25,9 @@ turnNext d f x placed w b = cond (eqb (bit placed w) 0 && better d f x w b) w b
 unfoldable pub nextLeft : (ℕ → ℕ → ℕ) → ℕ → ℕ → ℕ → ℕ → ℕ
 nextLeft d f x placed n = fold (turnNext d f x placed) n f
 
-pub step-lt : (d : ℕ → ℕ → ℕ) (f x placed w b n : ℕ) → w < n → b < n → turnNext d f x placed w b < n
+pub turn-lt : (d : ℕ → ℕ → ℕ) (f x placed w b n : ℕ) → w < n → b < n → turnNext d f x placed w b < n
 unfolding turnNext
-step-lt d f x placed w b n l h =
+turn-lt d f x placed w b n l h =
     cases (eqb (bit placed w) 0 && better d f x w b) (λ e. rw e l) (λ e. rw e h)
 
 -- ## The placed images as bits

@@ -14,7 +14,6 @@ use Rattle.ground.specs.declared.Written.{Written}
 use Rattle.theory.specs.Order.{order}
 use Rattle.theory.specs.Tables.{cost}
 use Rattle.tables.specs.Checks.{costsCheck, sizeCheck}
-use Rattle.ground.specs.declared.Written.the-variants as written
 
 -- 3: too little room for n places
 abbrev pub roomCheck : ℕ → ℕ → Check

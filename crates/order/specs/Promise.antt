@@ -26,7 +26,6 @@ use Rattle.theory.specs.Tables.{cost}
 use Rattle.order.specs.Asked.{Asked, asked-passed, passed-asked}
 use Rattle.order.specs.Counted.{back-suc, counted, last-suc, occurs-suc}
 use Rattle.order.specs.Outcome.{Left, Outcome, images, orderChecks, orderOutcome}
-use Rattle.ground.specs.declared.Written.the-variants as written
 
 -- ## The two ways out of the call
 

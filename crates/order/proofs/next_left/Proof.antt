@@ -4,7 +4,7 @@ use Prim.Native.Nat.{_-_, _<_, _≤_}
 use borrow.Author.Needs.{needs}
 use Rattle.ground.specs.Folds.{fold, fold-end, fold-more, fold-none}
 use Rattle.theory.specs.Tables.{cost}
-use Rattle.order.specs.Next.{nextLeft, turnNext, step-lt}
+use Rattle.order.specs.Next.{nextLeft, turnNext, turn-lt}
 use Rattle.order.proofs.next_left.Statement.{statement}
 use Rattle.order.proofs.next_left.Tie as tie
 
@@ -31,7 +31,7 @@ loop-again c =
     let l = c .before .before .loop in (
       search needs,
       fold-more _ _ _ _ _ (l .inv .1) (c .turn-next .ensures),
-      rw (c .turn-next .ensures) (step-lt _ _ _ _ _ _ _ (c .before .loop-test .taken) (l .inv .2)),
+      rw (c .turn-next .ensures) (turn-lt _ _ _ _ _ _ _ (c .before .loop-test .taken) (l .inv .2)),
     )
 
 returns : tie.Need-returns Inv-loop μ-loop
