@@ -10,6 +10,7 @@ use borrow.Table.Steps.{cases}
 use Rattle.ground.specs.Ascending.{Between}
 use Rattle.ground.specs.Sums.{sum, sum-add, sum-zero}
 
+-- 1 where the test passes, else 0
 abbrev pub one-if : Bool → ℕ
 one-if true = 1
 one-if false = 0

@@ -7,6 +7,7 @@ use native.Mathlib.Omega.{arith}
 use borrow.Table.Steps.{cases}
 use Rattle.ground.specs.Filters.{Each, filter}
 
+-- x where the test passes, else 0
 abbrev pub when : Bool → ℕ → ℕ
 when true x = x
 when false x = 0

@@ -1,3 +1,6 @@
--- What the contracts of `tree` cite: the two readings as calls, and the rows in local arrays.
+-- What the contracts of `tree` cite: the two readings as calls, and how they are made in local arrays.
 pub mod Readings
 pub mod LocalRows
+pub mod Growing
+pub mod Putting
+pub mod Held
