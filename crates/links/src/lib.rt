@@ -1,0 +1,157 @@
+// Link tables: the checks that one passes or is refused by, path costs, upper rows and routes.
+use ground::Check;
+ghost use mathlib.Core.Path.{_≡_};
+ghost use Prim.Native.Nat.{_<_, _≤_, _*_, _+_, _^_};
+ghost use lib.ListN.{length, getD};
+ghost use Rattle.ground.specs.First.{first};
+ghost use Rattle.ground.specs.Members.{placeOf};
+ghost use Rattle.theory.specs.FarSides.{own};
+ghost use Rattle.links.specs.Checks.{crosses, badSide, badCost, rowBefore, firstCrossed, badRow, missing, sizeChecks, rowChecks};
+
+// Whether two far sides cross: what both hold is not all of either, and not nothing.
+fn is_crossing(s: u64, r: u64) -> bool
+    ensures { λ b. ⌜ b ≡ crosses s r ⌝ }
+{
+    let both = s & r;
+    if both == s {
+        return false;
+    }
+    if both == r {
+        return false;
+    }
+    both != 0
+}
+
+// Whether s is no far side behind the far side `before`: 0 or not above it, with image 1, or with one beyond n. Of 64 images none is beyond.
+fn is_bad_side(n: usize, before: u64, s: u64) -> bool
+    requires { ⌜ n ≤ 64 ⌝ }
+    ensures { λ r. ⌜ r ≡ badSide n before s ⌝ }
+{
+    if s <= before {
+        return true;
+    }
+    if s % 2 == 1 {
+        return true;
+    }
+    if n == 64 {
+        return false;
+    }
+    0 < s >> n
+}
+
+// Whether c is no doubled cost of the far side s: above twice the limit, or 0 in an inner row. Twice a limit may need more than 32 bits.
+fn is_bad_cost(limit: u32, n: usize, s: u64, c: u32) -> bool
+    ensures { λ r. ⌜ r ≡ badCost limit n s c ⌝ }
+{
+    if 2 * (limit as u64) < (c as u64) {
+        return true;
+    }
+    if theory::is_inner(n, s) {
+        return c == 0;
+    }
+    false
+}
+
+// The far side of the row before row k, 0 before the first.
+fn row_before(fars: &[u64], k: usize) -> u64
+    requires { ⌜ k < length (now fars) ⌝ }
+    ensures { λ r. ⌜ r ≡ rowBefore (now (fars .entry)) k ⌝ }
+{
+    if k == 0 {
+        return 0;
+    }
+    fars[k - 1]
+}
+
+// The first row that row k crosses, of those before it, else k.
+fn first_crossed(fars: &[u64], k: usize) -> usize
+    requires { ⌜ k < length (now fars) ⌝ }
+    ensures { λ r. ⌜ r ≡ firstCrossed (now (fars .entry)) k ⌝ }
+{
+    let mut j = 0;
+    while j < k {
+        if is_crossing(fars[j], fars[k]) {
+            return j;
+        }
+        j += 1;
+    }
+    j
+}
+
+// Whether row k is bad, seen with the rows before it.
+fn is_bad_row(limit: u32, n: usize, fars: &[u64], costs: &[u32], k: usize) -> bool
+    requires { ⌜ (n ≤ 64) × (length (now costs) ≡ length (now fars)) × (k < length (now fars)) ⌝ }
+    ensures { λ r. ⌜ r ≡ badRow limit n (now (fars .entry)) (now (costs .entry)) k ⌝ }
+{
+    let before = row_before(fars, k);
+    if is_bad_side(n, before, fars[k]) {
+        return true;
+    }
+    if is_bad_cost(limit, n, fars[k], costs[k]) {
+        return true;
+    }
+    first_crossed(fars, k) < k
+}
+
+// The first bad row, from 0, else the number of rows.
+fn first_bad_row(limit: u32, n: usize, fars: &[u64], costs: &[u32]) -> usize
+    requires { ⌜ (n ≤ 64) × (length (now costs) ≡ length (now fars)) ⌝ }
+    ensures { λ r. ⌜ r ≡ first (badRow limit n (now (fars .entry)) (now (costs .entry))) (length (now (fars .entry))) ⌝ }
+{
+    let mut k = 0;
+    while k < fars.len() {
+        if is_bad_row(limit, n, fars, costs, k) {
+            return k;
+        }
+        k += 1;
+    }
+    k
+}
+
+// The far side of the own link of image i, from 0: i alone, and for image 0 all the others.
+pub fn own_link(n: usize, i: usize) -> u64
+    requires { ⌜ (3 ≤ n) × (n ≤ 64) × (i < n) ⌝ }
+    ensures { λ r. ⌜ r ≡ own n i ⌝ }
+{
+    if i == 0 {
+        return ((1u64 << (n - 1)) - 1) * 2;
+    }
+    1u64 << i
+}
+
+// The number of the row with the far side s, from 1, and 0 where there is none.
+fn place_of(fars: &[u64], s: u64) -> usize
+    ensures { λ r. ⌜ r ≡ placeOf 1 s (now (fars .entry)) ⌝ }
+{
+    let mut k = 0;
+    while k < fars.len() {
+        if s == fars[k] {
+            return k + 1;
+        }
+        k += 1;
+    }
+    0
+}
+
+// Whether the own link of image i is missing.
+fn is_missing(n: usize, fars: &[u64], i: usize) -> bool
+    requires { ⌜ (3 ≤ n) × (n ≤ 64) × (i < n) ⌝ }
+    ensures { λ r. ⌜ r ≡ missing n (now (fars .entry)) i ⌝ }
+{
+    place_of(fars, own_link(n, i)) == 0
+}
+
+// The first image whose own link is missing, from 0, else n.
+fn first_missing(n: usize, fars: &[u64]) -> usize
+    requires { ⌜ (3 ≤ n) × (n ≤ 64) ⌝ }
+    ensures { λ r. ⌜ r ≡ first (missing n (now (fars .entry))) n ⌝ }
+{
+    let mut i = 0;
+    while i < n {
+        if is_missing(n, fars, i) {
+            return i;
+        }
+        i += 1;
+    }
+    i
+}
