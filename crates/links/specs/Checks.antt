@@ -41,13 +41,21 @@ badRow L n l v k =
 unfoldable pub missing : ℕ → List ℕ → ℕ → Bool
 missing n l i = not (isIn (own n i) l)
 
--- 1, 10, 2: n is 3 to 64, the row count N is n to 2 n - 3, and each slice exactly as long
-abbrev pub sizeChecks : ℕ → ℕ → List ℕ → List ℕ → Check
-sizeChecks n N l v =
+-- 1, 10: n is 3 to 64, and the row count N is n to 2 n - 3
+abbrev pub countChecks : ℕ → ℕ → Check
+countChecks n N =
     refuseIf (outside 3 64 n) (refusal 1 n 0 0 0) then
-    refuseIf (outside n (2 * n - 3) N) (refusal 10 N 0 0 0) then
+    refuseIf (outside n (2 * n - 3) N) (refusal 10 N 0 0 0)
+
+-- 2: each slice is exactly as long as the row count
+abbrev pub lengthChecks : ℕ → List ℕ → List ℕ → Check
+lengthChecks N l v =
     refuseIf (not (eqb (length l) N)) (refusal 2 0 0 0 0) then
     refuseIf (not (eqb (length v) N)) (refusal 2 0 0 0 0)
+
+-- 1, 10, 2
+abbrev pub sizeChecks : ℕ → ℕ → List ℕ → List ℕ → Check
+sizeChecks n N l v = countChecks n N then lengthChecks N l v
 
 -- 12, 13: no bad row, and no own link missing
 abbrev pub rowChecks : ℕ → ℕ → List ℕ → List ℕ → Check

@@ -4,3 +4,5 @@ pub mod Checks
 -- The laws.
 pub mod RowTests
 pub mod LinkChecks
+pub mod Searches
+pub mod Shifts

@@ -17,7 +17,7 @@ use Rattle.theory.specs.FarSides.{Nested, own}
 use Rattle.theory.specs.Laws.Paths.{rowsOf-fars}
 use Rattle.theory.specs.Laws.RowCount.{row-count}
 use Rattle.theory.specs.LinkTables.{LinkTable, fars, rowsOf}
-use Rattle.links.specs.Checks.{badRow, missing, rowChecks, sizeChecks}
+use Rattle.links.specs.Checks.{badRow, countChecks, lengthChecks, missing, rowChecks, sizeChecks}
 use Rattle.links.specs.FirstChecks.{first-passed, firstCheck, passed-first}
 use Rattle.links.specs.RowTests.{GoodRow, between-steps, clear-nested, good-row, mem-rows, nested-clear, nested-sym, row-good, rows-mem, steps-between}
 
@@ -86,21 +86,24 @@ pub record Sized (n N : ℕ) (l v : List ℕ) : Type 0 where
   pub counted : length l ≡ N
   pub costed : length v ≡ N
 
+pub count-passed : (n N : ℕ) → countChecks n N ≡ Passed → (3 ≤ n) × (n ≤ 64) × (n ≤ N) × (N ≤ 2 * n - 3)
+count-passed n N e =
+    let p = then-passed (refuseIf (outside 3 64 n) (refusal 1 n 0 0 0)) _ e in
+    let a = outside-false 3 64 n (refuseIf-passed (outside 3 64 n) _ (p .0)) in
+    let b = outside-false n (2 * n - 3) N (refuseIf-passed (outside n (2 * n - 3) N) _ (p .1)) in
+    (a .0, a .1, b .0, b .1)
+
+pub length-passed : (N : ℕ) (l v : List ℕ) → lengthChecks N l v ≡ Passed → (length l ≡ N) × (length v ≡ N)
+length-passed N l v e =
+    let p = then-passed (refuseIf (not (eqb (length l) N)) (refusal 2 0 0 0 0)) _ e in
+    (eqb-true (length l) N (not-false _ (refuseIf-passed (not (eqb (length l) N)) _ (p .0))), eqb-true (length v) N (not-false _ (refuseIf-passed (not (eqb (length v) N)) _ (p .1))))
+
 pub sizes-passed : (n N : ℕ) (l v : List ℕ) → sizeChecks n N l v ≡ Passed → Sized n N l v
 sizes-passed n N l v e =
-    let p = then-passed (refuseIf (outside 3 64 n) (refusal 1 n 0 0 0)) _ e in
-    let q = then-passed (refuseIf (outside n (2 * n - 3) N) (refusal 10 N 0 0 0)) _ (p .1) in
-    let r = then-passed (refuseIf (not (eqb (length l) N)) (refusal 2 0 0 0 0)) _ (q .1) in
-    let a = outside-false 3 64 n (refuseIf-passed (outside 3 64 n) _ (p .0)) in
-    let b = outside-false n (2 * n - 3) N (refuseIf-passed (outside n (2 * n - 3) N) _ (q .0)) in
-    record {
-      some = a .0;
-      few = a .1;
-      least = b .0;
-      most = b .1;
-      counted = eqb-true (length l) N (not-false _ (refuseIf-passed (not (eqb (length l) N)) _ (r .0)));
-      costed = eqb-true (length v) N (not-false _ (refuseIf-passed (not (eqb (length v) N)) _ (r .1)));
-    }
+    let p = then-passed (countChecks n N) (lengthChecks N l v) e in
+    let a = count-passed n N (p .0) in
+    let b = length-passed N l v (p .1) in
+    record { some = a .0; few = a .1; least = a .2; most = a .3; counted = b .0; costed = b .1 }
 
 pub passed-sizes : (n N : ℕ) (l v : List ℕ) → Sized n N l v → sizeChecks n N l v ≡ Passed
 passed-sizes n N l v s =

@@ -6,7 +6,7 @@ ghost use lib.ListN.{length, getD};
 ghost use Rattle.ground.specs.First.{first};
 ghost use Rattle.ground.specs.Members.{placeOf};
 ghost use Rattle.theory.specs.FarSides.{own};
-ghost use Rattle.links.specs.Checks.{crosses, badSide, badCost, rowBefore, firstCrossed, badRow, missing, sizeChecks, rowChecks};
+ghost use Rattle.links.specs.Checks.{crosses, badSide, badCost, rowBefore, firstCrossed, badRow, missing, countChecks, lengthChecks, sizeChecks, rowChecks};
 
 // Whether two far sides cross: what both hold is not all of either, and not nothing.
 fn is_crossing(s: u64, r: u64) -> bool
@@ -154,4 +154,53 @@ fn first_missing(n: usize, fars: &[u64]) -> usize
         i += 1;
     }
     i
+}
+
+// 1, 10: the number of images, then the row count.
+pub fn check_count(n: usize, count: usize) -> Check
+    ensures { λ r. ⌜ r ≡ countChecks n count ⌝ }
+{
+    let images = ground::refuse_if(ground::is_outside(3, 64, n), 1, n, 0);
+    match images {
+        Check::Refused(_) => images,
+        Check::Passed => ground::refuse_if(ground::is_outside(n, 2 * n - 3, count), 10, count, 0),
+    }
+}
+
+// 2: both slices are exactly as long as the row count.
+fn check_lengths(count: usize, fars: &[u64], costs: &[u32]) -> Check
+    ensures { λ r. ⌜ r ≡ lengthChecks count (now (fars .entry)) (now (costs .entry)) ⌝ }
+{
+    let sides = ground::refuse_if(fars.len() != count, 2, 0, 0);
+    match sides {
+        Check::Refused(_) => sides,
+        Check::Passed => ground::refuse_if(costs.len() != count, 2, 0, 0),
+    }
+}
+
+// 1, 10, 2: what is asked of a link table before its rows are looked at.
+pub fn check_rows_size(n: usize, count: usize, fars: &[u64], costs: &[u32]) -> Check
+    ensures { λ r. ⌜ r ≡ sizeChecks n count (now (fars .entry)) (now (costs .entry)) ⌝ }
+{
+    let counts = check_count(n, count);
+    match counts {
+        Check::Refused(_) => counts,
+        Check::Passed => check_lengths(count, fars, costs),
+    }
+}
+
+// 12, 13: the lowest bad row, then the lowest image without its own link. The limit is an argument: what was stored under another limit is read under it.
+pub fn check_rows(limit: u32, n: usize, fars: &[u64], costs: &[u32]) -> Check
+    requires { ⌜ (3 ≤ n) × (n ≤ 64) × (length (now fars) ≤ 125) × (length (now costs) ≡ length (now fars)) ⌝ }
+    ensures { λ r. ⌜ r ≡ rowChecks limit n (now (fars .entry)) (now (costs .entry)) ⌝ }
+{
+    let row = first_bad_row(limit, n, fars, costs);
+    let rows = ground::refuse_if(row < fars.len(), 12, row + 1, 0);
+    match rows {
+        Check::Refused(_) => rows,
+        Check::Passed => {
+            let image = first_missing(n, fars);
+            ground::refuse_if(image < n, 13, image + 1, 0)
+        }
+    }
 }

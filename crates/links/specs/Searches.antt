@@ -1,0 +1,28 @@
+-- A search through the rows from the front: what the rest answers is the answer, so a loop carries that. Assumes nothing.
+use mathlib.Core.Bool.{not}
+use mathlib.Core.List.{List, [], _∷_}
+use mathlib.Core.Path.{refl, _≡_}
+use Prim.Native.Nat.{suc, ℕ, _+_, _<_, _≤_}
+use native.Mathlib.Numerals.{add-one}
+use native.Mathlib.Omega.{arith}
+use lib.Dec.{eqb}
+use lib.ListN.{drop, drop-of-length-le, getD, length}
+use lib.Seq.{drop-cons}
+use borrow.Author.Tests.{eq-eqb, ne-eqb}
+use borrow.Table.Steps.{cases}
+use Rattle.ground.specs.Members.{isIn, placeOf}
+
+module _ (x : ℕ) (l : List ℕ) (k a : ℕ) (e : placeOf (suc k) x (drop k l) ≡ a) where
+  pub place-here : k < length l → x ≡ getD l k 0 → k + 1 ≡ a
+  place-here h f = let q = rw (drop-cons l k 0 h, eq-eqb x (getD l k 0) f) at e in omega arith
+
+  pub place-on : k < length l → (x ≡ getD l k 0 → ⊥) → placeOf (suc (k + 1)) x (drop (k + 1) l) ≡ a
+  place-on h f = rw add-one (rw (drop-cons l k 0 h, ne-eqb x (getD l k 0) f) at e)
+
+  pub place-end : length l ≤ k → 0 ≡ a
+  place-end h = rw (drop-of-length-le l {i = k} h) at e
+
+-- a place that is 0 is none
+pub place-none : (i x : ℕ) (l : List ℕ) → eqb (placeOf (suc i) x l) 0 ≡ not (isIn x l)
+place-none i x [] = refl
+place-none i x (y ∷ l) = let ih = place-none (suc i) x l in cases (eqb x y) (λ t. rw t (ne-eqb (suc i) 0 (λ z. omega arith))) (λ t. rw t ih)
