@@ -74,7 +74,7 @@ pub record Links (L n N : ℕ) (l v : List ℕ) : Type 0 where
   pub costed : length v ≡ N
   pub table : LinkTable L n (rowsOf l v)
 
-rows-length : (l v : List ℕ) → length l ≡ length v → length (rowsOf l v) ≡ length l
+pub rows-length : (l v : List ℕ) → length l ≡ length v → length (rowsOf l v) ≡ length l
 rows-length l v e = let q : length (fars (rowsOf l v)) ≡ length l = ap length (rowsOf-fars l v e) in rw length-map at q
 
 -- what passes the sizes

@@ -1,6 +1,6 @@
 -- A search through the rows from the front: what the rest answers is the answer, so a loop carries that. Assumes nothing.
 use mathlib.Core.Bool.{not}
-use mathlib.Core.List.{List, [], _∷_}
+use mathlib.Core.List.{List, List·Memᴰ, List·Memᴰ·head, List·Memᴰ·tail, [], _∷_}
 use mathlib.Core.Path.{refl, _≡_}
 use Prim.Native.Nat.{suc, ℕ, _+_, _<_, _≤_}
 use native.Mathlib.Numerals.{add-one}
@@ -26,3 +26,9 @@ module _ (x : ℕ) (l : List ℕ) (k a : ℕ) (e : placeOf (suc k) x (drop k l) 
 pub place-none : (i x : ℕ) (l : List ℕ) → eqb (placeOf (suc i) x l) 0 ≡ not (isIn x l)
 place-none i x [] = refl
 place-none i x (y ∷ l) = let ih = place-none (suc i) x l in cases (eqb x y) (λ t. rw t (ne-eqb (suc i) 0 (λ z. omega arith))) (λ t. rw t ih)
+
+-- and that of a row that is there is one of the rows
+pub place-in : (i x : ℕ) (l : List ℕ) → List·Memᴰ x l → (i ≤ placeOf i x l) × (placeOf i x l < i + length l)
+place-in i x (y ∷ l) (List·Memᴰ·head e) = rw (eq-eqb x y e) (omega arith)
+place-in i x (y ∷ l) (List·Memᴰ·tail m) =
+    let ih = place-in (suc i) x l m in cases (eqb x y) (λ t. rw t (omega arith)) (λ t. rw t (omega arith))

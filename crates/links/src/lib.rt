@@ -120,7 +120,7 @@ pub fn own_link(n: usize, i: usize) -> u64
 }
 
 // The number of the row with the far side s, from 1, and 0 where there is none.
-fn place_of(fars: &[u64], s: u64) -> usize
+pub fn place_of(fars: &[u64], s: u64) -> usize
     ensures { λ r. ⌜ r ≡ placeOf 1 s (now (fars .entry)) ⌝ }
 {
     let mut k = 0;

@@ -1,0 +1,8 @@
+-- What the contracts of `routes` cite, and the laws about it.
+pub mod Outcomes
+-- The laws.
+pub mod PathSums
+pub mod UpperRows
+pub mod Climbs
+pub mod Accepted
+pub mod Answers
