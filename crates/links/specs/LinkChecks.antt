@@ -42,8 +42,8 @@ module _ (L n : ℕ) (l v : List ℕ) (e : length l ≡ length v) where
           (λ u. let q : j ≡ k = omega (arith, ltb-false j k t, ltb-false k j u) in rw q (inl (λ i h x. x))))
 
   -- and the other way round
-  good : LinkTable L n (rowsOf l v) → (k : ℕ) → k < length l → GoodRow L n l v k
-  good t k h =
+  pub link-rows : LinkTable L n (rowsOf l v) → (k : ℕ) → k < length l → GoodRow L n l v k
+  link-rows t k h =
       let s = between-steps 0 (2 ^ n) l (rw (rowsOf-fars l v e) at (t .ascending)) in
       let m = mem-rows l v k e h in
       record {
@@ -63,7 +63,7 @@ module _ (L n : ℕ) (l v : List ℕ) (e : length l ≡ length v) where
   row-checks = (
     λ p. let q = then-passed (firstCheck 12 (badRow L n l v) (length l)) (firstCheck 13 (missing n l) n) p in
         checked (λ k h. good-row L n l v k (first-passed 12 (badRow L n l v) (length l) (q .0) k h)) (first-passed 13 (missing n l) n (q .1)),
-    λ t. rw (passed-first 12 (badRow L n l v) (length l) (λ k h. row-good L n l v k (good t k h))) (passed-first 13 (missing n l) n (found t)),
+    λ t. rw (passed-first 12 (badRow L n l v) (length l) (λ k h. row-good L n l v k (link-rows t k h))) (passed-first 13 (missing n l) n (found t)),
   )
 
 -- n images, and N rows that are a link table

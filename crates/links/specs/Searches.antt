@@ -1,14 +1,14 @@
 -- A search through the rows from the front: what the rest answers is the answer, so a loop carries that. Assumes nothing.
 use mathlib.Core.Bool.{not}
 use mathlib.Core.List.{List, List·Memᴰ, List·Memᴰ·head, List·Memᴰ·tail, [], _∷_}
-use mathlib.Core.Path.{refl, _≡_}
-use Prim.Native.Nat.{suc, ℕ, _+_, _<_, _≤_}
+use mathlib.Core.Path.{refl, sym, _≡_}
+use Prim.Native.Nat.{suc, ℕ, _+_, _-_, _<_, _≤_}
 use native.Mathlib.Numerals.{add-one}
 use native.Mathlib.Omega.{arith}
 use lib.Dec.{eqb}
 use lib.ListN.{drop, drop-of-length-le, getD, length}
 use lib.Seq.{drop-cons}
-use borrow.Author.Tests.{eq-eqb, ne-eqb}
+use borrow.Author.Tests.{eq-eqb, eqb-true, ne-eqb}
 use borrow.Table.Steps.{cases}
 use Rattle.ground.specs.Members.{isIn, placeOf}
 
@@ -32,3 +32,13 @@ pub place-in : (i x : ℕ) (l : List ℕ) → List·Memᴰ x l → (i ≤ placeO
 place-in i x (y ∷ l) (List·Memᴰ·head e) = rw (eq-eqb x y e) (omega arith)
 place-in i x (y ∷ l) (List·Memᴰ·tail m) =
     let ih = place-in (suc i) x l m in cases (eqb x y) (λ t. rw t (omega arith)) (λ t. rw t (omega arith))
+
+pub place-at : (i x : ℕ) (l : List ℕ) → List·Memᴰ x l → getD l (placeOf (suc i) x l - suc i) 0 ≡ x
+place-at i x (y ∷ l) (List·Memᴰ·head e) = let z : suc i - suc i ≡ 0 = omega arith in rw (eq-eqb x y e, z) (sym e)
+place-at i x (y ∷ l) (List·Memᴰ·tail m) =
+    let b = place-in (suc (suc i)) x l m in
+    let p = placeOf (suc (suc i)) x l in
+    let q : p - suc i ≡ suc (p - suc (suc i)) = omega arith in
+    let r = place-at (suc i) x l m in
+    let z : suc i - suc i ≡ 0 = omega arith in
+    cases (eqb x y) (λ t. rw (t, z) (sym (eqb-true x y t))) (λ t. rw (t, q) r)

@@ -6,3 +6,4 @@ pub mod UpperRows
 pub mod Climbs
 pub mod Accepted
 pub mod Answers
+pub mod Containing
