@@ -64,7 +64,7 @@ module _ (L n N : ℕ) (l v : List ℕ) (t : Links L n N l v) where
       go (inr (inl w)) = absurd (omega (arith, rows-ascend j k a b, contains-le (getD l j 0) (getD l k 0) (within-contains n (getD l k 0) (getD l j 0) (row k b .fits) w)))
       go (inr (inr w)) = absurd (false≢true (sym (w i h p) ∙ q))
 
-  own-at : (i : ℕ) → i < n → getD l (placeOf 1 (own n i) l - 1) 0 ≡ own n i
+  pub own-at : (i : ℕ) → i < n → getD l (placeOf 1 (own n i) l - 1) 0 ≡ own n i
   own-at i h = place-at 0 (own n i) l (rw (rowsOf-fars l v (omega arith)) at (t .table .owns i h))
 
   -- the last row is the own link of image 0, at its place

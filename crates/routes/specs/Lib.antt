@@ -7,3 +7,4 @@ pub mod Climbs
 pub mod Accepted
 pub mod Answers
 pub mod Containing
+pub mod Holding
