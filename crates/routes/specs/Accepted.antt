@@ -5,7 +5,7 @@ use Prim.Native.Nat.{ℕ, _*_, _-_, _<_, _≤_}
 use native.Mathlib.Omega.{arith}
 use lib.Dec.{ltb}
 use lib.ListN.{length}
-use borrow.Author.Tests.{ltb-false}
+use borrow.Author.Tests.{le-ltb, ltb-false}
 use Rattle.ground.specs.Members.{placeOf}
 use Rattle.ground.specs.Refusals.{outside, outside-false, refusal, refuseIf-passed, then-passed}
 use Rattle.ground.specs.declared.Check.the-variants.{Passed}
@@ -22,10 +22,17 @@ use Rattle.routes.specs.Outcomes.{imageCheck, pathChecks, roomCheck, rou
 links-passed : (L n N : ℕ) (l v : List ℕ) → sizeChecks n N l v ≡ Passed → rowChecks L n l v ≡ Passed → Links L n N l v
 links-passed L n N l v e f = link-checks L n N l v .0 (rw e f)
 
+passed-links : (L n N : ℕ) (l v : List ℕ) → Links L n N l v → (sizeChecks n N l v ≡ Passed) × (rowChecks L n l v ≡ Passed)
+passed-links L n N l v t = then-passed (sizeChecks n N l v) (rowChecks L n l v) (link-checks L n N l v .1 t)
+
 image-passed : (n i : ℕ) → imageCheck n i ≡ Passed → (1 ≤ i) × (i ≤ n)
 image-passed n i e = outside-false 1 n i (refuseIf-passed (outside 1 n i) (refusal 8 0 0 0 0) e)
 
--- path: a link table, and both images are 1 to n
+passed-image : (n i : ℕ) → 1 ≤ i → i ≤ n → imageCheck n i ≡ Passed
+passed-image n i a b = rw (le-ltb i 1 a, le-ltb n i b)
+
+-- ## path: a link table, and both images are 1 to n
+
 pub record PathTaken (L n N : ℕ) (l v : List ℕ) (i j : ℕ) : Type 0 where
   pub table : Links L n N l v
   pub low : 1 ≤ i
@@ -42,7 +49,13 @@ path-passed L n N l v i j e =
     let b = image-passed n j (r .1) in
     record { table = links-passed L n N l v (p .0) (q .0); low = a .0; high = a .1; low′ = b .0; high′ = b .1 }
 
--- upper rows: a link table, and room for 2 n - 3 places
+pub passed-path : (L n N : ℕ) (l v : List ℕ) (i j : ℕ) → PathTaken L n N l v i j → pathChecks L n N l v i j ≡ Passed
+passed-path L n N l v i j t =
+    let p = passed-links L n N l v (t .table) in
+    rw (p .0, p .1, passed-image n i (t .low) (t .high)) (passed-image n j (t .low′) (t .high′))
+
+-- ## upper rows: a link table, and room for 2 n - 3 places
+
 pub record UppersTaken (L n N : ℕ) (l v : List ℕ) (room : ℕ) : Type 0 where
   pub table : Links L n N l v
   pub spare : 2 * n - 3 ≤ room
@@ -53,7 +66,11 @@ upper-passed L n N l v room e =
     let q = then-passed (roomCheck n room) (rowChecks L n l v) (p .1) in
     record { table = links-passed L n N l v (p .0) (q .1); spare = ltb-false room (2 * n - 3) (refuseIf-passed (ltb room (2 * n - 3)) (refusal 3 0 0 0 0) (q .0)) }
 
--- routes: the same, and the image is 1 to n
+pub passed-upper : (L n N : ℕ) (l v : List ℕ) (room : ℕ) → UppersTaken L n N l v room → upperChecks L n N l v room ≡ Passed
+passed-upper L n N l v room t = let p = passed-links L n N l v (t .table) in rw (p .0, le-ltb room (2 * n - 3) (t .spare)) (p .1)
+
+-- ## routes: the same, and the image is 1 to n
+
 pub record RouteTaken (L n N : ℕ) (l v : List ℕ) (i room : ℕ) : Type 0 where
   pub uppers : UppersTaken L n N l v room
   pub low : 1 ≤ i
@@ -64,6 +81,11 @@ route-passed L n N l v i room e =
     let p = then-passed (upperChecks L n N l v room) (imageCheck n i) e in
     let a = image-passed n i (p .1) in
     record { uppers = upper-passed L n N l v room (p .0); low = a .0; high = a .1 }
+
+pub passed-route : (L n N : ℕ) (l v : List ℕ) (i room : ℕ) → RouteTaken L n N l v i room → routeChecks L n N l v i room ≡ Passed
+passed-route L n N l v i room t = rw (passed-upper L n N l v room (t .uppers)) (passed-image n i (t .low) (t .high))
+
+-- ## What private functions need of a table that was accepted
 
 -- the number of rows, which every answer of rows fits
 pub few-rows : (L n N : ℕ) (l v : List ℕ) → Links L n N l v → (0 < N) × (N ≤ 2 * n - 3) × (N ≤ 125)

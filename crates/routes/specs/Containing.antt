@@ -25,7 +25,7 @@ use Rattle.routes.specs.Accepted.{few-rows, own-place}
 use Rattle.routes.specs.UpperRows.{upper-contains, upper-first, upper-later, upper-most}
 
 -- the own link of image 0 contains every far side
-full-contains-all : (n S : ℕ) → 3 ≤ n → FarSide n S → contains (own n 0) S ≡ true
+pub full-contains-all : (n S : ℕ) → 3 ≤ n → FarSide n S → contains (own n 0) S ≡ true
 full-contains-all zero S h f = absurd (omega arith)
 full-contains-all (suc k) S h f = eq-eqb (bitAnd S (own (suc k) 0)) S (full-contains k S f)
 

@@ -1,7 +1,7 @@
 -- A route ascends from the own link to the last row, and has exactly the rows that hold its image. Assumes nothing.
 use mathlib.Core.Bool.{Bool, true}
 use mathlib.Core.List.{List, List·Memᴰ, List·Memᴰ·head, List·Memᴰ·not-nil, List·Memᴰ·tail, [], _∷_}
-use mathlib.Core.Path.{refl, subst, sym, _≡_}
+use mathlib.Core.Path.{ap, refl, subst, sym, _≡_}
 use Prim.Native.Nat.{suc, zero, ℕ, _+_, _-_, _<_, _^_, _≤_}
 use native.Mathlib.Omega.{arith}
 use lib.Dec.{eqb, ltb}
@@ -18,8 +18,8 @@ use Rattle.theory.specs.Laws.Nested.{bit-holds, holds-true}
 use Rattle.theory.specs.Routes.{climb, route, uppers}
 use Rattle.links.specs.LinkChecks.{Links}
 use Rattle.routes.specs.Accepted.{few-rows, own-place}
-use Rattle.routes.specs.Climbs.{climb-last, climb-none}
-use Rattle.routes.specs.Containing.{contains-holds, last-place, later-contains, own-at, rows-ascend, upper-none}
+use Rattle.routes.specs.Climbs.{climb-last, climb-next, climb-none}
+use Rattle.routes.specs.Containing.{contains-holds, full-contains-all, last-place, last-row, later-contains, own-at, row-side, rows-ascend, upper-none}
 use Rattle.routes.specs.UpperRows.{upper-contains, upper-first, upper-later, upper-most}
 
 -- ## Every climb ascends
@@ -28,13 +28,14 @@ pub climb-between : (l : List ℕ) (m r : ℕ) → r ≤ length l → Between r 
 climb-between l zero r h = omega arith
 climb-between l (suc m) zero h = omega arith
 climb-between l (suc m) (suc p) h =
-    let u = getD (uppers l) p 0 in
-    (omega arith,
-    cases (eqb u 0)
-    (λ e. rw (eqb-true u 0 e, climb-none (uppers l) m) (omega arith))
-    (λ e.
-    let w = upper-later l p (omega arith) (omega (arith, eqb-false u 0 e)) in
-    between-from (suc (suc p)) u (suc (length l)) (climb (uppers l) m u) (omega arith) (climb-between l m u (upper-most l p (omega arith)))))
+    let u = getD (uppers l) p 0 in (
+      omega arith,
+      cases (eqb u 0)
+          (λ e. rw (eqb-true u 0 e, climb-none (uppers l) m) (omega arith))
+          (λ e.
+          let w = upper-later l p (omega arith) (omega (arith, eqb-false u 0 e)) in
+          between-from (suc (suc p)) u (suc (length l)) (climb (uppers l) m u) (omega arith) (climb-between l m u (upper-most l p (omega arith)))),
+    )
 
 -- an ascending list that has its highest element ends with it
 pub ends-with : (m N : ℕ) (l : List ℕ) → Between m l (suc N) → List·Memᴰ N l → getD l (length l - 1) 0 ≡ N
@@ -86,7 +87,7 @@ from-between : (i m : ℕ) → Between i (from i m) (i + m)
 from-between i zero = omega arith
 from-between i (suc m) = (omega arith, let e : i + suc m ≡ suc i + m = omega arith in rw e (from-between (suc i) m))
 
-own-holds : (n i : ℕ) → 0 < i → holds (own n i) i ≡ true
+pub own-holds : (n i : ℕ) → 0 < i → holds (own n i) i ≡ true
 own-holds n zero h = absurd (omega arith)
 own-holds n (suc i) h = bit-holds (2 ^ suc i) (suc i) (bit-pow (suc i))
 
@@ -108,10 +109,10 @@ module _ (L n N : ℕ) (l v : List ℕ) (t : Links L n N l v) where
       (between-filter (heldBy l i) 1 (suc N) (from 1 N) (let e : suc N ≡ 1 + N = omega arith in rw e (from-between 1 N)))
       (λ q m. let c = climb-holds L n N l v t i h (length l) o (p .0) (p .1) s q m in mem-filter (heldBy l i) q (c .2) (from 1 N) (mem-from 1 N q (c .0) (omega arith)))
       (λ q m. let c = filter-mem (heldBy l i) (from 1 N) q m in let b = from-mem 1 N q (c .1) in
-      climb-all L n N l v t i h (length l) o (p .0) (p .1) (omega arith) s q (low i q o a h p b (c .0)) (omega arith) (c .0))
+      climb-all L n N l v t i h (length l) o (p .0) (p .1) (omega arith) s q (low i q a h p b (c .0)) (omega arith) (c .0))
     where
-      low : (i q o : ℕ) → 0 < i → i < n → (0 < placeOf 1 (own n i) l) × (placeOf 1 (own n i) l ≤ N) → (1 ≤ q) × (q < 1 + N) → heldBy l i q ≡ true → placeOf 1 (own n i) l ≤ q
-      low i q o a h p b s =
+      low : (i q : ℕ) → 0 < i → i < n → (0 < placeOf 1 (own n i) l) × (placeOf 1 (own n i) l ≤ N) → (1 ≤ q) × (q < 1 + N) → heldBy l i q ≡ true → placeOf 1 (own n i) l ≤ q
+      low i q a h p b s =
           let o′ = placeOf 1 (own n i) l in
           cases (ltb q o′)
           (λ x. absurd (omega (arith, ltb-true q o′ x, rows-ascend L n N l v t (q - 1) (o′ - 1) (omega (arith, ltb-true q o′ x)) (omega arith), own-least n i (getD l (q - 1) 0) a s, own-at L n N l v t i h)))
@@ -123,3 +124,28 @@ module _ (L n N : ℕ) (l v : List ℕ) (t : Links L n N l v) where
       let p = few-rows L n N l v t in
       let c = climb-last l N (p .0) (omega arith) (upper-none L n N l v t) in
       rw (last-place L n N l v t) c
+
+  pub route-starts : (i : ℕ) → i < n → getD l (getD (route n l i) 0 0 - 1) 0 ≡ own n i
+  route-starts i h =
+      let p = own-place L n N l v t i h in
+      let o = placeOf 1 (own n i) l in
+      let e : getD (route n l i) 0 0 ≡ o = ap (λ (m : List ℕ). getD m 0 0) (climb-next l o (p .0) (omega arith)) in
+      rw e (own-at L n N l v t i h)
+
+  pub route-ascends : (i : ℕ) → i < n → Between 1 (route n l i) (suc N)
+  route-ascends i h =
+      let p = own-place L n N l v t i h in
+      let o = placeOf 1 (own n i) l in
+      let b = climb-between l (length l) o (omega arith) in
+      between-from 1 o (suc N) (route n l i) (omega arith) (subst (λ (x : ℕ). Between o (route n l i) (suc x)) (t .counted) b)
+
+  pub route-ends : (i : ℕ) → i < n → getD (route n l i) (length (route n l i) - 1) 0 ≡ N
+  route-ends zero h = rw route-first refl
+  route-ends (suc i) h =
+      let p = few-rows L n N l v t in
+      let o = own-place L n N l v t (suc i) h in
+      let f = row-side L n N l v t (placeOf 1 (own n (suc i)) l - 1) (omega arith) in
+      let c = full-contains-all n (own n (suc i)) (t .some) (rw (own-at L n N l v t (suc i) h) at f) in
+      let s : heldBy l (suc i) N ≡ true = rw (last-row L n N l v t) (contains-holds n (own n 0) (own n (suc i)) (suc i) h c (own-holds n (suc i) (omega arith))) in
+      ends-with 1 N (route n l (suc i)) (route-ascends (suc i) h)
+      (rw (route-held (suc i) (omega arith) h) (mem-filter (heldBy l (suc i)) N s (from 1 N) (mem-from 1 N N (omega arith) (omega arith))))

@@ -8,3 +8,5 @@ pub mod Accepted
 pub mod Answers
 pub mod Containing
 pub mod Holding
+-- What is promised.
+pub mod Promises
