@@ -17,7 +17,8 @@ use Rattle.theory.specs.FarSides.{Nested, own}
 use Rattle.theory.specs.Laws.Paths.{rowsOf-fars}
 use Rattle.theory.specs.Laws.RowCount.{row-count}
 use Rattle.theory.specs.LinkTables.{LinkTable, fars, rowsOf}
-use Rattle.links.specs.Checks.{badRow, countChecks, lengthChecks, missing, rowChecks, sizeChecks}
+use Rattle.links.specs.BadRows.{badRow, missing}
+use Rattle.links.specs.Checks.{countChecks, lengthChecks, rowChecks, sizeChecks}
 use Rattle.links.specs.FirstChecks.{first-passed, firstCheck, passed-first}
 use Rattle.links.specs.RowTests.{GoodRow, between-steps, clear-nested, good-row, mem-rows, nested-clear, nested-sym, row-good, rows-mem, steps-between}
 

@@ -6,7 +6,8 @@ ghost use lib.ListN.{length, getD};
 ghost use Rattle.ground.specs.First.{first};
 ghost use Rattle.ground.specs.Members.{placeOf};
 ghost use Rattle.theory.specs.FarSides.{own};
-ghost use Rattle.links.specs.Checks.{crosses, badSide, badCost, rowBefore, firstCrossed, badRow, missing, countChecks, lengthChecks, sizeChecks, rowChecks};
+ghost use Rattle.links.specs.BadRows.{crosses, badSide, badCost, rowBefore, firstCrossed, badRow, missing};
+ghost use Rattle.links.specs.Checks.{countChecks, lengthChecks, sizeChecks, rowChecks};
 
 // Whether two far sides cross: what both hold is not all of either, and not nothing.
 fn is_crossing(s: u64, r: u64) -> bool

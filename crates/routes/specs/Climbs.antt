@@ -1,5 +1,5 @@
 -- Climbing by upper rows: one row and then the climb from its upper row; rows are numbered from 1. Assumes nothing.
-use mathlib.Core.List.{List, [], _∷_}
+use mathlib.Core.List.{List, List·Memᴰ, List·Memᴰ·head, List·Memᴰ·not-nil, List·Memᴰ·tail, [], _∷_}
 use mathlib.Core.Path.{ap, refl, sym, _∙_, _≡_}
 use Prim.Native.Nat.{suc, zero, ℕ, _+_, _-_, _<_, _≤_}
 use native.Mathlib.Omega.{arith}
@@ -7,6 +7,7 @@ use lib.Dec.{eqb}
 use lib.ListN.{getD, length}
 use borrow.Author.Tests.{eqb-false, eqb-true}
 use borrow.Table.Steps.{cases}
+use Rattle.ground.specs.Ascending.{Between, between-from, between-mem}
 use Rattle.theory.specs.Routes.{climb, uppers}
 use Rattle.routes.specs.UpperRows.{upper-later, upper-most}
 
@@ -61,3 +62,26 @@ climb-most l (suc m) (suc p) h a =
     (λ e.
     let u = upper-later l p (omega arith) (omega (arith, eqb-false (getD (uppers l) p 0) 0 e)) in
     omega (arith, climb-most l m (getD (uppers l) p 0) (upper-most l p (omega arith)) (omega arith)))
+
+-- ## Every climb ascends
+
+pub climb-between : (l : List ℕ) (m r : ℕ) → r ≤ length l → Between r (climb (uppers l) m r) (suc (length l))
+climb-between l zero r h = omega arith
+climb-between l (suc m) zero h = omega arith
+climb-between l (suc m) (suc p) h =
+    let u = getD (uppers l) p 0 in (
+      omega arith,
+      cases (eqb u 0)
+          (λ e. rw (eqb-true u 0 e, climb-none (uppers l) m) (omega arith))
+          (λ e.
+          let w = upper-later l p (omega arith) (omega (arith, eqb-false u 0 e)) in
+          between-from (suc (suc p)) u (suc (length l)) (climb (uppers l) m u) (omega arith) (climb-between l m u (upper-most l p (omega arith)))),
+    )
+
+-- an ascending list that has its highest element ends with it
+pub ends-with : (m N : ℕ) (l : List ℕ) → Between m l (suc N) → List·Memᴰ N l → getD l (length l - 1) 0 ≡ N
+ends-with m N (x ∷ []) b (List·Memᴰ·head e) = sym e
+ends-with m N (x ∷ []) b (List·Memᴰ·tail t) = absurd (List·Memᴰ·not-nil t)
+ends-with m N (x ∷ y ∷ l) b (List·Memᴰ·head e) = absurd (omega (arith, between-mem (suc x) (suc N) (y ∷ l) (b .1) y (List·Memᴰ·head refl)))
+ends-with m N (x ∷ y ∷ l) b (List·Memᴰ·tail t) =
+    let q : suc (suc (length l)) - 1 ≡ suc (suc (length l) - 1) = omega arith in rw q (ends-with (suc x) N (y ∷ l) (b .1) t)

@@ -1,14 +1,14 @@
 -- A route ascends from the own link to the last row, and has exactly the rows that hold its image. Assumes nothing.
 use mathlib.Core.Bool.{Bool, true}
-use mathlib.Core.List.{List, List·Memᴰ, List·Memᴰ·head, List·Memᴰ·not-nil, List·Memᴰ·tail, [], _∷_}
-use mathlib.Core.Path.{ap, refl, subst, sym, _≡_}
+use mathlib.Core.List.{List, List·Memᴰ, List·Memᴰ·head, List·Memᴰ·tail, [], _∷_}
+use mathlib.Core.Path.{ap, refl, subst, _≡_}
 use Prim.Native.Nat.{suc, zero, ℕ, _+_, _-_, _<_, _^_, _≤_}
 use native.Mathlib.Omega.{arith}
 use lib.Dec.{eqb, ltb}
 use lib.ListN.{getD, length}
 use borrow.Author.Tests.{eqb-false, eqb-true, ltb-false, ltb-true}
 use borrow.Table.Steps.{cases}
-use Rattle.ground.specs.Ascending.{Between, between-ext, between-filter, between-from, between-mem}
+use Rattle.ground.specs.Ascending.{Between, between-ext, between-filter, between-from}
 use Rattle.ground.specs.Bits.{bit-above, bit-pow}
 use Rattle.ground.specs.Filters.{Each, each-cons, each-nil, filter, filter-mem, mem-filter}
 use Rattle.ground.specs.Members.{placeOf}
@@ -18,32 +18,9 @@ use Rattle.theory.specs.Laws.Nested.{bit-holds, holds-true}
 use Rattle.theory.specs.Routes.{climb, route, uppers}
 use Rattle.links.specs.LinkChecks.{Links}
 use Rattle.routes.specs.Accepted.{few-rows, own-place}
-use Rattle.routes.specs.Climbs.{climb-last, climb-next, climb-none}
+use Rattle.routes.specs.Climbs.{climb-between, climb-last, climb-next, climb-none, ends-with}
 use Rattle.routes.specs.Containing.{contains-holds, full-contains-all, last-place, last-row, later-contains, own-at, row-side, rows-ascend, upper-none}
 use Rattle.routes.specs.UpperRows.{upper-contains, upper-first, upper-later, upper-most}
-
--- ## Every climb ascends
-
-pub climb-between : (l : List ℕ) (m r : ℕ) → r ≤ length l → Between r (climb (uppers l) m r) (suc (length l))
-climb-between l zero r h = omega arith
-climb-between l (suc m) zero h = omega arith
-climb-between l (suc m) (suc p) h =
-    let u = getD (uppers l) p 0 in (
-      omega arith,
-      cases (eqb u 0)
-          (λ e. rw (eqb-true u 0 e, climb-none (uppers l) m) (omega arith))
-          (λ e.
-          let w = upper-later l p (omega arith) (omega (arith, eqb-false u 0 e)) in
-          between-from (suc (suc p)) u (suc (length l)) (climb (uppers l) m u) (omega arith) (climb-between l m u (upper-most l p (omega arith)))),
-    )
-
--- an ascending list that has its highest element ends with it
-pub ends-with : (m N : ℕ) (l : List ℕ) → Between m l (suc N) → List·Memᴰ N l → getD l (length l - 1) 0 ≡ N
-ends-with m N (x ∷ []) b (List·Memᴰ·head e) = sym e
-ends-with m N (x ∷ []) b (List·Memᴰ·tail t) = absurd (List·Memᴰ·not-nil t)
-ends-with m N (x ∷ y ∷ l) b (List·Memᴰ·head e) = absurd (omega (arith, between-mem (suc x) (suc N) (y ∷ l) (b .1) y (List·Memᴰ·head refl)))
-ends-with m N (x ∷ y ∷ l) b (List·Memᴰ·tail t) =
-    let q : suc (suc (length l)) - 1 ≡ suc (suc (length l) - 1) = omega arith in rw q (ends-with (suc x) N (y ∷ l) (b .1) t)
 
 -- ## The rows that hold image i, of those that climb
 

@@ -1,4 +1,5 @@
 -- What the contracts of `routes` cite, and the laws about it.
+pub mod Orders
 pub mod Outcomes
 -- The laws.
 pub mod PathSums

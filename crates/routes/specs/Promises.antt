@@ -22,7 +22,8 @@ use Rattle.links.specs.LinkChecks.{Links}
 use Rattle.routes.specs.Accepted.{PathTaken, RouteTaken, UppersTaken, passed-path, passed-route, passed-upper, path-passed, route-passed, upper-passed}
 use Rattle.routes.specs.Containing.{last-row, upper-none, upper-smallest, upper-there}
 use Rattle.routes.specs.Holding.{heldBy, route-ascends, route-ends, route-first, route-held, route-starts}
-use Rattle.routes.specs.Outcomes.{Left, Outcome, pathChecks, pathOutcome, routeChecks, upperChecks}
+use Rattle.routes.specs.Orders.{pathChecks, routeChecks, upperChecks}
+use Rattle.routes.specs.Outcomes.{Left, Outcome, pathOutcome}
 use Rattle.routes.specs.UpperRows.{upper-contains, upper-later, upper-most, uppers-length}
 
 -- ## Which calls are accepted: exactly those with a link table, room and images in range

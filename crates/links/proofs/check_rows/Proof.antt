@@ -5,7 +5,7 @@ use lib.ListN.{length}
 use borrow.Author.Needs.{needs}
 use Rattle.ground.specs.First.{first-le}
 use Rattle.ground.specs.Refusals.{then-goes, then-stops}
-use Rattle.links.specs.Checks.{badRow, missing}
+use Rattle.links.specs.BadRows.{badRow, missing}
 use Rattle.links.specs.FirstChecks.{firstCheck}
 use Rattle.links.proofs.check_rows.Statement.{statement}
 use Rattle.links.proofs.check_rows.Tie as tie

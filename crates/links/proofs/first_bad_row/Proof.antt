@@ -4,7 +4,7 @@ use lib.ListN.{length}
 use borrow.Author.Count.{below-more, below-none}
 use borrow.Author.Needs.{needs}
 use Rattle.ground.specs.First.{NoneBelow, first-here, first-none}
-use Rattle.links.specs.Checks.{badRow}
+use Rattle.links.specs.BadRows.{badRow}
 use Rattle.links.proofs.first_bad_row.Statement.{statement}
 use Rattle.links.proofs.first_bad_row.Tie as tie
 

@@ -4,7 +4,7 @@ use lib.ListN.{getD}
 use borrow.Author.Count.{below-more, below-none}
 use borrow.Author.Needs.{needs}
 use Rattle.ground.specs.First.{NoneBelow, first-here, first-none}
-use Rattle.links.specs.Checks.{crosses}
+use Rattle.links.specs.BadRows.{crosses}
 use Rattle.links.proofs.first_crossed.Statement.{statement}
 use Rattle.links.proofs.first_crossed.Tie as tie
 

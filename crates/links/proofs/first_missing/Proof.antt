@@ -3,7 +3,7 @@ use Prim.Native.Nat.{_-_, _≤_}
 use borrow.Author.Count.{below-more, below-none}
 use borrow.Author.Needs.{needs}
 use Rattle.ground.specs.First.{NoneBelow, first-here, first-none}
-use Rattle.links.specs.Checks.{missing}
+use Rattle.links.specs.BadRows.{missing}
 use Rattle.links.proofs.first_missing.Statement.{statement}
 use Rattle.links.proofs.first_missing.Tie as tie
 

@@ -1,6 +1,6 @@
 -- `links::is_bad_row` meets its contract: each return rewrites with the tests that led there. Assumes nothing.
 use borrow.Author.Needs.{needs}
-use Rattle.links.specs.Checks.{badRow}
+use Rattle.links.specs.BadRows.{badRow}
 use Rattle.links.proofs.is_bad_row.Statement.{statement}
 use Rattle.links.proofs.is_bad_row.Tie as tie
 
