@@ -14,7 +14,7 @@ use Rattle.theory.specs.FarSides.{holds, inner, own}
 abbrev pub crosses : ℕ → ℕ → Bool
 crosses S R = not (eqb (bitAnd S R) S || (eqb (bitAnd S R) R || eqb (bitAnd S R) 0))
 
--- a far side that is 0, holds image 1 or one beyond n, or does not exceed the row before, which is b
+-- a far side that is 0 or does not exceed the row before, which is b; or holds image 0; or holds one beyond n
 abbrev pub badSide : ℕ → ℕ → ℕ → Bool
 badSide n b S = leb S b || (holds S 0 || leb (2 ^ n) S)
 
@@ -22,7 +22,7 @@ badSide n b S = leb S b || (holds S 0 || leb (2 ^ n) S)
 abbrev pub badCost : ℕ → ℕ → ℕ → ℕ → Bool
 badCost L n S c = ltb (2 * L) c || (inner n S && eqb c 0)
 
--- the far side of the row before row k; 0 before the first, so that 0 exceeds nothing
+-- the far side of the row before row k; 0 before the first, which only 0 does not exceed
 abbrev pub rowBefore : List ℕ → ℕ → ℕ
 rowBefore l k = getD (0 ∷ l) k 0
 
@@ -30,7 +30,7 @@ rowBefore l k = getD (0 ∷ l) k 0
 abbrev pub firstCrossed : List ℕ → ℕ → ℕ
 firstCrossed l k = first (λ j. crosses (getD l j 0) (getD l k 0)) k
 
--- row k is bad
+-- row k is bad: its far side, its cost, or an earlier row that it crosses
 unfoldable pub badRow : ℕ → ℕ → List ℕ → List ℕ → ℕ → Bool
 badRow L n l v k =
     badSide n (rowBefore l k) (getD l k 0) || (badCost L n (getD l k 0) (getD v k 0) || ltb (firstCrossed l k) k)

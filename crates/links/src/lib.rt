@@ -1,8 +1,8 @@
 // Link tables: the checks that one passes or is refused by, path costs, upper rows and routes.
 use ground::Check;
 ghost use mathlib.Core.Path.{_≡_};
-ghost use Prim.Native.Nat.{_<_, _≤_, _*_, _+_, _^_};
-ghost use lib.ListN.{length, getD};
+ghost use Prim.Native.Nat.{_<_, _≤_};
+ghost use lib.ListN.{length};
 ghost use Rattle.ground.specs.First.{first};
 ghost use Rattle.ground.specs.Members.{placeOf};
 ghost use Rattle.theory.specs.FarSides.{own};

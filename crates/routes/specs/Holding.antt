@@ -75,6 +75,13 @@ own-least n (suc i) S h e =
     (λ x. ltb-false S (2 ^ suc i) x)
 
 module _ (L n N : ℕ) (l v : List ℕ) (t : Links L n N l v) where
+  pub route-ascends : (i : ℕ) → i < n → Between 1 (route n l i) (suc N)
+  route-ascends i h =
+      let p = own-place L n N l v t i h in
+      let o = placeOf 1 (own n i) l in
+      let b = climb-between l (length l) o (omega arith) in
+      between-from 1 o (suc N) (route n l i) (omega arith) (subst (λ (x : ℕ). Between o (route n l i) (suc x)) (t .counted) b)
+
   -- the route of an image other than 0: exactly the rows that hold it, ascending
   pub route-held : (i : ℕ) → 0 < i → i < n → route n l i ≡ filter (heldBy l i) (from 1 N)
   route-held i a h =
@@ -82,7 +89,7 @@ module _ (L n N : ℕ) (l v : List ℕ) (t : Links L n N l v) where
       let o = placeOf 1 (own n i) l in
       let s : heldBy l i o ≡ true = rw (own-at L n N l v t i h) (own-holds n i a) in
       between-ext 1 (suc N) (route n l i) (filter (heldBy l i) (from 1 N))
-      (between-from 1 o (suc N) (route n l i) (omega arith) (subst (λ (x : ℕ). Between o (route n l i) (suc x)) (t .counted) (climb-between l (length l) o (omega arith))))
+      (route-ascends i h)
       (between-filter (heldBy l i) 1 (suc N) (from 1 N) (let e : suc N ≡ 1 + N = omega arith in rw e (from-between 1 N)))
       (λ q m. let c = climb-holds L n N l v t i h (length l) o (p .0) (p .1) s q m in mem-filter (heldBy l i) q (c .2) (from 1 N) (mem-from 1 N q (c .0) (omega arith)))
       (λ q m. let c = filter-mem (heldBy l i) (from 1 N) q m in let b = from-mem 1 N q (c .1) in
@@ -108,13 +115,6 @@ module _ (L n N : ℕ) (l v : List ℕ) (t : Links L n N l v) where
       let o = placeOf 1 (own n i) l in
       let e : getD (route n l i) 0 0 ≡ o = ap (λ (m : List ℕ). getD m 0 0) (climb-next l o (p .0) (omega arith)) in
       rw e (own-at L n N l v t i h)
-
-  pub route-ascends : (i : ℕ) → i < n → Between 1 (route n l i) (suc N)
-  route-ascends i h =
-      let p = own-place L n N l v t i h in
-      let o = placeOf 1 (own n i) l in
-      let b = climb-between l (length l) o (omega arith) in
-      between-from 1 o (suc N) (route n l i) (omega arith) (subst (λ (x : ℕ). Between o (route n l i) (suc x)) (t .counted) b)
 
   pub route-ends : (i : ℕ) → i < n → getD (route n l i) (length (route n l i) - 1) 0 ≡ N
   route-ends zero h = rw route-first refl

@@ -1,10 +1,9 @@
 -- `links::check_count` meets its contract: it stops at the first refusal, as the chain does. Assumes nothing.
-use mathlib.Core.Path.{_∙_, _≡_}
+use mathlib.Core.Path.{_≡_}
 use Prim.Native.Nat.{_≤_}
 use native.Mathlib.Omega.{arith}
 use borrow.Author.Needs.{needs}
 use Rattle.ground.specs.Refusals.{outside, outside-false, refusal, refuseIf, refuseIf-passed, then-goes, then-stops}
-use Rattle.ground.specs.declared.Check.the-variants.{Passed}
 use Rattle.links.proofs.check_count.Statement.{statement}
 use Rattle.links.proofs.check_count.Tie as tie
 

@@ -1,7 +1,5 @@
 -- `links::is_bad_side` meets its contract: each return rewrites with the tests that led there. Assumes nothing.
-use mathlib.Core.Path.{_≡_}
 use Prim.Native.Nat.{_^_}
-use native.Mathlib.Omega.{arith}
 use borrow.Author.Needs.{needs}
 use borrow.Author.Tests.{eq-eqb, le-leb, lt-leb, ne-eqb}
 use Rattle.links.specs.Shifts.{beyond}

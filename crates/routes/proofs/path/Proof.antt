@@ -1,5 +1,4 @@
 -- `routes::path` meets its contract: behind the checks stand a link table and two images. Assumes nothing.
-use mathlib.Core.Path.{_≡_}
 use Prim.Native.Nat.{_-_}
 use native.Mathlib.Omega.{arith}
 use borrow.Author.Needs.{needs}

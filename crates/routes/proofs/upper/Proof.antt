@@ -1,7 +1,6 @@
 -- `routes::upper` meets its contract: the first row from k on that contains row r is the first of all later ones. Assumes nothing.
 use mathlib.Core.Path.{_≡_}
 use Prim.Native.Nat.{suc, _-_, _≤_}
-use native.Mathlib.Omega.{arith}
 use lib.ListN.{drop, getD, length}
 use borrow.Author.Needs.{needs}
 use Rattle.theory.specs.Routes.{upperFrom, uppers}

@@ -1,6 +1,5 @@
 -- `routes::upper_rows` meets its contract: behind the checks stand a link table and room for its rows. Assumes nothing.
 use mathlib.Core.Path.{sym, _∙_, _≡_}
-use Prim.Native.Nat.{_≤_}
 use native.Mathlib.Omega.{arith}
 use lib.ListN.{length}
 use borrow.Author.Needs.{needs}
