@@ -33,6 +33,7 @@ place-in i x (y ∷ l) (List·Memᴰ·head e) = rw (eq-eqb x y e) (omega arith)
 place-in i x (y ∷ l) (List·Memᴰ·tail m) =
     let ih = place-in (suc i) x l m in cases (eqb x y) (λ t. rw t (omega arith)) (λ t. rw t (omega arith))
 
+-- and has that far side
 pub place-at : (i x : ℕ) (l : List ℕ) → List·Memᴰ x l → getD l (placeOf (suc i) x l - suc i) 0 ≡ x
 place-at i x (y ∷ l) (List·Memᴰ·head e) = let z : suc i - suc i ≡ 0 = omega arith in rw (eq-eqb x y e, z) (sym e)
 place-at i x (y ∷ l) (List·Memᴰ·tail m) =

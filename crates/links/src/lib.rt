@@ -1,4 +1,4 @@
-// Link tables: the checks that one passes or is refused by, path costs, upper rows and routes.
+// Link tables: the checks that one passes or is refused by, and the row of an own link. Images and rows are counted from 0 but in refusals.
 use ground::Check;
 ghost use mathlib.Core.Path.{_≡_};
 ghost use Prim.Native.Nat.{_<_, _≤_};
@@ -23,7 +23,7 @@ fn is_crossing(s: u64, r: u64) -> bool
     both != 0
 }
 
-// Whether s is no far side behind the far side `before`: 0 or not above it, with image 1, or with one beyond n. Of 64 images none is beyond.
+// Whether s is no far side behind the far side `before`: 0 or not above it, or with image 0, or with one beyond n. Of 64 images none is beyond, and nothing is shifted by 64.
 fn is_bad_side(n: usize, before: u64, s: u64) -> bool
     requires { ⌜ n ≤ 64 ⌝ }
     ensures { λ r. ⌜ r ≡ badSide n before s ⌝ }
@@ -109,7 +109,7 @@ fn first_bad_row(limit: u32, n: usize, fars: &[u64], costs: &[u32]) -> usize
     k
 }
 
-// The far side of the own link of image i, from 0: i alone, and for image 0 all the others.
+// The far side of the own link of image i, from 0: i alone, and for image 0 all the others, which are twice all below 2^(n-1).
 pub fn own_link(n: usize, i: usize) -> u64
     requires { ⌜ (3 ≤ n) × (n ≤ 64) × (i < n) ⌝ }
     ensures { λ r. ⌜ r ≡ own n i ⌝ }

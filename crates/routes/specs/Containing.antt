@@ -93,7 +93,7 @@ module _ (L n N : ℕ) (l v : List ℕ) (t : Links L n N l v) where
       cases (eqb (getD (uppers l) (N - 1) 0) 0) (λ e. eqb-true (getD (uppers l) (N - 1) 0) 0 e)
       (λ e. absurd (omega (arith, upper-later l (N - 1) (omega arith) (omega (arith, eqb-false (getD (uppers l) (N - 1) 0) 0 e)), upper-most l (N - 1) (omega arith))))
 
-  -- an upper row is the smallest of the other far sides that contain the row: each of them contains it
+  -- the upper row is the smallest that contains the row: every other row that contains the row contains its upper row too
   pub upper-smallest : (k : ℕ) → k + 1 < N → (j : ℕ) → j < N → (j ≡ k → ⊥) → contains (getD l j 0) (getD l k 0) ≡ true
       → contains (getD l j 0) (getD l (getD (uppers l) k 0 - 1) 0) ≡ true
   upper-smallest k h j b d e =

@@ -22,13 +22,14 @@ use Rattle.routes.specs.Climbs.{climb-between, climb-last, climb-next, c
 use Rattle.routes.specs.Containing.{contains-holds, full-contains-all, last-place, last-row, later-contains, own-at, row-side, rows-ascend, upper-none}
 use Rattle.routes.specs.UpperRows.{upper-contains, upper-first, upper-later, upper-most}
 
--- ## The rows that hold image i, of those that climb
+-- ## The rows that hold an image
 
--- row r, numbered from 1, is one of the rows and holds image i
+-- row r, numbered from 1, holds image i
 abbrev pub heldBy : List ℕ → ℕ → ℕ → Bool
 heldBy l i r = holds (getD l (r - 1) 0) i
 
 module _ (L n N : ℕ) (l v : List ℕ) (t : Links L n N l v) (i : ℕ) (hi : i < n) where
+  -- from a row that holds i a climb has only such rows
   climb-holds : (m r : ℕ) → 0 < r → r ≤ N → heldBy l i r ≡ true → Each (climb (uppers l) m r) (λ q. (1 ≤ q) × (q ≤ N) × (heldBy l i q ≡ true))
   climb-holds zero r a b s = each-nil _
   climb-holds (suc m) zero a b s = absurd (omega arith)
@@ -43,6 +44,7 @@ module _ (L n N : ℕ) (l v : List ℕ) (t : Links L n N l v) (i : ℕ) (hi : i 
       let h : p < length l = omega arith in
       climb-holds m u g (omega (arith, upper-most l p h)) (contains-holds n (getD l (u - 1) 0) (getD l p 0) i hi (upper-contains l p h g) (rw e at s))))
 
+  -- and every such row above
   climb-all : (m r : ℕ) → 0 < r → r ≤ N → N < r + m → heldBy l i r ≡ true → (q : ℕ) → r ≤ q → q ≤ N → heldBy l i q ≡ true → List·Memᴰ q (climb (uppers l) m r)
   climb-all zero r a b c s q x y z = absurd (omega arith)
   climb-all (suc m) zero a b c s q x y z = absurd (omega arith)
@@ -64,6 +66,7 @@ from-between : (i m : ℕ) → Between i (from i m) (i + m)
 from-between i zero = omega arith
 from-between i (suc m) = (omega arith, let e : i + suc m ≡ suc i + m = omega arith in rw e (from-between (suc i) m))
 
+-- the own link of an image other than 0 holds it, and no smaller far side does
 pub own-holds : (n i : ℕ) → 0 < i → holds (own n i) i ≡ true
 own-holds n zero h = absurd (omega arith)
 own-holds n (suc i) h = bit-holds (2 ^ suc i) (suc i) (bit-pow (suc i))
@@ -95,6 +98,7 @@ module _ (L n N : ℕ) (l v : List ℕ) (t : Links L n N l v) where
       (λ q m. let c = filter-mem (heldBy l i) (from 1 N) q m in let b = from-mem 1 N q (c .1) in
       climb-all L n N l v t i h (length l) o (p .0) (p .1) (omega arith) s q (low i q a h p b (c .0)) (omega arith) (c .0))
     where
+      -- no row before the own link holds the image
       low : (i q : ℕ) → 0 < i → i < n → (0 < placeOf 1 (own n i) l) × (placeOf 1 (own n i) l ≤ N) → (1 ≤ q) × (q < 1 + N) → heldBy l i q ≡ true → placeOf 1 (own n i) l ≤ q
       low i q a h p b s =
           let o′ = placeOf 1 (own n i) l in
@@ -116,6 +120,7 @@ module _ (L n N : ℕ) (l v : List ℕ) (t : Links L n N l v) where
       let e : getD (route n l i) 0 0 ≡ o = ap (λ (m : List ℕ). getD m 0 0) (climb-next l o (p .0) (omega arith)) in
       rw e (own-at L n N l v t i h)
 
+  -- the last row is in every route
   pub route-ends : (i : ℕ) → i < n → getD (route n l i) (length (route n l i) - 1) 0 ≡ N
   route-ends zero h = rw route-first refl
   route-ends (suc i) h =

@@ -71,8 +71,8 @@ path-laws L n N l v t = record {
     T : List Row
     T = rowsOf l v
 
--- ## Upper rows: the last row is the own link of image 0 and has none; every other row has one, later, which contains it and is the smallest
--- of the other rows that do: each of them contains it
+-- ## Upper rows: the last row is the own link of image 0 and has none; every other row has one, a later row that contains it, and the smallest
+-- that does: every other row that contains the row contains its upper row too
 
 pub record UpperLaws (n N : ℕ) (l : List ℕ) : Type 0 where
   pub each : length (uppers l) ≡ N
