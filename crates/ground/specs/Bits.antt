@@ -1,8 +1,8 @@
 -- The bits of a number: bit i is 1 or 0. Assumes nothing.
 use mathlib.Core.Path.{ap, refl, _≡_}
-use Prim.Native.Nat.{min, suc, zero, ℕ, _%_, _*_, _+_, _-_, _/_, _<_, _^_, _≤_}
+use Prim.Native.Nat.{max, min, suc, zero, ℕ, _%_, _*_, _+_, _-_, _/_, _<_, _^_, _≤_}
 use native.Mathlib.Omega.{arith}
-use lib.Bits.{and-step, bitAnd}
+use lib.Bits.{and-step, bitAnd, bitOr, or-step}
 use lib.Dec.{eqb}
 use lib.Pow.{pow-pos, shr-shr}
 use borrow.Author.Tests.{eqb-false, eqb-true}
@@ -89,3 +89,9 @@ pub bit-and : (i x y : ℕ) → bit (bitAnd x y) i ≡ min (bit x i) (bit y i)
 bit-and zero x y = omega (arith, and-step x y)
 bit-and (suc i) x y =
     let e : bitAnd x y / 2 ≡ bitAnd (x / 2) (y / 2) = omega (arith, and-step x y) in rw e (bit-and i (x / 2) (y / 2))
+
+-- and x | y
+pub bit-or : (i x y : ℕ) → bit (bitOr x y) i ≡ max (bit x i) (bit y i)
+bit-or zero x y = omega (arith, or-step x y)
+bit-or (suc i) x y =
+    let e : bitOr x y / 2 ≡ bitOr (x / 2) (y / 2) = omega (arith, or-step x y) in rw e (bit-or i (x / 2) (y / 2))

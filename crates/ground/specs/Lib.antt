@@ -3,6 +3,7 @@
 pub mod Tests
 pub mod Bits
 pub mod Ones
+pub mod Shifts
 pub mod Least
 pub mod Signed
 -- Lists.

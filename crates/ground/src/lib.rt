@@ -1,6 +1,6 @@
 // What every crate uses and that says nothing of images: refusals, a range, a bit of a number, the lower of two numbers.
 ghost use mathlib.Core.Path.{_≡_};
-ghost use Prim.Native.Nat.{_<_, min};
+ghost use Prim.Native.Nat.{_^_, _<_, min};
 ghost use Rattle.ground.specs.Bits.{bit};
 ghost use Rattle.ground.specs.Refusals.{refusal, refuseIf, outside};
 
@@ -63,6 +63,14 @@ pub fn side(s: u64, i: usize) -> u64
     ensures { λ r. ⌜ r ≡ bit s i ⌝ }
 {
     (s >> i) & 1
+}
+
+// The number whose bit i alone is 1.
+pub fn bit_alone(i: usize) -> u64
+    requires { ⌜ i < 64 ⌝ }
+    ensures { λ r. ⌜ r ≡ 2 ^ i ⌝ }
+{
+    1u64 << i
 }
 
 // The lower of the two.

@@ -2,7 +2,6 @@
 pub mod Call
 pub mod Passed
 pub mod Outsiders
-pub mod Beyond
 pub mod Grown
 -- What the promise is worth.
 pub mod Promises

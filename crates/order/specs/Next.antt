@@ -3,15 +3,13 @@ use mathlib.Core.Bool.{cond, _&&_}
 use mathlib.Core.List.{List, [], _∷_}
 use mathlib.Core.Logic.{inl, inr, _⊎_}
 use mathlib.Core.Path.{ap, refl, sym, _∙_, _≡_}
-use Prim.Native.Nat.{max, suc, zero, ℕ, _%_, _*_, _+_, _/_, _<_, _^_}
-use native.Mathlib.Nat.{mod-eq-of-lt}
+use Prim.Native.Nat.{max, suc, zero, ℕ, _+_, _<_, _^_}
 use native.Mathlib.Omega.{arith}
-use lib.Bits.{bitOr, or-step}
+use lib.Bits.{bitOr}
 use lib.Dec.{eqb}
-use lib.Pow.{pow-lt}
 use borrow.Author.Tests.{eqb-false, eqb-true, ne-eqb}
 use borrow.Table.Steps.{cases}
-use Rattle.ground.specs.Bits.{bit, bit-none, bit-pow, bit-pow-other}
+use Rattle.ground.specs.Bits.{bit, bit-none, bit-or, bit-pow, bit-pow-other}
 use Rattle.ground.specs.Folds.{fold}
 use Rattle.ground.specs.Members.{occurs}
 use Rattle.theory.specs.Laws.Next.{Least, None, next-is}
@@ -35,15 +33,6 @@ turn-lt d f x placed w b n l h =
 -- the bits of placed are the images of l
 pub record Marks (placed : ℕ) (l : List ℕ) : Type 0 where
   pub told : (u : ℕ) → eqb (bit placed u) 0 ≡ eqb (occurs u l) 0
-
-bit-or : (i x y : ℕ) → bit (bitOr x y) i ≡ max (bit x i) (bit y i)
-bit-or zero x y = omega (arith, or-step x y)
-bit-or (suc i) x y =
-    let e : bitOr x y / 2 ≡ bitOr (x / 2) (y / 2) = omega (arith, or-step x y) in rw e (bit-or i (x / 2) (y / 2))
-
--- the bit of one image, in 64 bits
-pub shift-one : (i : ℕ) → i < 64 → 1 * 2 ^ i % 18446744073709551616 ≡ 2 ^ i
-shift-one i h = let e : 1 * 2 ^ i ≡ 2 ^ i = omega arith in rw e (mod-eq-of-lt (pow-lt {i = i} {j = 64} h))
 
 pub marks-none : Marks 0 []
 marks-none = record { told = λ u. rw (bit-none u) }

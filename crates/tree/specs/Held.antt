@@ -1,27 +1,33 @@
 -- The measured reading of the first k images, held in local arrays: what is known of it, and that it grows. Assumes nothing.
-use mathlib.Core.List.{List, List·Memᴰ, List·Memᴰ·head, Memᴰ·append-left, Memᴰ·append-right, [], _++_, _∷_}
-use mathlib.Core.Path.{ap, subst, _∙_, _≡_}
+use mathlib.Core.Bool.{not, true}
+use mathlib.Core.List.{List, List·Memᴰ, List·Memᴰ·head, Memᴰ·append-left, Memᴰ·append-right, [], append-assoc, _++_, _∷_}
+use mathlib.Core.Path.{ap, ap₂, subst, sym, _∙_, _≡_}
 use Prim.Native.Nat.{suc, zero, ℕ, _*_, _+_, _<_, _^_, _≤_}
+use native.Mathlib.Numerals.{add-one}
 use native.Mathlib.Omega.{arith}
-use lib.Dec.{eqb}
-use lib.ListN.{getD, length, length-append, length-map}
+use lib.Dec.{eqb, ltb}
+use lib.ListN.{getD, length, length-append, length-map, length-set}
 use lib.Pow.{pow-lt}
 use borrow.Author.Tests.{eqb-false, eqb-true}
 use borrow.Table.Steps.{cases}
 use Rattle.ground.specs.Bits.{bit}
 use Rattle.ground.specs.Counts.{count}
-use Rattle.ground.specs.Filters.{filter-mem}
+use Rattle.ground.specs.Filters.{filter-mem, keep}
 use Rattle.ground.specs.Maps.{map-mem}
-use Rattle.theory.specs.FarSides.{sides}
+use Rattle.ground.specs.Tests.{false-not, or-l}
+use Rattle.theory.specs.FarSides.{inner, sides}
 use Rattle.theory.specs.Laws.FarSides.{sides-far}
+use Rattle.theory.specs.Laws.FourPoint.{well-formed-less}
 use Rattle.theory.specs.Laws.Index.{clipped-cap}
-use Rattle.theory.specs.Laws.ReadingGrows.{measured-step, more}
+use Rattle.theory.specs.Laws.OwnLinks.{own-not-inner}
+use Rattle.theory.specs.Laws.ReadingGrows.{measured-step, more, stays}
 use Rattle.theory.specs.Laws.RowsGrow.{rows-most}
 use Rattle.theory.specs.LinkTables.{Row}
 use Rattle.theory.specs.Readings.{drawn, measured, row, rows}
 use Rattle.theory.specs.Tables.{WellFormed}
-use Rattle.tree.specs.Growing.{stayed, step-stayed}
-use Rattle.tree.specs.LocalRows.{rowsIn, rowsIn-none}
+use Rattle.tree.specs.Growing.{Turned, stayed, step-stayed, turned}
+use Rattle.tree.specs.LocalRows.{rowsIn, rowsIn-length, rowsIn-none}
+use Rattle.tree.specs.Putting.{PutAll, Room}
 
 pub record Held (L : ℕ) (d : ℕ → ℕ → ℕ) (k : ℕ) (f v : List ℕ) (count : ℕ) : Type 0 where
   pub is : rowsIn f v count ≡ measured L d k
@@ -71,3 +77,63 @@ module _ (L : ℕ) (d : ℕ → ℕ → ℕ) where
   grown-room (suc k) h c =
       let e = simp (length-append, length-map) at (ap length (grown (suc k) h c)) in
       omega (arith, rows-most L d k c)
+
+  -- the own link of the new image always stays
+  own-stays : (k v : ℕ) → 1 ≤ k → stays (suc k) (2 ^ k, v) ≡ true
+  own-stays zero v h = absurd (omega arith)
+  own-stays (suc k) v h = or-l (not (inner (suc (suc k)) (2 ^ suc k))) (ltb 0 v) (false-not (inner (suc (suc k)) (2 ^ suc k)) (own-not-inner k (suc k) (omega arith)))
+
+  module _ (n k count : ℕ) (f v : List ℕ) (c : WellFormed L d n) (few : n ≤ 64) (h : 1 ≤ k) (l : k < n) (p : Held L d k f v count) where
+    fewer : WellFormed L d (suc k)
+    fewer = well-formed-less L d (suc k) n l c
+
+    -- there is room for the old rows with image k outside
+    pub room-outside : (f₀ v₀ : List ℕ) → length f₀ ≡ 128 → length v₀ ≡ 128 → Room L d k 0 f v count 0 f₀ v₀
+    room-outside f₀ v₀ e g = record { for-fars = rw (p .is) (omega (arith, grown-room k h fewer)); for-costs = rw (p .is) (omega (arith, grown-room k h fewer)) }
+
+    module _ (f₀ v₀ : List ℕ) (e : length f₀ ≡ 128) (g : length v₀ ≡ 128) (a : ℕ) (f₁ v₁ : List ℕ) (q : PutAll L d k 0 (rowsIn f v count) 0 f₀ v₀ a f₁ v₁) where
+      outside-rows : rowsIn f₁ v₁ a ≡ stayed L d k 0 (measured L d k)
+      outside-rows = q .put ∙ ap₂ _++_ (rowsIn-none f₀ v₀) (ap (stayed L d k 0) (p .is))
+
+      outside-count : a ≡ length (stayed L d k 0 (measured L d k))
+      outside-count = sym (rowsIn-length f₁ v₁ a) ∙ ap length outside-rows
+
+      -- for its own link
+      pub room-own : (a < length f₁) × (a < length v₁)
+      room-own = (omega (arith, outside-count, grown-room k h fewer, q .far-size), omega (arith, outside-count, grown-room k h fewer, q .cost-size))
+
+      module _ (b : ℕ) (f₂ v₂ : List ℕ) (t : Turned L d k (2 ^ k) (2 * L) a f₁ v₁ b f₂ v₂) where
+        own-rows : rowsIn f₂ v₂ b ≡ stayed L d k 0 (measured L d k) ++ (more L d k (2 ^ k) (2 * L) ∷ [])
+        own-rows = turned L d k (2 ^ k) (2 * L) a f₁ v₁ b f₂ v₂ (room-own .0) (room-own .1) t
+            ∙ ap₂ _++_ outside-rows (ap (λ s. keep s (more L d k (2 ^ k) (2 * L)) []) (own-stays k (more L d k (2 ^ k) (2 * L) .1) h))
+
+        own-count : b ≡ suc a
+        own-count = sym (rowsIn-length f₂ v₂ b) ∙ ap length own-rows ∙ simp length-append (omega (arith, outside-count))
+
+        sizes : (length f₂ ≡ 128) × (length v₂ ≡ 128)
+        sizes = (rw (t .far-stored) (simp length-set (q .far-size ∙ e)), rw (t .cost-stored) (simp length-set (q .cost-size ∙ g)))
+
+        -- and for the old rows with image k inside
+        pub room-inside : Room L d k (2 ^ k) f v count b f₂ v₂
+        room-inside = record {
+          for-fars = rw (p .is) (omega (arith, own-count, outside-count, grown-room k h fewer, sizes));
+          for-costs = rw (p .is) (omega (arith, own-count, outside-count, grown-room k h fewer, sizes));
+        }
+
+        pub held-more : (r : ℕ) (f₃ v₃ : List ℕ) → PutAll L d k (2 ^ k) (rowsIn f v count) b f₂ v₂ r f₃ v₃ → Held L d (k + 1) f₃ v₃ r
+        held-more r f₃ v₃ s =
+            let all = s .put ∙ ap₂ _++_ own-rows (ap (stayed L d k (2 ^ k)) (p .is))
+            ∙ append-assoc (stayed L d k 0 (measured L d k)) (more L d k (2 ^ k) (2 * L) ∷ []) (stayed L d k (2 ^ k) (measured L d k))
+            ∙ sym (grown k h fewer) in
+            record {
+              is = rw add-one all;
+              far-room = s .far-size ∙ sizes .0;
+              cost-room = s .cost-size ∙ sizes .1;
+              few = few-rows (sym (rowsIn-length f₃ v₃ r) ∙ ap length all);
+            }
+          where
+            few-rows : r ≡ length (measured L d (suc k)) → r ≤ 128
+            few-rows m = omega (arith, whole, grown-room k h fewer)
+              where
+                whole : length (measured L d (suc k)) ≡ length (stayed L d k 0 (measured L d k)) + suc (length (stayed L d k (2 ^ k) (measured L d k)))
+                whole = ap length (grown k h fewer) ∙ length-append (stayed L d k 0 (measured L d k)) (more L d k (2 ^ k) (2 * L) ∷ stayed L d k (2 ^ k) (measured L d k))

@@ -1,5 +1,6 @@
 // The two readings of a cost table as a tree. Images are counted from 0.
-use ground::{Check, Written};
+use ground::Check;
+use ground::Written;
 ghost use mathlib.Core.Path.{_≡_};
 ghost use Prim.Native.Nat.{_+_, _-_, _*_, _^_, _<_, _≤_, suc, min};
 ghost use lib.ListN.{length};
@@ -45,7 +46,16 @@ fn stay(n: usize, s: u64, c: u32) -> usize
 }
 
 // The row of the far side s with image k, stored at the place `at`; the count of rows goes on if it stays.
-fn turn_row(t: &[u32], n: usize, k: usize, s: u64, c: u32, at: usize, fars: &mut [u64], costs: &mut [u32]) -> usize
+fn turn_row(
+    t: &[u32],
+    n: usize,
+    k: usize,
+    s: u64,
+    c: u32,
+    at: usize,
+    fars: &mut [u64],
+    costs: &mut [u32],
+) -> usize
     requires { ⌜ CostTable limit n (now t) × (k < n) × (c ≤ 2 * limit) × (at < length (now fars)) × (at < length (now costs)) ⌝ }
     ensures { λ r. ⌜ Turned limit (cost (now (t .entry)) n) k s c at (now (fars .entry)) (now (costs .entry)) r (now (fars .exit)) (now (costs .exit)) ⌝ }
 {
@@ -56,7 +66,18 @@ fn turn_row(t: &[u32], n: usize, k: usize, s: u64, c: u32, at: usize, fars: &mut
 }
 
 // The old rows f and v with image k on the side that `add` puts it, behind the rows up to the place `at`; the new count of rows.
-fn put_rows(t: &[u32], n: usize, k: usize, add: u64, f: &[u64], v: &[u32], count: usize, at: usize, fars: &mut [u64], costs: &mut [u32]) -> usize
+fn put_rows(
+    t: &[u32],
+    n: usize,
+    k: usize,
+    add: u64,
+    f: &[u64],
+    v: &[u32],
+    count: usize,
+    at: usize,
+    fars: &mut [u64],
+    costs: &mut [u32],
+) -> usize
     requires { ⌜ CostTable limit n (now t) × (k < n) × Held limit (cost (now t) n) k (now f) (now v) count × (add ≤ 2 ^ k) × Room limit (cost (now t) n) k add (now f) (now v) count at (now fars) (now costs) ⌝ }
     ensures { λ r. ⌜ PutAll limit (cost (now (t .entry)) n) k add (rowsIn (now (f .entry)) (now (v .entry)) count) at (now (fars .entry)) (now (costs .entry)) r (now (fars .exit)) (now (costs .exit)) ⌝ }
 {
@@ -67,4 +88,35 @@ fn put_rows(t: &[u32], n: usize, k: usize, add: u64, f: &[u64], v: &[u32], count
         i += 1;
     }
     place
+}
+
+// The rows over one image more, k, from the rows over the first k: the old rows with image k outside, its own link, the old rows
+// with image k inside. They ascend by themselves, and no more than two are added (Law C3).
+fn grow(t: &[u32], n: usize, k: usize, rows: Rows) -> Rows
+    requires { ⌜ CostTable limit n (now t) × (1 ≤ k) × (k < n) × Held limit (cost (now t) n) k (rows .fars) (rows .costs) (rows .count) ⌝ }
+    ensures { λ r. ⌜ Held limit (cost (now (t .entry)) n) (k + 1) (r .fars) (r .costs) (r .count) ⌝ }
+{
+    let f = rows.fars;
+    let v = rows.costs;
+    let count = rows.count;
+    let mut fars = [0u64; 128];
+    let mut costs = [0u32; 128];
+    let outside = put_rows(t, n, k, 0, &f, &v, count, 0, &mut fars, &mut costs);
+    let image = ground::bit_alone(k);
+    let own = turn_row(
+        t,
+        n,
+        k,
+        image,
+        2 * theory::LIMIT,
+        outside,
+        &mut fars,
+        &mut costs,
+    );
+    let all = put_rows(t, n, k, image, &f, &v, count, own, &mut fars, &mut costs);
+    Rows {
+        count: all,
+        fars,
+        costs,
+    }
 }

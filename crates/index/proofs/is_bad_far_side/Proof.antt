@@ -5,7 +5,7 @@ use native.Mathlib.Nat.{div-eq-of-lt}
 use native.Mathlib.Omega.{arith}
 use borrow.Author.Needs.{needs}
 use borrow.Author.Tests.{eq-eqb, ne-eqb}
-use Rattle.index.specs.Beyond.{all-within, beyond}
+use Rattle.ground.specs.Shifts.{all-within, beyond}
 use Rattle.index.proofs.is_bad_far_side.Statement.{statement}
 use Rattle.index.proofs.is_bad_far_side.Tie as tie
 
