@@ -4,3 +4,4 @@ pub mod LocalRows
 pub mod Growing
 pub mod Putting
 pub mod Held
+pub mod Writing

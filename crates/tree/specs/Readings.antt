@@ -1,5 +1,5 @@
 -- What the two readings answer, and what they leave in the two lent slices.
-use mathlib.Core.Bool.{_||_}
+use mathlib.Core.Bool.{Bool, _||_}
 use mathlib.Core.List.{List}
 use mathlib.Core.Path.{_≡_}
 use Prim.Native.Nat.{ℕ, _*_, _-_}
@@ -19,8 +19,11 @@ use Rattle.wiring.specs.Check.{wiringCheck}
 use Rattle.ground.specs.declared.Written.the-variants as written
 
 -- 3: too little room, 2 n - 3 places in each output
+abbrev pub short : ℕ → ℕ → ℕ → Bool
+short need f v = ltb f need || ltb v need
+
 abbrev pub roomCheck : ℕ → ℕ → ℕ → Check
-roomCheck n f v = refuseIf (ltb f (2 * n - 3) || ltb v (2 * n - 3)) (refusal 3 0 0 0 0)
+roomCheck n f v = refuseIf (short (2 * n - 3) f v) (refusal 3 0 0 0 0)
 
 -- 1, 2, 3, 4, 5, 6, where f and v are the lengths of the outputs
 abbrev pub measuredCheck : ℕ → ℕ → List ℕ → ℕ → ℕ → Check

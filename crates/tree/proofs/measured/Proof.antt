@@ -1,0 +1,49 @@
+-- `tree::measured` meets its contract: everything is checked before the first store. Assumes nothing.
+use mathlib.Core.Path.{_∙_, sym}
+use borrow.Author.Needs.{needs}
+use Rattle.theory.specs.Tables.{limit}
+use Rattle.tree.specs.Writing.{measured-passed, leaves-refused, leaves-written}
+use Rattle.tree.proofs.measured.Statement.{statement}
+use Rattle.tree.proofs.measured.Tie as tie
+
+check-measured-requires : tie.Need-check-measured-requires
+check-measured-requires c κs = search needs
+
+enum-known-c : tie.Need-enum-known-c
+enum-known-c c = search needs
+
+enum-told : tie.Need-enum-told
+enum-told c = search needs
+
+write-reading-requires : tie.Need-write-reading-requires
+write-reading-requires c κs =
+    let r = measured-passed limit _ _ _ _ .0 (sym (c .before .before .before .before .check-measured .ensures) ∙ c .before .before .enum-told .given .1) in
+    (r .table, r .far-room, r .cost-room)
+
+returns : tie.Need-returns
+returns c = leaves-refused _ _ _ _ (c .before .c .given .1) (c .before .before .before .check-measured .ensures)
+
+same-length : tie.Need-same-length
+same-length c = search needs
+
+same-length-2 : tie.Need-same-length-2
+same-length-2 c = search needs
+
+returns-2 : tie.Need-returns-2
+returns-2 c =
+    let w = c .before .before .before .before in
+    let e = w .before .before .before in
+    leaves-written _ _ _ _ _ _ _ (e .enum-told .given .1) (e .before .before .check-measured .ensures) (w .write-reading .ensures)
+
+pub measured-spec : {M : Type 1} → statement M
+measured-spec =
+    tie.close
+    (tie.spec
+    check-measured-requires
+    enum-known-c
+    enum-told
+    write-reading-requires
+    returns
+    same-length
+    same-length-2
+    returns-2)
