@@ -5,3 +5,5 @@ pub mod Growing
 pub mod Putting
 pub mod Held
 pub mod Writing
+-- What the promises are worth.
+pub mod Promises
