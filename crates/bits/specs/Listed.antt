@@ -1,7 +1,8 @@
 -- A list made place by place from a function, and a buffer whose front is written with it place by place. Assumes nothing.
-use mathlib.Core.List.{List, [], _++_, _∷_}
+use mathlib.Core.List.{List, [], append-assoc, append-nil, _++_, _∷_}
 use mathlib.Core.Path.{ap, ap₂, refl, sym, _∙_, _≡_}
 use Prim.Native.Nat.{suc, zero, ℕ, _+_, _<_, _≤_}
+use native.Mathlib.Nat.{add-suc, add-zero}
 use native.Mathlib.Numerals.{add-one}
 use native.Mathlib.Omega.{arith}
 use lib.Dec.{ltb}
@@ -62,3 +63,10 @@ module _ (f : ℕ → ℕ) where
 
 pub listed-same : (f g : ℕ → ℕ) (n : ℕ) → ((i : ℕ) → i < n → f i ≡ g i) → listed f n ≡ listed g n
 listed-same f g n h = listed-is f n (listed g n) (length-listed g n) (λ i k. listed-at g n i k ∙ sym (h i k))
+
+-- a + b of them are the first a, then b from there on
+pub listed-add : (f : ℕ → ℕ) (a b : ℕ) → listed f (a + b) ≡ listed f a ++ listed (λ k. f (a + k)) b
+unfolding listed
+listed-add f a zero = ap (listed f) (add-zero a) ∙ sym (append-nil (listed f a))
+listed-add f a (suc b) =
+    ap (listed f) (add-suc a b) ∙ ap (λ (l : List ℕ). l ++ (f (a + b) ∷ [])) (listed-add f a b) ∙ append-assoc (listed f a) (listed (λ k. f (a + k)) b) (f (a + b) ∷ [])

@@ -1,0 +1,6 @@
+-- The laws, from the stored order up to the round trips.
+pub mod Entries
+pub mod Tables
+pub mod Sizes
+pub mod Passed
+pub mod Outcomes

@@ -1,0 +1,27 @@
+-- How code that stops at the first refusal meets an outcome, and that no second answer does. Assumes nothing.
+use mathlib.Core.List.{List}
+use mathlib.Core.Path.{sym, _∙_, _≡_}
+use Prim.Native.Nat.{ℕ}
+use Rattle.ground.specs.Buffers.{front}
+use Rattle.ground.specs.declared.Check.{Check}
+use Rattle.ground.specs.declared.Check.the-variants.{Passed, Refused}
+use Rattle.ground.specs.declared.Refusal.{Refusal}
+use Rattle.stored_costs.specs.Outcomes.{Gives, Outcome, frontIf, tableIf}
+use Rattle.stored_costs.specs.declared.StoredCosts.the-variants.{Table}
+use Rattle.stored_costs.specs.declared.StoredCosts.the-variants as stored
+
+pub table-stops : {x : Check} {r : Refusal} (y : Check) (n used : ℕ) → x ≡ Refused r → x ≡ y → stored.Refused r ≡ tableIf y n used
+table-stops y n used e f = rw (← f, e)
+
+pub table-goes : {x : Check} {m v : ℕ} (y : Check) (n used : ℕ) → x ≡ Passed → x ≡ y → m ≡ n → v ≡ used → Table m v ≡ tableIf y n used
+table-goes y n used e f g h = rw (← f, e, g, h)
+
+pub front-stops : (y : Check) {r : Refusal} (m d : List ℕ) → y ≡ Refused r → d ≡ frontIf y m d
+front-stops y m d e = rw e
+
+pub front-goes : (y : Check) (m d e : List ℕ) → y ≡ Passed → e ≡ front m d → e ≡ frontIf y m d
+front-goes y m d e p q = rw p q
+
+-- the promise of a call decides its answer and what it leaves
+pub gives-once : {A : Type 0} {o : Outcome A} {a b : A} {l m : List ℕ} → Gives o a l → Gives o b m → (a ≡ b) × (l ≡ m)
+gives-once p q = (p .answered ∙ sym (q .answered), p .left ∙ sym (q .left))

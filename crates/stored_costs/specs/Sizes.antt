@@ -1,0 +1,14 @@
+-- What the functions below the public calls are given. Assumes nothing.
+use Prim.Native.Nat.{ℕ, _*_, _≤_}
+use Rattle.stored_costs.specs.Form.{costEnd}
+
+-- numbers so small that nothing overflows
+pub record Small (head w n : ℕ) : Type 0 where
+  pub short : head ≤ 7
+  pub narrow : w ≤ 32
+  pub few : n ≤ 64
+
+-- and the entries stand within so many bytes
+pub record Held (head w n bytes : ℕ) : Type 0 where
+  pub small : Small head w n
+  pub within : costEnd head w n ≤ 8 * bytes
