@@ -4,3 +4,6 @@ pub mod Tables
 pub mod Sizes
 pub mod Passed
 pub mod Outcomes
+pub mod Form
+pub mod Putting
+pub mod Writable

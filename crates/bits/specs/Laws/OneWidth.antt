@@ -1,8 +1,9 @@
 -- Fields of one width, one after another: where field k stands, one field more, and all of them read. Assumes nothing.
 use mathlib.Core.List.{List, [], append-assoc, append-nil, _++_, _∷_}
-use mathlib.Core.Path.{ap, ap₂, sym, _∙_, _≡_}
+use mathlib.Core.Path.{ap, ap₂, refl, sym, _∙_, _≡_}
 use Prim.Native.Nat.{suc, zero, ℕ, _*_, _+_, _<_, _^_, _≤_}
 use native.Mathlib.Nat.{add-zero, mul-le-mul-left, mul-suc, mul-zero}
+use native.Mathlib.Numerals.{add-one}
 use native.Mathlib.Omega.{arith}
 use lib.ListN.{getD, length, length-append}
 use Rattle.bits.specs.Bits.{AllBits, bits, bitsOf, overAt, part, valueOf}
@@ -10,7 +11,7 @@ use Rattle.bits.specs.Forms.{fieldValue, fieldsOf, formBits}
 use Rattle.bits.specs.Laws.Numbers.{all-bits-part, bits-value, length-bitsOf, value-bits}
 use Rattle.bits.specs.Laws.Parts.{length-part, over-at-none, over-at-twice, part-cut, part-more}
 use Rattle.bits.specs.Laws.Turns.{value-part-lt}
-use Rattle.bits.specs.Listed.{listed}
+use Rattle.bits.specs.Listed.{length-listed, listed, listed-more}
 
 pub length-fields : (w : ℕ) (vs : List ℕ) → length (formBits (fieldsOf w vs)) ≡ w * length vs
 unfolding formBits
@@ -42,6 +43,13 @@ fields-more w [] v = append-nil (bitsOf w v)
 fields-more w (x ∷ vs) v =
     ap (λ (l : List ℕ). bitsOf w x ++ l) (fields-more w vs v) ∙ sym (append-assoc (bitsOf w x) (formBits (fieldsOf w vs)) (bitsOf w v))
 
+-- more fields of the same width
+pub fields-append : (w : ℕ) (vs us : List ℕ) → formBits (fieldsOf w (vs ++ us)) ≡ formBits (fieldsOf w vs) ++ formBits (fieldsOf w us)
+unfolding formBits
+fields-append w [] us = refl
+fields-append w (v ∷ vs) us =
+    ap (λ (l : List ℕ). bitsOf w v ++ l) (fields-append w vs us) ∙ sym (append-assoc (bitsOf w v) (formBits (fieldsOf w vs)) (formBits (fieldsOf w us)))
+
 -- no field yet, and one field more, written over directly behind those before it
 pub over-at-fields-none : (l : List ℕ) (position w : ℕ) → l ≡ overAt l position (formBits (fieldsOf w []))
 unfolding formBits
@@ -52,6 +60,19 @@ pub over-at-fields : (l : List ℕ) (position w p v : ℕ) (vs : List ℕ) → p
 over-at-fields l position w p v vs e h =
     over-at-twice l position (formBits (fieldsOf w vs)) (bitsOf w v) p (omega (arith, length-fields w vs)) (omega (arith, length-bitsOf w v))
     ∙ ap (overAt l position) (sym (fields-more w vs v))
+
+pub over-at-append : (l : List ℕ) (position w p : ℕ) (vs us : List ℕ) → p ≡ position + w * length vs → p + w * length us ≤ length l
+    → overAt (overAt l position (formBits (fieldsOf w vs))) p (formBits (fieldsOf w us)) ≡ overAt l position (formBits (fieldsOf w (vs ++ us)))
+over-at-append l position w p vs us e h =
+    over-at-twice l position (formBits (fieldsOf w vs)) (formBits (fieldsOf w us)) p (omega (arith, length-fields w vs)) (omega (arith, length-fields w us))
+    ∙ ap (overAt l position) (sym (fields-append w vs us))
+
+pub over-at-listed : (l : List ℕ) (position w k p v : ℕ) (f : ℕ → ℕ) → p ≡ position + w * k → p + w ≤ length l → v ≡ f k
+    → overAt (overAt l position (formBits (fieldsOf w (listed f k)))) p (bitsOf w v) ≡ overAt l position (formBits (fieldsOf w (listed f (k + 1))))
+over-at-listed l position w k p v f e h q =
+    ap (λ (x : ℕ). overAt (overAt l position (formBits (fieldsOf w (listed f k)))) p (bitsOf w x)) q
+    ∙ over-at-fields l position w p (f k) (listed f k) (e ∙ ap (λ (x : ℕ). position + w * x) (sym (length-listed f k))) h
+    ∙ ap (λ (vs : List ℕ). overAt l position (formBits (fieldsOf w vs))) (sym (listed-more f k))
 
 -- field k read is the bits it stands in
 field-part : (l : List ℕ) (position w k : ℕ) → AllBits l → position + w * k + w ≤ length l → bitsOf w (fieldValue l position w k) ≡ part l (position + w * k) w
@@ -70,6 +91,9 @@ fields-part l position w (suc m) b h =
     fields-more w (listed f m) (f m)
     ∙ ap₂ (λ (x y : List ℕ). x ++ y) (fields-part l position w m b (omega (arith, mul-suc w m))) (field-part l position w m b (omega (arith, mul-suc w m)))
     ∙ sym (ap (part l position) (mul-suc w m) ∙ part-more l position (w * m) w)
+
+pub times-more : (w k : ℕ) → w * (k + 1) ≡ w * k + w
+times-more w k = ap (λ (x : ℕ). w * x) (add-one k) ∙ mul-suc w k
 
 -- field k ends before the end of the m
 pub field-end : (position w m k : ℕ) → k < m → position + w * k + w ≤ position + w * m

@@ -15,6 +15,10 @@ use Rattle.stored_costs.specs.Entries.{entries, entriesTo, entryCount, e
 
 -- ## Where the rows begin
 
+pub row-none : (n : ℕ) → rowStart n 0 ≡ 0
+unfolding rowStart
+row-none n = refl
+
 pub row-more : (n i : ℕ) → rowStart n (i + 1) ≡ rowStart n i + (n - (i + 1))
 unfolding rowStart
 row-more n i = ap (rowStart n) (add-one i)
@@ -49,6 +53,10 @@ module _ (d : ℕ → ℕ → ℕ) (n : ℕ) where
   unfolding entriesTo rowStart
   length-entries zero = refl
   length-entries (suc i) = omega (arith, length-append (entriesTo d n i) (rowEntries d n i), length-entries i, length-row i)
+
+  pub entries-more : (i : ℕ) → entriesTo d n (i + 1) ≡ entriesTo d n i ++ rowEntries d n i
+  unfolding entriesTo
+  entries-more i = ap (entriesTo d n) (add-one i)
 
   row-at : (i j : ℕ) → i < j → j < n → getD (rowEntries d n i) (j - (i + 1)) 0 ≡ d i j
   unfolding rowEntries
