@@ -24,6 +24,10 @@ costUsed head w n = bytesFor (costEnd head w n)
 
 -- ## What the bytes s say
 
+-- what stands in front of n
+abbrev pub markOf : ℕ → List ℕ → ℕ
+markOf head s = valueOf (part (bits s) 0 head)
+
 -- n
 unfoldable pub imagesOf : ℕ → List ℕ → ℕ
 imagesOf head s = valueOf (part (bits s) head 7)

@@ -7,3 +7,6 @@ pub mod Outcomes
 pub mod Form
 pub mod Putting
 pub mod Writable
+pub mod ReadBack
+pub mod WriteBack
+pub mod Positions

@@ -7,3 +7,5 @@ pub mod Writing
 pub mod Sizes
 -- What is true of them.
 pub mod Laws
+pub mod RoundTrips
+pub mod Examples

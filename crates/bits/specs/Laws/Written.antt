@@ -15,12 +15,12 @@ pub over-at-front : (l k : List ℕ) → overAt l 0 k ≡ k ++ drop (length k) l
 unfolding overAt
 over-at-front l k = ap (λ (n : ℕ). k ++ drop n l) (zero-add (length k))
 
-all-bytes-append : (a b : List ℕ) → AllBytes a → AllBytes b → AllBytes (a ++ b)
+pub all-bytes-append : (a b : List ℕ) → AllBytes a → AllBytes b → AllBytes (a ++ b)
 all-bytes-append [] b ha hb i = hb i
 all-bytes-append (x ∷ a) b ha hb zero = ha 0
 all-bytes-append (x ∷ a) b ha hb (suc i) = all-bytes-append a b (λ k. ha (suc k)) hb i
 
-all-bytes-drop : (n : ℕ) (l : List ℕ) → AllBytes l → AllBytes (drop n l)
+pub all-bytes-drop : (n : ℕ) (l : List ℕ) → AllBytes l → AllBytes (drop n l)
 all-bytes-drop zero l h i = h i
 all-bytes-drop (suc n) [] h i = h i
 all-bytes-drop (suc n) (x ∷ l) h i = all-bytes-drop n l (λ k. h (suc k)) i
