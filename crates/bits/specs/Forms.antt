@@ -46,20 +46,9 @@ packed l = bytesOf (bytesFor (length l)) (filled l)
 unfoldable pub formBytes : List Field → List ℕ
 formBytes fs = packed (formBits fs)
 
--- the values read back from l, field by field at these widths
-unfoldable pub readValues : List ℕ → List ℕ → List ℕ
-readValues [] l = []
-readValues (w ∷ ws) l = valueOf (take w l) ∷ readValues ws (drop w l)
-
 -- the value in field k of those of width w that begin at the position
 unfoldable pub fieldValue : List ℕ → ℕ → ℕ → ℕ → ℕ
 fieldValue l position w k = valueOf (part l (position + w * k) w)
-
--- the form with these widths and values
-unfoldable pub formOf : List ℕ → List ℕ → List Field
-formOf [] vs = []
-formOf (w ∷ ws) [] = []
-formOf (w ∷ ws) (v ∷ vs) = field w v ∷ formOf ws vs
 
 -- every value fits its width
 pub data AllFit : List Field → Type 0 where

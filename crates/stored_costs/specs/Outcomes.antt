@@ -12,17 +12,17 @@ use Rattle.stored_costs.specs.declared.StoredCosts.{StoredCosts}
 use Rattle.stored_costs.specs.declared.StoredCosts.the-variants.{Table}
 use Rattle.stored_costs.specs.declared.StoredCosts.the-variants as stored
 
--- an answer, and the lent slice at exit
+-- an answer, and the lent places as they are left
 pub record Outcome (A : Type 0) : Type 0 where
   pub answer : A
-  pub lent : List ℕ
+  pub places : List ℕ
 
--- the call answers and leaves just that
-pub record Gives {A : Type 0} (o : Outcome A) (answer : A) (lent : List ℕ) : Type 0 where
-  pub answered : answer ≡ o .answer
-  pub left : lent ≡ o .lent
+-- the call answered r and left the places e
+pub record Left {A : Type 0} (w : Outcome A) (r : A) (e : List ℕ) : Type 0 where
+  pub answered : r ≡ w .answer
+  pub left : e ≡ w .places
 
--- m at the front of the lent slice d where the check passed, else d as it was
+-- m at the front of the lent places d where the check passed; where it refused they are as they were
 abbrev pub frontIf : Check → List ℕ → List ℕ → List ℕ
 frontIf Passed m d = front m d
 frontIf (Refused r) m d = d
@@ -42,5 +42,5 @@ abbrev pub readOutcome : ℕ → ℕ → ℕ → List ℕ → ℕ → List ℕ �
 readOutcome head w L bytes position out =
     record {
       answer = judged head w L bytes position (length out);
-      lent = frontIf (readAtChecks head w L bytes position (length out)) (costsOf head w (imagesOf head (drop (position / 8) bytes)) (drop (position / 8) bytes)) out;
+      places = frontIf (readAtChecks head w L bytes position (length out)) (costsOf head w (imagesOf head (drop (position / 8) bytes)) (drop (position / 8) bytes)) out;
     }

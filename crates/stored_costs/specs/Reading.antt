@@ -18,7 +18,7 @@ endCheck s needed = refuseIf (ltb (length s) needed) (refusal 9 0 0 0 0)
 
 -- 3: too little room for so many places
 abbrev pub roomCheck : ℕ → ℕ → Check
-roomCheck room needed = refuseIf (ltb room needed) (refusal 3 0 0 0 0)
+roomCheck needed room = refuseIf (ltb room needed) (refusal 3 0 0 0 0)
 
 -- 11: fill bits not zero
 abbrev pub fillCheck : ℕ → Check
@@ -39,7 +39,7 @@ positionCheck bytes position = refuseIf (misplaced (length bytes) position) (ref
 
 -- 9, 1, 3
 abbrev pub startChecks : ℕ → List ℕ → ℕ → Check
-startChecks head s room = endCheck s (bytesFor (head + 7)) then imagesCheck (imagesOf head s) then roomCheck room (imagesOf head s * imagesOf head s)
+startChecks head s room = endCheck s (bytesFor (head + 7)) then imagesCheck (imagesOf head s) then roomCheck (imagesOf head s * imagesOf head s) room
 
 -- 9, 11
 abbrev pub bodyChecks : ℕ → ℕ → ℕ → List ℕ → Check

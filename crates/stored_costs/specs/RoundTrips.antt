@@ -24,7 +24,7 @@ fits = omega arith
 -- Reading what was written gives the table back.
 pub reading-undoes-writing : (n : ℕ) (t out places : List ℕ) → CostTable limit n t → costUsed 0 20 n ≤ length out → n * n ≤ length places
     → (writeOutcome 0 0 20 limit n t out .answer ≡ Places (costUsed 0 20 n))
-    × (readOutcome 0 20 limit (writeOutcome 0 0 20 limit n t out .lent) 0 places ≡ readInto n (costUsed 0 20 n) t places)
+    × (readOutcome 0 20 limit (writeOutcome 0 0 20 limit n t out .places) 0 places ≡ readInto n (costUsed 0 20 n) t places)
 reading-undoes-writing n t out places c h k =
     let p : writeChecks 0 20 limit n t (length out) ≡ Passed = passed-write 0 20 limit n t (length out) c h in
     let m = costBytes 0 0 20 n (cost t n) in

@@ -13,12 +13,12 @@ use Rattle.stored_costs.specs.Reading.{roomCheck}
 
 -- 1, 2, 4, 5, 6, 3, room counting exact bytes
 abbrev pub writeChecks : ℕ → ℕ → ℕ → ℕ → List ℕ → ℕ → Check
-writeChecks head w L n t room = sizeCheck n t then costsCheck L (cost t n) n then roomCheck room (costUsed head w n)
+writeChecks head w L n t room = sizeCheck n t then costsCheck L (cost t n) n then roomCheck (costUsed head w n) room
 
 -- the bytes used, and the form's bytes at the front of the lent ones
 abbrev pub writeOutcome : ℕ → ℕ → ℕ → ℕ → ℕ → List ℕ → List ℕ → Outcome Written
 writeOutcome head mark w L n t out =
     record {
       answer = placesIf (writeChecks head w L n t (length out)) (costUsed head w n);
-      lent = frontIf (writeChecks head w L n t (length out)) (costBytes head mark w n (cost t n)) out;
+      places = frontIf (writeChecks head w L n t (length out)) (costBytes head mark w n (cost t n)) out;
     }

@@ -8,14 +8,13 @@ ghost use Prim.Native.Nat.{_*_, _+_, _-_, _<_, _≤_};
 ghost use lib.ListN.{length};
 ghost use Rattle.ground.specs.Buffers.{front};
 ghost use Rattle.ground.specs.Lowest.{checkAll};
-ghost use Rattle.ground.specs.Refusals.{_then_};
 ghost use Rattle.theory.specs.Tables.{cost, CostTable, limit};
-ghost use Rattle.tables.specs.Checks.{entryCheck, imagesCheck};
+ghost use Rattle.tables.specs.Checks.{entryCheck};
 ghost use Rattle.bits.specs.Bits.{bits, overAt};
 ghost use Rattle.bits.specs.Forms.{bytesFor, fieldsOf, formBits};
-ghost use Rattle.stored_costs.specs.Entries.{costOf, entries, entryCount, rowEntries, rowStart, tableOf};
+ghost use Rattle.stored_costs.specs.Entries.{costOf, entries, entryCount, rowEntries, rowStart};
 ghost use Rattle.stored_costs.specs.Form.{costBytes, costEnd, costsOf, costUsed, entryOf, imagesOf};
-ghost use Rattle.stored_costs.specs.Outcomes.{Gives, judged, readOutcome};
+ghost use Rattle.stored_costs.specs.Outcomes.{Left, judged, readOutcome};
 ghost use Rattle.stored_costs.specs.Reading.{bodyChecks, misplaced, readAtChecks, readChecks, startChecks, storedCheck};
 ghost use Rattle.stored_costs.specs.Sizes.{Held, Small, Span};
 ghost use Rattle.stored_costs.specs.Writing.{writeChecks, writeOutcome};
@@ -239,7 +238,7 @@ fn fill(head: usize, w: usize, n: usize, bytes: &[u8], out: &mut [u32])
 
 // The cost table at the position, into the lent places: everything is judged before the first store.
 pub fn read_costs(bytes: &[u8], position: usize, out: &mut [u32]) -> StoredCosts
-    ensures { λ r. ⌜ Gives (readOutcome 0 20 limit (now (bytes .entry)) position (now (out .entry))) r (now (out .exit)) ⌝ }
+    ensures { λ r. ⌜ Left (readOutcome 0 20 limit (now (bytes .entry)) position (now (out .entry))) r (now (out .exit)) ⌝ }
 {
     match judge_costs(bytes, position, out.len()) {
         StoredCosts::Refused(r) => StoredCosts::Refused(r),
@@ -309,7 +308,7 @@ fn check_write(head: usize, w: usize, limit: u32, n: usize, t: &[u32], room: usi
 
 // The stored form of the cost table t at the front of the lent bytes; the answer is the bytes used. No other byte is written.
 pub fn write_costs(n: usize, t: &[u32], out: &mut [u8]) -> Written
-    ensures { λ r. ⌜ Gives (writeOutcome 0 0 20 limit n (now (t .entry)) (now (out .entry))) r (now (out .exit)) ⌝ }
+    ensures { λ r. ⌜ Left (writeOutcome 0 0 20 limit n (now (t .entry)) (now (out .entry))) r (now (out .exit)) ⌝ }
 {
     match check_write(0, 20, theory::LIMIT, n, t, out.len()) {
         Check::Refused(r) => Written::Refused(r),

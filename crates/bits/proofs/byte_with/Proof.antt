@@ -1,17 +1,12 @@
 -- `bits::byte_with` meets its contract: the sum of the three pieces has their bits side by side. Assumes nothing.
 use borrow.Author.Needs.{needs}
 use mathlib.Core.Path.{_≡_}
-use Prim.Native.Nat.{ℕ, _+_, _-_, _^_, _<_}
+use Prim.Native.Nat.{_+_, _-_, _^_, _<_}
 use native.Mathlib.Nat.{div-mul-le-self}
 use native.Mathlib.Omega.{arith}
 use Rattle.bits.specs.Laws.Turns.{byteWith, byte-with-lt, byte-with-bits}
 use Rattle.bits.proofs.byte_with.Statement.{statement}
 use Rattle.bits.proofs.byte_with.Tie as tie
-use Rattle.bits.proofs.byte_with.Reads as reads
-use Rattle.bits.proofs.byte_with.Lts as lts
-use Rattle.bits.proofs.low_bits.Reads as low-bits-reads
-use Rattle.bits.proofs.raised.Reads as raised-reads
-use Rattle.bits.proofs.wide_byte.Reads as wide-byte-reads
 
 sub-j : tie.Need-sub-j
 sub-j c = search needs

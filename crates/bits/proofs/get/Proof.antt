@@ -1,19 +1,13 @@
 -- `bits::get` meets its contract: after each turn the number is the value of the bits done so far. Assumes nothing.
 use borrow.Author.Needs.{needs}
-use mathlib.Core.Path.{_≡_, refl, sym, ap, _∙_}
-use Prim.Native.Nat.{ℕ, _+_, _*_, _/_, _%_, _-_, _^_, _<_, _≤_}
+use mathlib.Core.Path.{_≡_, refl, _∙_}
+use Prim.Native.Nat.{_+_, _*_, _/_, _%_, _-_, _^_, _<_, _≤_}
 use native.Mathlib.Omega.{arith}
-use lib.ListN.{length, getD}
+use lib.ListN.{getD}
 use Rattle.bits.specs.Bits.{valueOf, part, bits}
 use Rattle.bits.specs.Laws.Turns.{get-turn, get-turn-lt}
 use Rattle.bits.proofs.get.Statement.{statement}
 use Rattle.bits.proofs.get.Tie as tie
-use Rattle.bits.proofs.get.Reads as reads
-use Rattle.bits.proofs.get.Lts as lts
-use Rattle.bits.proofs.bits_above.Reads as bits-above-reads
-use Rattle.bits.proofs.raised.Reads as raised-reads
-use Rattle.bits.proofs.turn_width.Reads as turn-width-reads
-use Rattle.bits.proofs.wide_byte.Reads as wide-byte-reads
 
 abbrev Inv-loop : tie.InvT-loop
 Inv-loop bytes position width value₀ done₀ value done = (done ≤ width) × (value ≡ valueOf (part (bits bytes) position done))

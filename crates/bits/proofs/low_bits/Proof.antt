@@ -4,8 +4,6 @@ use lib.Pow.{pow-pos}
 use Rattle.bits.specs.Laws.Turns.{one-shl}
 use Rattle.bits.proofs.low_bits.Statement.{statement}
 use Rattle.bits.proofs.low_bits.Tie as tie
-use Rattle.bits.proofs.low_bits.Reads as reads
-use Rattle.bits.proofs.low_bits.Lts as lts
 
 shl-m : tie.Need-shl-m
 shl-m c = search needs

@@ -2,21 +2,16 @@
 use borrow.Author.Needs.{needs}
 use mathlib.Core.List.{List}
 use mathlib.Core.Path.{_≡_, refl, sym, ap, _∙_}
-use Prim.Native.Nat.{ℕ, _+_, _*_, _/_, _%_, _-_, _^_, _<_, _≤_}
+use Prim.Native.Nat.{ℕ, _/_, _-_, _^_, _≤_}
 use native.Mathlib.Omega.{arith}
 use native.Mathlib.Nat.{mod-lt, div-one}
-use lib.ListN.{length, getD, length-set}
+use lib.ListN.{length, length-set}
 use lib.Pow.{pow-pos}
-use Rattle.bits.specs.Bits.{bitsOf, part, bits, overAt}
+use Rattle.bits.specs.Bits.{bitsOf, bits, overAt}
 use Rattle.bits.specs.Laws.Parts.{over-at-none}
 use Rattle.bits.specs.Laws.Turns.{put-turn}
 use Rattle.bits.proofs.put.Statement.{statement}
 use Rattle.bits.proofs.put.Tie as tie
-use Rattle.bits.proofs.put.Reads as reads
-use Rattle.bits.proofs.put.Lts as lts
-use Rattle.bits.proofs.bits_above.Reads as bits-above-reads
-use Rattle.bits.proofs.byte_with.Reads as byte-with-reads
-use Rattle.bits.proofs.turn_width.Reads as turn-width-reads
 
 abbrev Inv-loop : tie.InvT-loop
 Inv-loop bytes₀ position width value done₀ bytes done =

@@ -1,16 +1,14 @@
 -- The bits of a form: reading its fields back, and writing what was read. Assumes nothing.
 use mathlib.Core.List.{List, [], append-assoc, map, _++_, _∷_}
 use mathlib.Core.Path.{ap, ap₂, refl, sym, _∙_, _≡_}
-use Prim.Native.Nat.{suc, zero, ℕ, _*_, _+_, _<_, _≤_}
-use native.Mathlib.Nat.{add-zero, mul-suc, mul-zero}
+use Prim.Native.Nat.{ℕ, _≤_}
 use native.Mathlib.Omega.{arith}
-use lib.ListN.{drop, getD, length, length-append, length-drop, take}
+use lib.ListN.{drop, length, length-drop, take}
 use lib.Seq.{drop-at, length-take-le, take-add, take-at}
 use Rattle.ground.specs.Sums.{sum}
-use Rattle.bits.specs.Bits.{AllBits, bitsOf, none, part, valueOf}
-use Rattle.bits.specs.Forms.{AllFit, Field, also, field, fieldsOf, formBits, formOf, nothing, readValues}
+use Rattle.bits.specs.Bits.{AllBits, bitsOf, none, valueOf}
+use Rattle.bits.specs.Forms.{AllFit, Field, also, field, formBits, nothing}
 use Rattle.bits.specs.Laws.Numbers.{all-bits-append, all-bits-drop, all-bits-of, all-bits-take, bits-value, length-bitsOf, value-bits}
-use Rattle.bits.specs.Laws.Parts.{part-cut}
 
 pub form-append : (a b : List Field) → formBits (a ++ b) ≡ formBits a ++ formBits b
 unfolding formBits
@@ -21,6 +19,17 @@ pub all-bits-form : (fs : List Field) → AllBits (formBits fs)
 unfolding formBits
 all-bits-form [] = none
 all-bits-form (f ∷ fs) = all-bits-append (all-bits-of (f .width) (f .value)) (all-bits-form fs)
+
+-- the values read back from l, field by field at these widths
+unfoldable pub readValues : List ℕ → List ℕ → List ℕ
+readValues [] l = []
+readValues (w ∷ ws) l = valueOf (take w l) ∷ readValues ws (drop w l)
+
+-- the form with these widths and values
+unfoldable pub formOf : List ℕ → List ℕ → List Field
+formOf [] vs = []
+formOf (w ∷ ws) [] = []
+formOf (w ∷ ws) (v ∷ vs) = field w v ∷ formOf ws vs
 
 -- reading undoes writing, whatever follows
 pub read-back : {fs : List Field} → AllFit fs → (r : List ℕ) → readValues (map (λ f. f .width) fs) (formBits fs ++ r) ≡ map (λ f. f .value) fs

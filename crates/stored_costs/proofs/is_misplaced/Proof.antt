@@ -1,6 +1,5 @@
 -- `stored_costs::is_misplaced` meets its contract: each return rewrites with the tests that led there. Assumes nothing.
 use borrow.Author.Tests.{le-ltb, lt-ltb}
-use borrow.Author.Needs.{needs}
 use Rattle.stored_costs.proofs.is_misplaced.Statement.{statement}
 use Rattle.stored_costs.proofs.is_misplaced.Tie as tie
 

@@ -1,5 +1,5 @@
 -- `stored_costs::judge` meets its contract: the answer is a table where all checks passed. Assumes nothing.
-use mathlib.Core.Path.{refl, _∙_, _≡_, sym}
+use mathlib.Core.Path.{_∙_, _≡_, sym}
 use Prim.Native.Nat.{_%_, _/_, _≤_}
 use native.Mathlib.Omega.{arith}
 use lib.ListN.{drop, length}

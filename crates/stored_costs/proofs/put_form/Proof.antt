@@ -1,5 +1,4 @@
 -- `stored_costs::put_form` meets its contract: four writes, one behind the other, make the form. Assumes nothing.
-use mathlib.Core.Path.{_∙_, _≡_}
 use Prim.Native.Nat.{_+_, _/_, _≤_}
 use native.Mathlib.Omega.{arith}
 use lib.ListN.{length}
@@ -38,9 +37,9 @@ put-entries-requires c κs =
     let a = e .before .before .before in (
       a .pre .0,
       record {
-        narrow = a .pre .1 .narrow;
+        narrow = omega (arith, a .pre .1 .narrow);
         within = omega (arith, a .pre .2, c .before .before .before .put2 .kept .0, c .before .before .before .before .before .before .before .put .kept .0);
-        counted = end-le (a .args .head) (a .args .w) (a .args .n) (a .pre .1);
+        counted = omega (arith, end-le (a .args .head) (a .args .w) (a .args .n) (a .pre .1));
       },
     )
 

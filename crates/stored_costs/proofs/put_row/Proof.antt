@@ -1,7 +1,7 @@
 -- `stored_costs::put_row` meets its contract: each entry is put directly behind the one before. Assumes nothing.
 use mathlib.Core.List.{List}
 use mathlib.Core.Path.{ap, refl, _∙_, _≡_}
-use Prim.Native.Nat.{ℕ, _*_, _+_, _-_, _<_, _≤_}
+use Prim.Native.Nat.{ℕ, _*_, _+_, _-_, _≤_}
 use native.Mathlib.Nat.{mul-zero}
 use native.Mathlib.Omega.{arith}
 use lib.ListN.{length}

@@ -1,11 +1,9 @@
 -- `stored_costs::read_costs` meets its contract: the places are filled once all checks passed. Assumes nothing.
-use mathlib.Core.Path.{ap, sym, _∙_}
+use mathlib.Core.Path.{sym, _∙_}
 use Prim.Native.Nat.{_/_}
-use lib.ListN.{drop, length}
+use lib.ListN.{length}
 use Rattle.ground.specs.Buffers.{rest-part}
 use Rattle.theory.specs.Tables.{limit}
-use Rattle.stored_costs.specs.Form.{costsOf}
-use Rattle.stored_costs.specs.Outcomes.{Gives}
 use Rattle.stored_costs.specs.Laws.Outcomes.{front-goes, front-stops}
 use Rattle.stored_costs.specs.Laws.Passed.{TableAt, judged-refused, readable-held, table-at}
 use borrow.Author.Needs.{needs}

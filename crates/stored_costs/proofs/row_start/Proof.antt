@@ -1,6 +1,6 @@
 -- `stored_costs::row_start` meets its contract: one product less half another. Assumes nothing.
 use native.Mathlib.Omega.{arith}
-use Prim.Native.Nat.{ℕ, _*_, _+_, _≤_}
+use Prim.Native.Nat.{ℕ, _*_, _≤_}
 use native.Mathlib.Nat.{mul-le-mul}
 use Rattle.stored_costs.specs.Laws.Entries.{row-twice}
 use borrow.Author.Needs.{needs}

@@ -5,10 +5,8 @@ use native.Mathlib.Omega.{arith}
 use lib.ListN.{length}
 use Rattle.theory.specs.Tables.{CostTable, limit}
 use Rattle.stored_costs.specs.Form.{costUsed}
-use Rattle.stored_costs.specs.Outcomes.{Gives}
 use Rattle.stored_costs.specs.Sizes.{Small}
 use Rattle.stored_costs.specs.Laws.Outcomes.{front-goes, front-stops, places-goes, places-stops}
-use Rattle.stored_costs.specs.Laws.Sizes.{end-le}
 use Rattle.stored_costs.specs.Laws.Writable.{write-passed}
 use borrow.Author.Needs.{needs}
 use Rattle.stored_costs.proofs.write_costs.Statement.{statement}

@@ -8,7 +8,7 @@ use Rattle.ground.specs.declared.Check.{Check}
 use Rattle.ground.specs.declared.Check.the-variants.{Passed, Refused}
 use Rattle.ground.specs.declared.Refusal.{Refusal}
 use Rattle.ground.specs.declared.Written.the-variants.{Places}
-use Rattle.stored_costs.specs.Outcomes.{Gives, Outcome, frontIf, tableIf}
+use Rattle.stored_costs.specs.Outcomes.{Left, Outcome, frontIf, tableIf}
 use Rattle.stored_costs.specs.declared.StoredCosts.the-variants.{Table}
 use Rattle.ground.specs.declared.Written.the-variants as written
 use Rattle.stored_costs.specs.declared.StoredCosts.the-variants as stored
@@ -32,5 +32,5 @@ pub front-goes : (y : Check) (m d e : List ℕ) → y ≡ Passed → e ≡ front
 front-goes y m d e p q = rw p q
 
 -- the promise of a call decides its answer and what it leaves
-pub gives-once : {A : Type 0} {o : Outcome A} {a b : A} {l m : List ℕ} → Gives o a l → Gives o b m → (a ≡ b) × (l ≡ m)
-gives-once p q = (p .answered ∙ sym (q .answered), p .left ∙ sym (q .left))
+pub left-once : {A : Type 0} {o : Outcome A} {a b : A} {l m : List ℕ} → Left o a l → Left o b m → (a ≡ b) × (l ≡ m)
+left-once p q = (p .answered ∙ sym (q .answered), p .left ∙ sym (q .left))

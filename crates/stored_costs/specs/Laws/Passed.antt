@@ -43,8 +43,8 @@ pub start-passed : (head : ℕ) (s : List ℕ) (room : ℕ) → startChecks head
     → (bytesFor (head + 7) ≤ length s) × (3 ≤ imagesOf head s) × (imagesOf head s ≤ 64) × (imagesOf head s * imagesOf head s ≤ room)
 start-passed head s room e =
     let n = imagesOf head s in
-    let q = then-passed (endCheck s (bytesFor (head + 7))) (imagesCheck n then roomCheck room (n * n)) e in
-    let r = then-passed (imagesCheck n) (roomCheck room (n * n)) (q .1) in
+    let q = then-passed (endCheck s (bytesFor (head + 7))) (imagesCheck n then roomCheck (n * n) room) e in
+    let r = then-passed (imagesCheck n) (roomCheck (n * n) room) (q .1) in
     let o = outside-false 3 64 n (refuseIf-passed (outside 3 64 n) _ (r .0)) in
     (ltb-false _ _ (refuseIf-passed (ltb (length s) (bytesFor (head + 7))) _ (q .0)), o .0, o .1, ltb-false _ _ (refuseIf-passed (ltb room (n * n)) _ (r .1)))
 

@@ -25,10 +25,10 @@ use Rattle.stored_costs.specs.declared.StoredCosts.the-variants.{Table}
 
 -- an accepted reading, and an accepted writing, into the lent slice
 abbrev pub readInto : ℕ → ℕ → List ℕ → List ℕ → Outcome StoredCosts
-readInto n used t out = record { answer = Table n used; lent = front t out }
+readInto n used t out = record { answer = Table n used; places = front t out }
 
 abbrev pub wroteInto : ℕ → List ℕ → List ℕ → Outcome Written
-wroteInto used m out = record { answer = Places used; lent = front m out }
+wroteInto used m out = record { answer = Places used; places = front m out }
 
 module _ (head w L : ℕ) where
   -- what reading at the front of s gives
@@ -36,7 +36,7 @@ module _ (head w L : ℕ) where
   fromFront s out =
       record {
         answer = tableIf (readChecks head w L s (length out)) (imagesOf head s) (costUsed head w (imagesOf head s));
-        lent = frontIf (readChecks head w L s (length out)) (costsOf head w (imagesOf head s) s) out;
+        places = frontIf (readChecks head w L s (length out)) (costsOf head w (imagesOf head s) s) out;
       }
 
   read-front : (bytes s : List ℕ) (k : ℕ) (out : List ℕ) → k ≤ length bytes → drop k bytes ≡ s → readOutcome head w L bytes (8 * k) out ≡ fromFront s out

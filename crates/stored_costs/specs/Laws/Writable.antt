@@ -16,8 +16,8 @@ use Rattle.stored_costs.specs.Writing.{writeChecks}
 module _ (head w L n : ℕ) (t : List ℕ) (room : ℕ) where
   pub write-passed : writeChecks head w L n t room ≡ Passed → CostTable L n t × (costUsed head w n ≤ room)
   write-passed e =
-      let p = then-passed (sizeCheck n t) (costsCheck L (cost t n) n then roomCheck room (costUsed head w n)) e in
-      let q = then-passed (costsCheck L (cost t n) n) (roomCheck room (costUsed head w n)) (p .1) in
+      let p = then-passed (sizeCheck n t) (costsCheck L (cost t n) n then roomCheck (costUsed head w n) room) e in
+      let q = then-passed (costsCheck L (cost t n) n) (roomCheck (costUsed head w n) room) (p .1) in
       (cost-table L n t .0 (rw (p .0) (q .0)), ltb-false _ _ (refuseIf-passed (ltb room (costUsed head w n)) _ (q .1)))
 
   pub passed-write : CostTable L n t → costUsed head w n ≤ room → writeChecks head w L n t room ≡ Passed
