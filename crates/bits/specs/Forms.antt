@@ -9,6 +9,7 @@ pub record Field : Type 0 where
   pub width : ℕ
   pub value : ℕ
 
+-- the field of w bits with the value v
 abbrev pub field : ℕ → ℕ → Field
 field w v = record { width = w; value = v }
 

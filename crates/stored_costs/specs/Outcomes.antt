@@ -32,12 +32,12 @@ abbrev pub tableIf : Check → ℕ → ℕ → StoredCosts
 tableIf Passed n used = Table n used
 tableIf (Refused r) n used = stored.Refused r
 
--- ## Reading at a position, where so many places are lent
-
+-- what reading at the position answers, where so many places are lent: n and the bytes used by this table alone, or the first refusal
 abbrev pub judged : ℕ → ℕ → ℕ → List ℕ → ℕ → ℕ → StoredCosts
 judged head w L bytes position room =
     tableIf (readAtChecks head w L bytes position room) (imagesOf head (drop (position / 8) bytes)) (costUsed head w (imagesOf head (drop (position / 8) bytes)))
 
+-- that answer, and the whole table at the front of the lent places
 abbrev pub readOutcome : ℕ → ℕ → ℕ → List ℕ → ℕ → List ℕ → Outcome StoredCosts
 readOutcome head w L bytes position out =
     record {

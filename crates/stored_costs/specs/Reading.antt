@@ -1,4 +1,4 @@
--- Reading a stored cost table: the checks in document 01's order, and the outcome. Assumes nothing.
+-- Reading a stored cost table: the checks in document 01's order. Assumes nothing.
 use mathlib.Core.Bool.{Bool, _||_}
 use mathlib.Core.List.{List}
 use Prim.Native.Nat.{ℕ, _%_, _*_, _+_, _-_, _/_}
@@ -32,6 +32,7 @@ storedCheck L d n = checkAll (λ i. checkAll (entryCheck L d i) (i + 1) (n - (i 
 abbrev pub misplaced : ℕ → ℕ → Bool
 misplaced bytes position = ltb bytes (position / 8) || ltb 0 (position % 8)
 
+-- refused with 9 there
 abbrev pub positionCheck : List ℕ → ℕ → Check
 positionCheck bytes position = refuseIf (misplaced (length bytes) position) (refusal 9 0 0 0 0)
 

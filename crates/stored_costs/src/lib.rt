@@ -102,6 +102,7 @@ fn check_body(head: usize, w: usize, n: usize, bytes: &[u8]) -> Check
     ground::refuse_if(0 < bits::get(bytes, end, 8 * used - end), 11, 0, 0)
 }
 
+// Refusal 4 of one entry.
 fn check_entry(
     head: usize,
     w: usize,
@@ -193,6 +194,7 @@ fn check_at(head: usize, w: usize, limit: u32, bytes: &[u8], position: usize, ro
     check_stored(head, w, limit, &bytes[position / 8..], room)
 }
 
+// What reading at the position answers: n and the bytes used once all checks passed.
 fn judge(
     head: usize,
     w: usize,

@@ -35,10 +35,6 @@ pub over-at-none : (l : List ℕ) (position : ℕ) → overAt l position [] ≡ 
 unfolding overAt
 over-at-none l position = rw add-zero (take-append-drop position l)
 
-pub length-over-at : (l : List ℕ) (position : ℕ) (k : List ℕ) → position + length k ≤ length l → length (overAt l position k) ≡ length l
-unfolding overAt
-length-over-at l position k h = simp (length-append, length-drop, length-take-le position l (omega arith)) (omega arith)
-
 pub part-and-rest : (l : List ℕ) (n w : ℕ) → drop n l ≡ part l n w ++ drop (n + w) l
 unfolding part
 part-and-rest l n w = sym (ap (λ (x : List ℕ). take w (drop n l) ++ x) (sym (drop-drop w n l)) ∙ take-append-drop w (drop n l))
