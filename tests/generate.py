@@ -198,6 +198,8 @@ def tables(dice, good):
     for _ in range(good):
         n = small_n(dice)
         yield n, good_table(dice, n), True
+    for _ in range(5):
+        yield 9, tree(dice, 9, 20, "uneven"), True
     for n in BAD_N:
         yield n, [], False
     for n in (1, 2):
@@ -342,8 +344,7 @@ def compare_cases(dice):
         for n2, t2 in example_tables():
             if n == n2 and (n != 3 or dice.chance(1, 2)):
                 yield n, t, t2
-    for _ in range(50):
-        n = small_n(dice)
+    for n in [small_n(dice) for _ in range(50)] + [9] * 6:
         one, two = related_rows(dice, n)
         yield n, tree_table(n, even_rows(one)), tree_table(n, even_rows(two))
     for _ in range(20):
@@ -486,7 +487,7 @@ def links(dice, good):
     for _ in range(good):
         n = small_n(dice)
         yield n, good_links(dice, n)
-    for n, shape in ((33, "uneven"), (64, "star"), (64, "caterpillar")):
+    for n, shape in [(9, "uneven")] * 5 + [(33, "uneven"), (64, "star"), (64, "caterpillar")]:
         yield n, tree_rows(dice, n, shape, 9, even=False)
 
 
@@ -812,8 +813,7 @@ def choice_cases(dice):
             if dice.chance(1, 2):
                 yield (stored(law.EXAMPLES[name][0], law.MEASURED[name]),
                        stored(law.EXAMPLES[other][0], law.MEASURED[other]))
-    for _ in range(60):
-        n = small_n(dice)
+    for n in [small_n(dice) for _ in range(60)] + [9] * 6:
         one, two = related_rows(dice, n)
         yield stored(n, one), stored(n, two)
     for n in (33, 64):
