@@ -3,3 +3,5 @@ pub mod Differ
 pub mod Tally
 pub mod Merge
 pub mod Formula
+pub mod Distance
+pub mod InnerRows
