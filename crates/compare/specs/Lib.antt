@@ -1,0 +1,4 @@
+-- What the contracts of `compare` cite: the answer in document 01's words, and what reading one table gives.
+pub mod Call
+pub mod Chain
+pub mod Read
