@@ -2,3 +2,6 @@
 pub mod Call
 pub mod Chain
 pub mod Read
+-- What the promise is worth.
+pub mod Accepted
+pub mod Promise
