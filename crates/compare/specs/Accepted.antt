@@ -13,15 +13,15 @@ use Rattle.theory.specs.FourPoint.{FourPoint}
 use Rattle.theory.specs.Tables.{CostTable, cost}
 use Rattle.tables.specs.Checks.{imagesCheck}
 use Rattle.tables.specs.Formed.{passed-costs}
+use Rattle.wiring.specs.Promises.{wiring-passed}
+use Rattle.counts.specs.Differ.{differ}
+use Rattle.counts.specs.declared.Difference.{Difference}
 use Rattle.compare.specs.Call.{againstSecond, bothTables, comparison, numbered, sidesOf, tableCheck}
 use Rattle.compare.specs.Chain.{images-passed}
 use Rattle.compare.specs.Read.{table-passed}
 use Rattle.compare.specs.declared.Comparison.{Comparison}
 use Rattle.compare.specs.declared.Comparison.the-variants.{Compared}
 use Rattle.compare.specs.declared.Comparison.the-variants as answer
-use Rattle.counts.specs.Differ.{differ}
-use Rattle.counts.specs.declared.Difference.{Difference}
-use Rattle.wiring.specs.Promises.{wiring-passed}
 
 -- a table that the exact reading accepts
 pub record Accepted (L n : ℕ) (t : List ℕ) : Type 0 where

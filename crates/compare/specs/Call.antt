@@ -2,17 +2,17 @@
 use mathlib.Core.List.{List}
 use Prim.Native.Nat.{ℕ}
 use Rattle.ground.specs.Refusals.{_then_}
-use Rattle.ground.specs.declared.Check.the-variants.{Passed, Refused}
 use Rattle.ground.specs.declared.Check.{Check}
+use Rattle.ground.specs.declared.Check.the-variants.{Passed, Refused}
 use Rattle.theory.specs.LinkTables.{fars}
 use Rattle.theory.specs.Readings.{measured}
 use Rattle.theory.specs.Tables.{cost}
 use Rattle.tables.specs.Checks.{costsCheck, imagesCheck, lengthCheck}
 use Rattle.wiring.specs.Check.{wiringCheck}
 use Rattle.counts.specs.Differ.{differ}
-use Rattle.compare.specs.declared.Comparison.the-variants as answer
-use Rattle.compare.specs.declared.Comparison.the-variants.{Compared}
 use Rattle.compare.specs.declared.Comparison.{Comparison}
+use Rattle.compare.specs.declared.Comparison.the-variants.{Compared}
+use Rattle.compare.specs.declared.Comparison.the-variants as answer
 
 -- 2, 4, 5, 6, 7 of one table
 abbrev pub tableCheck : ℕ → ℕ → List ℕ → Check

@@ -2,13 +2,13 @@
 use mathlib.Core.Path.{_≡_}
 use Prim.Native.Nat.{ℕ, _≤_}
 use Rattle.ground.specs.Refusals.{outside, outside-false, refusal, refuseIf-passed}
-use Rattle.ground.specs.declared.Check.the-variants.{Passed, Refused}
 use Rattle.ground.specs.declared.Check.{Check}
+use Rattle.ground.specs.declared.Check.the-variants.{Passed, Refused}
 use Rattle.ground.specs.declared.Refusal.{Refusal}
 use Rattle.tables.specs.Checks.{imagesCheck}
 use Rattle.compare.specs.Call.{numbered}
-use Rattle.compare.specs.declared.Comparison.the-variants as answer
 use Rattle.compare.specs.declared.Comparison.{Comparison}
+use Rattle.compare.specs.declared.Comparison.the-variants as answer
 
 pub numbered-stops : (m : ℕ) (c : Check) (y : Comparison) {r : Refusal} → c ≡ Refused r → answer.Refused m r ≡ numbered m c y
 numbered-stops m c y e = rw e

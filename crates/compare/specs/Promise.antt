@@ -20,15 +20,15 @@ use Rattle.theory.specs.Laws.FarSides.{sides-all, sides-between}
 use Rattle.theory.specs.LinkTables.{LinkTable, Row, far, fars}
 use Rattle.theory.specs.Readings.{Exact, measured}
 use Rattle.theory.specs.Tables.{cost}
-use Rattle.compare.specs.Accepted.{Accepted, compare-accepted, compare-accepts}
-use Rattle.compare.specs.Call.{comparison, sidesOf}
-use Rattle.compare.specs.declared.Comparison.{Comparison}
-use Rattle.compare.specs.declared.Comparison.the-variants.{Compared}
 use Rattle.counts.specs.Differ.{differ, overOf}
 use Rattle.counts.specs.Distance.{differing-exactly, differing-over, differing-sym, differing-zero}
 use Rattle.counts.specs.Formula.{formula}
 use Rattle.counts.specs.InnerRows.{inner-most}
 use Rattle.counts.specs.declared.Difference.{Difference}
+use Rattle.compare.specs.Accepted.{Accepted, compare-accepted, compare-accepts}
+use Rattle.compare.specs.Call.{comparison, sidesOf}
+use Rattle.compare.specs.declared.Comparison.{Comparison}
+use Rattle.compare.specs.declared.Comparison.the-variants.{Compared}
 
 -- the inner far sides of a tree
 abbrev pub innerRows : ℕ → List Row → List ℕ

@@ -9,12 +9,12 @@ use lib.Seq.{take-at}
 use borrow.Author.Tests.{le-ltb}
 use Rattle.ground.specs.Ascending.{Between}
 use Rattle.ground.specs.Refusals.{placesIf, then-assoc, then-passed, _then_}
-use Rattle.ground.specs.declared.Check.the-variants.{Passed, Refused}
 use Rattle.ground.specs.declared.Check.{Check}
+use Rattle.ground.specs.declared.Check.the-variants.{Passed, Refused}
 use Rattle.ground.specs.declared.Refusal.{Refusal}
-use Rattle.ground.specs.declared.Written.the-variants as written
-use Rattle.ground.specs.declared.Written.the-variants.{Places}
 use Rattle.ground.specs.declared.Written.{Written}
+use Rattle.ground.specs.declared.Written.the-variants.{Places}
+use Rattle.ground.specs.declared.Written.the-variants as written
 use Rattle.theory.specs.Demands.{OneTree, measured-reading}
 use Rattle.theory.specs.LinkTables.{Row, far, fars}
 use Rattle.theory.specs.Readings.{measured}

@@ -1,16 +1,13 @@
 -- How many rows of a tree are inner: at most n - 3, as n of its 2 n - 3 rows at most are own links. Assumes nothing.
-use mathlib.Core.Bool.{Bool, false, not}
+use mathlib.Core.Bool.{Bool, not}
 use mathlib.Core.List.{List, [], _∷_}
 use mathlib.Core.Path.{refl, _≡_}
 use Prim.Native.Nat.{suc, zero, ℕ, _+_, _<_, _≤_}
 use native.Mathlib.Omega.{arith}
-use lib.Count.{ones}
-use lib.Dec.{leb}
 use lib.ListN.{length, length-map}
 use lib.Pow.{pow-lt, pow-mono, pow-pos}
-use borrow.Author.Tests.{leb-true, lt-leb}
 use borrow.Table.Steps.{cases}
-use Rattle.ground.specs.Filters.{filter, filter-none, mem-filter}
+use Rattle.ground.specs.Filters.{filter, mem-filter}
 use Rattle.ground.specs.Tests.{false-not}
 use Rattle.theory.specs.Comparison.{inners}
 use Rattle.theory.specs.Demands.{one-tree}
@@ -44,10 +41,3 @@ inner-most L (suc (suc (suc k))) T h t =
         length-least (own n) n (filter (λ x. not (inner n x)) (fars T))
         (λ i l. mem-filter (λ x. not (inner n x)) (own n i) (false-not (inner n (own n i)) (own-not-inner (suc k) i l)) (fars T) (t .owns i l))
         (own-differ k)
-
--- of three images no division is inner
-pub inner-three : (S : ℕ) → inner 3 S ≡ false
-inner-three S = cases (leb 2 (ones S)) (λ e. rw (e, lt-leb (ones S + 2) 3 (omega (arith, leb-true 2 (ones S) e)))) (λ e. rw e)
-
-pub inners-three : (l : List ℕ) → inners 3 l ≡ []
-inners-three l = filter-none (inner 3) l (λ S m. inner-three S)

@@ -18,7 +18,7 @@ use Rattle.theory.specs.FarSides.{inner}
 use Rattle.counts.specs.Tally.{one-if-le}
 
 -- a number below an ascending list does not stand in it
-pub isIn-below : (m k x : ℕ) (l : List ℕ) → x < m → Between m l k → isIn x l ≡ false
+isIn-below : (m k x : ℕ) (l : List ℕ) → x < m → Between m l k → isIn x l ≡ false
 isIn-below m k x [] h b = refl
 isIn-below m k x (y ∷ l) h b = rw (ne-eqb x y (λ e. omega arith)) (isIn-below (suc y) k x l (omega arith) (b .1))
 
@@ -37,7 +37,7 @@ more k x y l r a h = common-skip x k y (x ∷ l) r h (omega arith, a .1)
 same : (k x y : ℕ) (l r : List ℕ) → Between 0 (x ∷ l) k → x ≡ y → common (x ∷ l) (y ∷ r) ≡ x ∷ common l r
 same k x y l r a e = rw (eq-eqb x y e) (ap (λ t. x ∷ t) (common-skip (suc x) k y l r (omega arith) (a .1)))
 
-pub between-drop : (m k i : ℕ) (l : List ℕ) → Between m l k → Between 0 (drop i l) k
+between-drop : (m k i : ℕ) (l : List ℕ) → Between m l k → Between 0 (drop i l) k
 between-drop m k zero l b = between-from 0 m k l (omega arith) b
 between-drop m k (suc i) [] b = omega arith
 between-drop m k (suc i) (x ∷ l) b = between-drop (suc x) k i l (b .1)
@@ -64,7 +64,7 @@ isIn-filter p x (y ∷ r) e =
     cases (p y) (λ t. rw (t, ih))
     (λ t. cases (eqb x y) (λ f. absurd (false≢true (sym t ∙ ap p (sym (eqb-true x y f)) ∙ e))) (λ f. rw (t, f) ih))
 
-pub common-filter : (p : ℕ → Bool) (l r : List ℕ) → common (filter p l) (filter p r) ≡ filter p (common l r)
+common-filter : (p : ℕ → Bool) (l r : List ℕ) → common (filter p l) (filter p r) ≡ filter p (common l r)
 common-filter p [] r = refl
 common-filter p (x ∷ l) r =
     let ih = common-filter p l r in
