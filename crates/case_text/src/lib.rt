@@ -63,7 +63,11 @@ fn lesser(x: usize, y: usize) -> usize
 
 // A number as an element of 32 bits; the largest where it is too large.
 fn narrow32(x: u64) -> u32 {
-    if x <= 4294967295 { x as u32 } else { 4294967295 }
+    if x <= 4294967295 {
+        x as u32
+    } else {
+        4294967295
+    }
 }
 
 // A number as a byte; the largest where it is too large.

@@ -1,12 +1,12 @@
 // Cases of the calls over cost tables.
 use case_text::number_at;
-use case_text::show32;
-use case_text::show64;
 use case_text::show_answer;
 use case_text::show_first;
 use case_text::show_next;
 use case_text::show_places;
 use case_text::show_written;
+use case_text::show32;
+use case_text::show64;
 use case_text::take32;
 use case_text::take64;
 use compare::Comparison;

@@ -1,8 +1,8 @@
 // Cases of the calls over link tables.
 use case_text::number_at;
-use case_text::show32;
 use case_text::show_answer;
 use case_text::show_written;
+use case_text::show32;
 use case_text::take32;
 use case_text::take64;
 

@@ -1,13 +1,13 @@
 // Cases of the calls over stored forms.
 use case_text::number_at;
-use case_text::show32;
-use case_text::show8;
 use case_text::show_first;
 use case_text::show_next;
 use case_text::show_refusal;
 use case_text::show_written;
-use case_text::take32;
+use case_text::show8;
+use case_text::show32;
 use case_text::take8;
+use case_text::take32;
 use stored_costs::StoredCosts;
 
 // n, the cost table, the output.
@@ -45,7 +45,11 @@ pub fn read_costs_case(text: &[u8], at: usize) -> usize {
     let mut out = [0u32; 4200];
     let lent = take32(text, position.next, &mut out);
     let room = lent.count;
-    show_stored_costs(stored_costs::read_costs(&bytes[..length], position.value as usize, &mut out[..room]));
+    show_stored_costs(stored_costs::read_costs(
+        &bytes[..length],
+        position.value as usize,
+        &mut out[..room],
+    ));
     show32(&out[..room]);
     lent.next
 }
