@@ -1,94 +1,60 @@
-// Cases of the calls over cost tables.
+// Cases that begin with n and a cost table. Each function reads the other arguments, makes its call, prints what the call answers
+// and leaves, and gives the place behind the case.
+use crate::calls::COMPARE;
+use crate::calls::EXACT;
+use crate::calls::INDEX;
+use crate::calls::MEASURED;
+use crate::calls::ORDER;
 use case_text::number_at;
 use case_text::show_answer;
 use case_text::show_first;
 use case_text::show_next;
 use case_text::show_places;
 use case_text::show_written;
+use case_text::show8;
 use case_text::show32;
 use case_text::show64;
+use case_text::take8;
 use case_text::take32;
 use case_text::take64;
 use compare::Comparison;
 use counts::Difference;
 
-// n, the cost table, the far side.
-pub fn index_case(text: &[u8], at: usize) -> usize {
-    let n = number_at(text, at);
-    let mut t = [0u32; 4200];
-    let table = take32(text, n.next, &mut t);
-    let size = table.count;
-    let s = number_at(text, table.next);
-    show_answer(index::index(n.value as usize, &t[..size], s.value));
+fn index_case(n: usize, t: &[u32], text: &[u8], at: usize) -> usize {
+    let s = number_at(text, at);
+    show_answer(index::index(n, t, s.value));
     s.next
 }
 
-// n, the cost table, the first and the last image, the output.
-pub fn order_case(text: &[u8], at: usize) -> usize {
-    let n = number_at(text, at);
-    let mut t = [0u32; 4200];
-    let table = take32(text, n.next, &mut t);
-    let size = table.count;
-    let first = number_at(text, table.next);
+fn order_case(n: usize, t: &[u32], text: &[u8], at: usize) -> usize {
+    let first = number_at(text, at);
     let last = number_at(text, first.next);
-    let mut out = [0u32; 4200];
-    let lent = take32(text, last.next, &mut out);
-    let room = lent.count;
-    show_written(order::order(
-        n.value as usize,
-        &t[..size],
-        first.value as usize,
-        last.value as usize,
-        &mut out[..room],
-    ));
-    show32(&out[..room]);
-    lent.next
+    let mut places = [0u32; 4200];
+    let room = take32(text, last.next, &mut places);
+    let count = room.count;
+    let out = &mut places[..count];
+    show_written(order::order(n, t, first.value as usize, last.value as usize, out));
+    show32(out);
+    room.next
 }
 
-// n, the cost table, the two outputs.
-pub fn measured_case(text: &[u8], at: usize) -> usize {
-    let n = number_at(text, at);
-    let mut t = [0u32; 4200];
-    let table = take32(text, n.next, &mut t);
-    let size = table.count;
-    let mut fars = [0u64; 4200];
-    let sides = take64(text, table.next, &mut fars);
-    let f = sides.count;
-    let mut costs = [0u32; 4200];
-    let doubled = take32(text, sides.next, &mut costs);
-    let v = doubled.count;
-    show_written(tree::measured(
-        n.value as usize,
-        &t[..size],
-        &mut fars[..f],
-        &mut costs[..v],
-    ));
-    show64(&fars[..f]);
-    show32(&costs[..v]);
-    doubled.next
-}
-
-// n, the cost table, the two outputs.
-pub fn exact_case(text: &[u8], at: usize) -> usize {
-    let n = number_at(text, at);
-    let mut t = [0u32; 4200];
-    let table = take32(text, n.next, &mut t);
-    let size = table.count;
-    let mut fars = [0u64; 4200];
-    let sides = take64(text, table.next, &mut fars);
-    let f = sides.count;
-    let mut costs = [0u32; 4200];
-    let doubled = take32(text, sides.next, &mut costs);
-    let v = doubled.count;
-    show_written(tree::exact(
-        n.value as usize,
-        &t[..size],
-        &mut fars[..f],
-        &mut costs[..v],
-    ));
-    show64(&fars[..f]);
-    show32(&costs[..v]);
-    doubled.next
+fn reading_case(call: u32, n: usize, t: &[u32], text: &[u8], at: usize) -> usize {
+    let mut sides = [0u64; 4200];
+    let side_room = take64(text, at, &mut sides);
+    let side_count = side_room.count;
+    let fars = &mut sides[..side_count];
+    let mut doubled = [0u32; 4200];
+    let cost_room = take32(text, side_room.next, &mut doubled);
+    let cost_count = cost_room.count;
+    let costs = &mut doubled[..cost_count];
+    if call == MEASURED {
+        show_written(tree::measured(n, t, fars, costs));
+    } else {
+        show_written(tree::exact(n, t, fars, costs));
+    }
+    show64(fars);
+    show32(costs);
+    cost_room.next
 }
 
 // Prints what the comparison counts.
@@ -113,15 +79,45 @@ fn show_comparison(answer: Comparison) {
     }
 }
 
-// n and the two cost tables.
-pub fn compare_case(text: &[u8], at: usize) -> usize {
-    let n = number_at(text, at);
-    let mut t = [0u32; 4200];
-    let first = take32(text, n.next, &mut t);
-    let size = first.count;
-    let mut u = [0u32; 4200];
-    let second = take32(text, first.next, &mut u);
-    let length = second.count;
-    show_comparison(compare::compare(n.value as usize, &t[..size], &u[..length]));
+fn compare_case(n: usize, t: &[u32], text: &[u8], at: usize) -> usize {
+    let mut entries = [0u32; 4200];
+    let second = take32(text, at, &mut entries);
+    let count = second.count;
+    show_comparison(compare::compare(n, t, &entries[..count]));
     second.next
+}
+
+fn write_costs_case(n: usize, t: &[u32], text: &[u8], at: usize) -> usize {
+    let mut bytes = [0u8; 4200];
+    let room = take8(text, at, &mut bytes);
+    let count = room.count;
+    let out = &mut bytes[..count];
+    show_written(stored_costs::write_costs(n, t, out));
+    show8(out);
+    room.next
+}
+
+// A case of this call, behind its n and its cost table.
+fn case_of(call: u32, n: usize, t: &[u32], text: &[u8], at: usize) -> usize {
+    if call == INDEX {
+        return index_case(n, t, text, at);
+    }
+    if call == ORDER {
+        return order_case(n, t, text, at);
+    }
+    if call <= EXACT {
+        return reading_case(call, n, t, text, at);
+    }
+    if call == COMPARE {
+        return compare_case(n, t, text, at);
+    }
+    write_costs_case(n, t, text, at)
+}
+
+pub fn cost_case(call: u32, text: &[u8], at: usize) -> usize {
+    let n = number_at(text, at);
+    let mut entries = [0u32; 4200];
+    let table = take32(text, n.next, &mut entries);
+    let count = table.count;
+    case_of(call, n.value as usize, &entries[..count], text, table.next)
 }
