@@ -7,7 +7,7 @@ use lib.Dec.{ltb}
 use lib.ListN.{drop, length}
 use borrow.Author.Tests.{le-ltb, ltb-false}
 use Rattle.ground.specs.Lowest.{all-passed, checkAll, passed-all}
-use Rattle.ground.specs.Refusals.{outside, outside-false, refuseIf-passed, then-passed, _then_}
+use Rattle.ground.specs.Refusals.{outside, outside-false, refuseIf-passed, roomCheck, then-passed, _then_}
 use Rattle.ground.specs.Tests.{or-false}
 use Rattle.ground.specs.declared.Check.{Check}
 use Rattle.ground.specs.declared.Check.the-variants.{Passed, Refused}
@@ -18,7 +18,7 @@ use Rattle.stored_costs.specs.Entries.{costOf, entryNumber}
 use Rattle.stored_costs.specs.Form.{costUsed, entryOf, fillOf, imagesOf}
 use Rattle.stored_costs.specs.Laws.Tables.{cost-of-up}
 use Rattle.stored_costs.specs.Outcomes.{judged, tableIf}
-use Rattle.stored_costs.specs.Reading.{bodyChecks, endCheck, fillCheck, misplaced, positionCheck, readAtChecks, readChecks, roomCheck, startChecks, storedCheck}
+use Rattle.stored_costs.specs.Reading.{bodyChecks, endCheck, fillCheck, misplaced, positionCheck, readAtChecks, readChecks, startChecks, storedCheck}
 use Rattle.stored_costs.specs.Sizes.{Held}
 use Rattle.stored_costs.specs.declared.StoredCosts.the-variants.{Table}
 use Rattle.stored_costs.specs.declared.StoredCosts.the-variants as stored
