@@ -16,7 +16,8 @@ use Rattle.theory.specs.LinkTables.{rowsOf}
 use Rattle.links.specs.Checks.{rowChecks, sizeChecks}
 use Rattle.links.specs.LinkChecks.{Links, link-checks, rows-length}
 use Rattle.links.specs.Searches.{place-in}
-use Rattle.routes.specs.Orders.{imageCheck, pathChecks, routeChecks, upperChecks}
+use Rattle.theory.specs.Checks.{imageCheck}
+use Rattle.routes.specs.Orders.{pathChecks, routeChecks, upperChecks}
 
 -- the size and row checks, whatever stands between them
 links-passed : (L n N : ℕ) (l v : List ℕ) → sizeChecks n N l v ≡ Passed → rowChecks L n l v ≡ Passed → Links L n N l v

@@ -2,13 +2,10 @@
 -- Images are 1 to n here, as in the calls. Assumes nothing.
 use mathlib.Core.List.{List}
 use Prim.Native.Nat.{ℕ, _*_, _-_}
-use Rattle.ground.specs.Refusals.{outside, refusal, refuseIf, roomCheck, _then_}
+use Rattle.ground.specs.Refusals.{roomCheck, _then_}
 use Rattle.ground.specs.declared.Check.{Check}
+use Rattle.theory.specs.Checks.{imageCheck}
 use Rattle.links.specs.Checks.{rowChecks, sizeChecks}
-
--- 8: the image is one of 1 to n
-abbrev pub imageCheck : ℕ → ℕ → Check
-imageCheck n i = refuseIf (outside 1 n i) (refusal 8 0 0 0 0)
 
 -- path: 1, 10, 2, 12, 13, 8
 abbrev pub pathChecks : ℕ → ℕ → ℕ → List ℕ → List ℕ → ℕ → ℕ → Check

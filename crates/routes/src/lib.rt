@@ -13,7 +13,8 @@ ghost use Rattle.ground.specs.Outcomes.{Left};
 ghost use Rattle.theory.specs.LinkTables.{apart, path, rowsOf};
 ghost use Rattle.theory.specs.Routes.{uppers};
 ghost use Rattle.theory.specs.Tables.{limit};
-ghost use Rattle.routes.specs.Orders.{imageCheck, pathChecks, upperChecks, routeChecks};
+ghost use Rattle.theory.specs.Checks.{imageCheck};
+ghost use Rattle.routes.specs.Orders.{pathChecks, upperChecks, routeChecks};
 ghost use Rattle.routes.specs.Outcomes.{pathOutcome, upperOutcome, routeOutcome};
 ghost use Rattle.routes.specs.Climbs.{climbFrom};
 

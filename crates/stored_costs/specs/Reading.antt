@@ -7,7 +7,8 @@ use lib.ListN.{drop, length}
 use Rattle.ground.specs.Lowest.{checkAll}
 use Rattle.ground.specs.Refusals.{refusal, refuseIf, roomCheck, _then_}
 use Rattle.ground.specs.declared.Check.{Check}
-use Rattle.tables.specs.Checks.{entryCheck, imagesCheck}
+use Rattle.theory.specs.Checks.{imagesCheck}
+use Rattle.tables.specs.Checks.{entryCheck}
 use Rattle.bits.specs.Forms.{bytesFor}
 use Rattle.stored_costs.specs.Entries.{costOf}
 use Rattle.stored_costs.specs.Form.{costUsed, entryOf, fillOf, imagesOf}

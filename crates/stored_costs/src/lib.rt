@@ -82,7 +82,7 @@ fn check_start(head: usize, bytes: &[u8], room: usize) -> Check
         return short;
     };
     let n = images(head, bytes);
-    let outside = tables::check_images(n);
+    let outside = theory::check_images(n);
     let Check::Passed = outside else {
         return outside;
     };
