@@ -11,13 +11,12 @@ use Rattle.ground.specs.declared.Check.the-variants.{Passed, Refused}
 use Rattle.ground.specs.declared.Refusal.{Refusal}
 use Rattle.theory.specs.FourPoint.{FourPoint}
 use Rattle.theory.specs.Tables.{CostTable, cost}
-use Rattle.tables.specs.Checks.{imagesCheck}
+use Rattle.theory.specs.Checks.{images-passed, imagesCheck}
 use Rattle.tables.specs.Formed.{passed-costs}
 use Rattle.wiring.specs.Promises.{wiring-passed}
 use Rattle.counts.specs.Differ.{differ}
 use Rattle.counts.specs.declared.Difference.{Difference}
 use Rattle.compare.specs.Call.{againstSecond, bothTables, comparison, numbered, sidesOf, tableCheck}
-use Rattle.compare.specs.Chain.{images-passed}
 use Rattle.compare.specs.Read.{table-passed}
 use Rattle.compare.specs.declared.Comparison.{Comparison}
 use Rattle.compare.specs.declared.Comparison.the-variants.{Compared}

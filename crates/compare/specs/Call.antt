@@ -7,7 +7,8 @@ use Rattle.ground.specs.declared.Check.the-variants.{Passed, Refused}
 use Rattle.theory.specs.LinkTables.{fars}
 use Rattle.theory.specs.Readings.{measured}
 use Rattle.theory.specs.Tables.{cost}
-use Rattle.tables.specs.Checks.{costsCheck, imagesCheck, lengthCheck}
+use Rattle.theory.specs.Checks.{imagesCheck}
+use Rattle.tables.specs.Checks.{costsCheck, lengthCheck}
 use Rattle.wiring.specs.Check.{wiringCheck}
 use Rattle.counts.specs.Differ.{differ}
 use Rattle.compare.specs.declared.Comparison.{Comparison}

@@ -1,11 +1,9 @@
 -- How code that stops at the first refusal meets the chain of numbered checks. Assumes nothing.
 use mathlib.Core.Path.{_≡_}
-use Prim.Native.Nat.{ℕ, _≤_}
-use Rattle.ground.specs.Refusals.{outside, outside-false, refusal, refuseIf-passed}
+use Prim.Native.Nat.{ℕ}
 use Rattle.ground.specs.declared.Check.{Check}
 use Rattle.ground.specs.declared.Check.the-variants.{Passed, Refused}
 use Rattle.ground.specs.declared.Refusal.{Refusal}
-use Rattle.tables.specs.Checks.{imagesCheck}
 use Rattle.compare.specs.Call.{numbered}
 use Rattle.compare.specs.declared.Comparison.{Comparison}
 use Rattle.compare.specs.declared.Comparison.the-variants as answer
@@ -15,7 +13,3 @@ numbered-stops m c y e = rw e
 
 pub numbered-goes : (m : ℕ) (c : Check) (y : Comparison) {w : Comparison} → c ≡ Passed → w ≡ y → w ≡ numbered m c y
 numbered-goes m c y e f = rw e f
-
--- 1 is not given for 3 to 64 images
-pub images-passed : (n : ℕ) → imagesCheck n ≡ Passed → (3 ≤ n) × (n ≤ 64)
-images-passed n e = outside-false 3 64 n (refuseIf-passed (outside 3 64 n) (refusal 1 n 0 0 0) e)

@@ -47,6 +47,8 @@ pub record TreesDiffer (n : ℕ) (T U : List Row) (x : Difference) : Type 0 wher
   pub in-one : x .count ≡ length (exactlyOne n T U)
   pub none : (x .count ≡ 0) ↔ (innerRows n T ≡ innerRows n U)
   pub adds-up : x .count + 2 * x .common ≡ x .first + x .second
+  -- 2 n - 6 less twice the common ones is the count exactly when both trees have n - 3 inner rows: every switch has three links
+  pub three-links : (x .count + 2 * x .common + 6 ≡ 2 * n) ↔ ((x .first + 3 ≡ n) × (x .second + 3 ≡ n))
   -- it never exceeds 2 n - 6, over which it is set; of three images it is 0 over 1
   pub most : x .count + 6 ≤ 2 * n
   pub over : 4 ≤ n → x .over + 6 ≡ 2 * n
@@ -67,6 +69,8 @@ trees-differ L n T U h t u =
     let a = tree-ascends L n T t in
     let b = tree-ascends L n U u in
     let f = formula n (2 ^ n) (fars T) (fars U) (t .ascending) (u .ascending) in
+    let i = inner-most L n T h t in
+    let j = inner-most L n U h u in
     record {
       in-first = refl;
       in-second = refl;
@@ -74,9 +78,10 @@ trees-differ L n T U h t u =
       in-one = differing-exactly 1 (2 ^ n) (sides n) (innerRows n T) (innerRows n U) (sides-between n) a b (tree-sides L n T t) (tree-sides L n U u);
       none = differing-zero 1 (2 ^ n) (innerRows n T) (innerRows n U) a b;
       adds-up = f;
-      most = omega (arith, f, inner-most L n T h t, inner-most L n U h u);
+      three-links = (λ e. (omega (arith, f, i, j), omega (arith, f, i, j)), λ e. omega (arith, f));
+      most = omega (arith, f, i, j);
       over = λ l. rw (ne-eqb n 3 (λ e. omega arith)) (omega arith);
-      three = λ e. (omega (arith, f, inner-most L n T h t, inner-most L n U h u), rw (eq-eqb n 3 e));
+      three = λ e. (omega (arith, f, i, j), rw (eq-eqb n 3 e));
     }
 
 -- the answer for the tables in the other order
@@ -90,7 +95,9 @@ module _ (L n : ℕ) where
       → TreesDiffer n T U x
   compare-says t u x e T U p q =
       let a = compare-accepted L n t u x e in
-      let s : x ≡ differ n (fars T) (fars U) = a .answer ∙ ap₂ (λ (A B : List Row). differ n (fars A) (fars B)) (sym (is-read t T (a .first) p)) (sym (is-read u U (a .second) q)) in
+      let v = is-read t T (a .first) p in
+      let w = is-read u U (a .second) q in
+      let s : x ≡ differ n (fars T) (fars U) = a .answer ∙ ap₂ (λ (A B : List Row). differ n (fars A) (fars B)) (sym v) (sym w) in
       subst (TreesDiffer n T U) (sym s) (trees-differ L n T U (a .first .table .some) (p .tree) (q .tree))
     where
       is-read : (t : List ℕ) (T : List Row) → Accepted L n t → Exact L (cost t n) n T → T ≡ measured L (cost t n) n
@@ -117,14 +124,17 @@ module _ (L n : ℕ) where
       → (z : Difference) × (comparison L n t w ≡ Compared z) × (z .count ≤ x .count + y .count)
   compare-over t u w x y e f =
       let a = compare-accepted L n t u x e in
-      let b = compare-accepted L n u w y f in (
+      let b = compare-accepted L n u w y f in
+      let l = inners n (sidesOf L n t) in
+      let m = inners n (sidesOf L n u) in
+      let r = inners n (sidesOf L n w) in (
         differ n (sidesOf L n t) (sidesOf L n w),
         compare-accepts L n t w (a .first) (b .second),
         omega (
           arith,
           ap (λ (d : Difference). d .count) (a .answer),
           ap (λ (d : Difference). d .count) (b .answer),
-          differing-over 1 (2 ^ n) (inners n (sidesOf L n t)) (inners n (sidesOf L n u)) (inners n (sidesOf L n w)) (ascends t (a .first)) (ascends u (a .second)) (ascends w (b .second)),
+          differing-over 1 (2 ^ n) l m r (ascends t (a .first)) (ascends u (a .second)) (ascends w (b .second)),
         ),
       )
 

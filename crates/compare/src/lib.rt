@@ -58,7 +58,7 @@ fn both_tables(n: usize, first: &[u32], second: &[u32]) -> Comparison
 pub fn compare(n: usize, first: &[u32], second: &[u32]) -> Comparison
     ensures { λ r. ⌜ r ≡ comparison limit n (now (first .entry)) (now (second .entry)) ⌝ }
 {
-    let images = tables::check_images(n);
+    let images = theory::check_images(n);
     match images {
         Check::Refused(r) => Comparison::Refused(0, r),
         Check::Passed => both_tables(n, first, second),

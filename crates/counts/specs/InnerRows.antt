@@ -1,30 +1,18 @@
 -- How many rows of a tree are inner: at most n - 3, as n of its 2 n - 3 rows at most are own links. Assumes nothing.
-use mathlib.Core.Bool.{Bool, not}
-use mathlib.Core.List.{List, [], _∷_}
-use mathlib.Core.Path.{refl, _≡_}
-use Prim.Native.Nat.{suc, zero, ℕ, _+_, _<_, _≤_}
+use mathlib.Core.Bool.{not}
+use mathlib.Core.List.{List}
+use Prim.Native.Nat.{suc, zero, ℕ, _+_, _≤_}
 use native.Mathlib.Omega.{arith}
 use lib.ListN.{length, length-map}
-use lib.Pow.{pow-lt, pow-mono, pow-pos}
-use borrow.Table.Steps.{cases}
 use Rattle.ground.specs.Filters.{filter, mem-filter}
 use Rattle.ground.specs.Tests.{false-not}
 use Rattle.theory.specs.Comparison.{inners}
 use Rattle.theory.specs.Demands.{one-tree}
 use Rattle.theory.specs.FarSides.{inner, own}
+use Rattle.theory.specs.Laws.Comparison.{split-length}
 use Rattle.theory.specs.Laws.OwnLinks.{own-not-inner}
-use Rattle.theory.specs.Laws.RowCount.{length-least}
+use Rattle.theory.specs.Laws.RowCount.{length-least, own-differ}
 use Rattle.theory.specs.LinkTables.{LinkTable, Row, far, fars}
-
--- own links of different images differ, from three images on
-own-differ : (k i j : ℕ) → i < j → j < suc (suc (suc k)) → own (suc (suc (suc k))) i ≡ own (suc (suc (suc k))) j → ⊥
-own-differ k i zero h l e = omega arith
-own-differ k zero (suc j) h l e = omega (arith, pow-mono {i = suc j} {j = suc (suc k)} (omega arith), pow-pos k)
-own-differ k (suc i) (suc j) h l e = omega (arith, pow-lt h)
-
-split-length : (p : ℕ → Bool) (l : List ℕ) → length (filter p l) + length (filter (λ x. not (p x)) l) ≡ length l
-split-length p [] = refl
-split-length p (x ∷ l) = let ih = split-length p l in cases (p x) (λ e. rw e (omega arith)) (λ e. rw e (omega arith))
 
 pub inner-most : (L n : ℕ) (T : List Row) → 3 ≤ n → LinkTable L n T → length (inners n (fars T)) + 3 ≤ n
 inner-most L zero T h t = absurd (omega arith)
