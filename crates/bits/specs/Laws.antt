@@ -1,0 +1,9 @@
+-- The laws, from one number's bits up to forms in a buffer.
+pub mod Numbers
+pub mod Parts
+pub mod Bytes
+pub mod Turns
+pub mod Packed
+pub mod Written
+pub mod Forms
+pub mod OneWidth

@@ -1,0 +1,95 @@
+// Fields of bits in a slice of bytes, most significant bit first, of any width up to 64.
+ghost use mathlib.Core.Path.{_≡_};
+ghost use Prim.Native.Nat.{_*_, _+_, _/_, _%_, _^_, _<_, _≤_};
+ghost use lib.ListN.{length};
+ghost use Rattle.bits.specs.Bits.{bits, bitsOf, FieldWithin, overAt, part, Turn, valueOf};
+
+// The byte as a number of 64 bits.
+fn wide_byte(x: u8) -> u64
+    ensures { λ r. ⌜ r ≡ x ⌝ }
+{
+    x as u64
+}
+
+// x moved up by k bits.
+fn raised(x: u64, k: usize) -> u64
+    requires { ⌜ (k < 64) × (x * 2 ^ k < 2 ^ 64) ⌝ }
+    ensures { λ r. ⌜ r ≡ x * 2 ^ k ⌝ }
+{
+    x << k
+}
+
+// The w lowest bits of x.
+fn low_bits(x: u64, w: usize) -> u64
+    requires { ⌜ w < 64 ⌝ }
+    ensures { λ r. ⌜ r ≡ x % 2 ^ w ⌝ }
+{
+    let m: u64 = 1 << w;
+    x % m
+}
+
+// The w bits of x that stand above its k lowest.
+fn bits_above(x: u64, k: usize, w: usize) -> u64
+    requires { ⌜ (k < 64) × (w < 64) ⌝ }
+    ensures { λ r. ⌜ r ≡ x / 2 ^ k % 2 ^ w ⌝ }
+{
+    low_bits(x >> k, w)
+}
+
+// How many bits one turn moves: as many as are left, but none past the end of the byte in which it begins.
+fn turn_width(offset: usize, left: usize) -> usize
+    requires { ⌜ (offset < 8) × (0 < left) ⌝ }
+    ensures { λ r. ⌜ Turn offset left r ⌝ }
+{
+    if left <= 8 - offset { left } else { 8 - offset }
+}
+
+// The byte b, with the s bits at the offset written over by those of v: what stands above them, v, and what stands below.
+fn byte_with(b: u8, offset: usize, s: usize, v: u64) -> u8
+    requires { ⌜ (offset + s ≤ 8) × (v < 2 ^ s) ⌝ }
+    ensures { λ r. ⌜ bitsOf 8 r ≡ overAt (bitsOf 8 b) offset (bitsOf s v) ⌝ }
+{
+    let j = 8 - offset - s;
+    let k = s + j;
+    let x = wide_byte(b);
+    let y = raised(x >> k, k) + (raised(v, j) + low_bits(x, j));
+    y as u8
+}
+
+// The number in the width bits at the position, taken byte by byte.
+pub fn get(bytes: &[u8], position: usize, width: usize) -> u64
+    requires { ⌜ FieldWithin (length (now bytes)) position width ⌝ }
+    ensures { λ r. ⌜ r ≡ valueOf (part (bits (now (bytes .entry))) position width) ⌝ }
+{
+    let mut value: u64 = 0;
+    let mut done = 0;
+    while done < width {
+        let p = position + done;
+        let offset = p % 8;
+        let q = p / 8;
+        let s = turn_width(offset, width - done);
+        let x = wide_byte(bytes[q]);
+        value = raised(value, s) + bits_above(x, 8 - offset - s, s);
+        done += s;
+    }
+    value
+}
+
+// The width bits at the position become the low bits of value, byte by byte; no other bit changes.
+pub fn put(bytes: &mut [u8], position: usize, width: usize, value: u64)
+    requires { ⌜ FieldWithin (length (now bytes)) position width ⌝ }
+    ensures { λ r. ⌜ bits (now (bytes .exit)) ≡ overAt (bits (now (bytes .entry))) position (bitsOf width value) ⌝ }
+{
+    let mut done = 0;
+    while done < width {
+        let p = position + done;
+        let offset = p % 8;
+        let q = p / 8;
+        let left = width - done;
+        let s = turn_width(offset, left);
+        let v = bits_above(value, left - s, s);
+        let b = bytes[q];
+        bytes[q] = byte_with(b, offset, s, v);
+        done += s;
+    }
+}

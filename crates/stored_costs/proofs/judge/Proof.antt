@@ -1,0 +1,88 @@
+-- `stored_costs::judge` meets its contract: the answer is a table where all checks passed. Assumes nothing.
+use mathlib.Core.Path.{_∙_, _≡_, sym}
+use Prim.Native.Nat.{_%_, _/_, _≤_}
+use native.Mathlib.Omega.{arith}
+use lib.ListN.{drop, length}
+use Rattle.ground.specs.Buffers.{rest-part}
+use Rattle.stored_costs.specs.Laws.Outcomes.{table-goes, table-stops}
+use Rattle.stored_costs.specs.Laws.Passed.{Readable, read-at-passed}
+use Rattle.stored_costs.specs.Laws.Sizes.{end-le}
+use Rattle.stored_costs.specs.Sizes.{Small}
+use borrow.Author.Needs.{needs}
+use Rattle.stored_costs.proofs.judge.Statement.{statement}
+use Rattle.stored_costs.proofs.judge.Tie as tie
+
+-- what the checks say once they passed
+there : (c : tie.After-enum-told)
+    → (c .before .before .before .before .args .position / 8 ≤ length (c .before .before .before .before .args .bytes .now))
+    × (c .before .before .before .before .args .position % 8 ≡ 0)
+    × Readable (c .before .before .before .before .args .head) (c .before .before .before .before .args .w) (c .before .before .before .before .args .limit) (drop (c .before .before .before .before .args .position / 8) (c .before .before .before .before .args .bytes .now)) (c .before .before .before .before .args .room)
+there c =
+    let e = c .before .before in
+    let a = e .before .before .args in
+    read-at-passed (a .head) (a .w) (a .limit) (a .bytes .now) (a .position) (a .room) (sym (e .check-at .ensures) ∙ c .enum-told .given .1)
+
+small : (c : tie.After-images) → Small (c .before .before .before .before .before .before .args .head) (c .before .before .before .before .before .before .args .w) (c .images .result)
+small c =
+    let d = c .before .before in
+    let a = d .before .before .before .before in
+    let n = rw (rest-part (a .args .bytes .now) (a .args .position / 8)) at (c .images .ensures) in
+    record { short = a .pre .0; narrow = a .pre .1; few = rw n (there d .2 .few) }
+
+check-at-requires : tie.Need-check-at-requires
+check-at-requires c κs = search needs
+
+enum-known-r : tie.Need-enum-known-r
+enum-known-r c = search needs
+
+enum-told : tie.Need-enum-told
+enum-told c = search needs
+
+sub-images : tie.Need-sub-images
+sub-images c = there c .0
+
+part-images-start : tie.Need-part-images-start
+part-images-start c = there c .0
+
+part-images-end : tie.Need-part-images-end
+part-images-end c = search needs
+
+images-requires : tie.Need-images-requires
+images-requires c κs =
+    let d = c .before in
+    let a = d .before .before .before .before in
+    rw (rest-part (a .args .bytes .now) (a .args .position / 8)) (a .pre .0, there d .2 .begun)
+
+entries-end-requires : tie.Need-entries-end-requires
+entries-end-requires c κs = small c
+
+add-t13 : tie.Need-add-t13
+add-t13 c =
+    let a = c .before .before .before .before .before .before .before in
+    rw (c .entries-end .ensures) (omega (arith, end-le (a .args .head) (a .args .w) (c .before .images .result) (small (c .before))))
+
+returns : tie.Need-returns
+returns c = table-stops _ _ _ (c .before .r .given .1) (c .before .before .before .check-at .ensures)
+
+returns-2 : tie.Need-returns-2
+returns-2 c =
+    let d = c .before .before .before in
+    let a = d .before .before .before .before in
+    let n = rw (rest-part (a .args .bytes .now) (a .args .position / 8)) at (c .before .images .ensures) in
+    table-goes _ _ _ (d .enum-told .given .1) (d .before .before .check-at .ensures) n (rw (c .entries-end .ensures, n))
+
+pub judge-spec : {M : Type 1} → statement M
+judge-spec =
+    tie.close
+    (tie.spec
+    check-at-requires
+    enum-known-r
+    enum-told
+    sub-images
+    part-images-start
+    part-images-end
+    images-requires
+    entries-end-requires
+    add-t13
+    returns
+    returns-2)

@@ -1,0 +1,79 @@
+-- The form of a stored cost table: its parts, its length, and that four writes make it. Assumes nothing.
+use mathlib.Core.List.{List, append-assoc, _++_}
+use mathlib.Core.Path.{ap, sym, _∙_, _≡_}
+use Prim.Native.Nat.{ℕ, _*_, _+_, _≤_}
+use native.Mathlib.Omega.{arith}
+use lib.ListN.{length, length-append}
+use Rattle.ground.specs.Buffers.{front}
+use Rattle.bits.specs.Bits.{AllBits, AllBytes, bits, bitsOf, overAt}
+use Rattle.bits.specs.Forms.{bytesFor, fieldsOf, fillWidth, filled, formBits, formBytes}
+use Rattle.bits.specs.Laws.Bytes.{length-bits}
+use Rattle.bits.specs.Laws.Forms.{all-bits-form}
+use Rattle.bits.specs.Laws.Numbers.{length-bitsOf}
+use Rattle.bits.specs.Laws.OneWidth.{length-fields}
+use Rattle.bits.specs.Laws.Packed.{length-packed}
+use Rattle.bits.specs.Laws.Parts.{over-at-twice}
+use Rattle.bits.specs.Laws.Written.{written}
+use Rattle.stored_costs.specs.Entries.{entries, entryCount}
+use Rattle.stored_costs.specs.Form.{costBytes, costEnd, costForm, costUsed}
+use Rattle.stored_costs.specs.Laws.Entries.{length-entries}
+
+module _ (head mark w n : ℕ) (d : ℕ → ℕ → ℕ) where
+  -- the bits of the entries
+  unfoldable pub entryBits : List ℕ
+  entryBits = formBits (fieldsOf w (entries d n))
+
+  -- all bits, without the fill bits
+  unfoldable pub costBits : List ℕ
+  costBits = formBits (costForm head mark w n d)
+
+  pub cost-parts : costBits ≡ (bitsOf head mark ++ bitsOf 7 n) ++ entryBits
+  unfolding costBits entryBits costForm formBits
+  cost-parts = sym (append-assoc (bitsOf head mark) (bitsOf 7 n) entryBits)
+
+  pub length-entry-bits : length entryBits ≡ w * entryCount n
+  unfolding entryBits
+  length-entry-bits = length-fields w (entries d n) ∙ ap (λ (x : ℕ). w * x) (length-entries d n n)
+
+  pub length-front : length (bitsOf head mark ++ bitsOf 7 n) ≡ head + 7
+  length-front = omega (arith, length-append (bitsOf head mark) (bitsOf 7 n), length-bitsOf head mark, length-bitsOf 7 n)
+
+  pub length-cost-bits : length costBits ≡ costEnd head w n
+  length-cost-bits = ap length cost-parts ∙ omega (arith, length-append (bitsOf head mark ++ bitsOf 7 n) entryBits, length-front, length-entry-bits)
+
+  pub all-bits-costs : AllBits costBits
+  unfolding costBits
+  all-bits-costs = all-bits-form (costForm head mark w n d)
+
+  -- the exact count of bytes
+  pub length-costs : length (costBytes head mark w n d) ≡ costUsed head w n
+  unfolding costBytes formBytes costBits
+  length-costs = length-packed costBits ∙ ap bytesFor length-cost-bits
+
+  -- four writes, one behind the other, make the form
+  pub written-costs : (old b1 b2 b3 new : List ℕ) → AllBytes old → AllBytes new → costUsed head w n ≤ length old
+      → bits b1 ≡ overAt (bits old) 0 (bitsOf head mark)
+      → bits b2 ≡ overAt (bits b1) head (bitsOf 7 n)
+      → bits b3 ≡ overAt (bits b2) (head + 7) (formBits (fieldsOf w (entries d n)))
+      → bits new ≡ overAt (bits b3) (costEnd head w n) (bitsOf (fillWidth (costEnd head w n)) 0)
+      → new ≡ front (costBytes head mark w n d) old
+  unfolding costBytes formBytes filled entryBits costBits
+  written-costs old b1 b2 b3 new ho hn room e1 e2 e3 e4 =
+      let o = bits old in
+      let h = bitsOf head mark in
+      let m = bitsOf 7 n in
+      let lo = length-bits old in
+      let lh = length-bitsOf head mark in
+      let lm = length-bitsOf 7 n in
+      let lf = length-front in
+      let le = length-entry-bits in
+      let lc = length-cost-bits in
+      let z = bitsOf (fillWidth (costEnd head w n)) 0 in
+      let lz = length-bitsOf (fillWidth (costEnd head w n)) 0 in
+      let s2 : bits b2 ≡ overAt o 0 (h ++ m) = e2 ∙ ap (λ (x : List ℕ). overAt x head m) e1 ∙ over-at-twice o 0 h m head (omega arith) (omega arith) in
+      let s3 : bits b3 ≡ overAt o 0 costBits =
+      e3 ∙ ap (λ (x : List ℕ). overAt x (head + 7) entryBits) s2 ∙ over-at-twice o 0 (h ++ m) entryBits (head + 7) (omega arith) (omega arith) ∙ ap (overAt o 0) (sym cost-parts) in
+      let s4 : bits new ≡ overAt o 0 (costBits ++ z) =
+      e4 ∙ ap (λ (x : List ℕ). overAt x (costEnd head w n) z) s3 ∙ over-at-twice o 0 costBits z (costEnd head w n) (omega arith) (omega arith) in
+      written old new costBits all-bits-costs ho hn (omega arith)
+      (s4 ∙ ap (λ (x : ℕ). overAt o 0 (costBits ++ bitsOf (fillWidth x) 0)) (sym lc))

@@ -1,0 +1,97 @@
+-- Reading at a position, and the two round trips in the words of the calls. Assumes nothing.
+use mathlib.Core.List.{List, _++_}
+use mathlib.Core.Path.{ap, ap₂, refl, sym, _∙_, _≡_}
+use Prim.Native.Nat.{ℕ, _%_, _*_, _/_, _<_, _^_, _≤_}
+use native.Mathlib.Omega.{arith}
+use lib.ListN.{drop, length, length-append, take}
+use lib.Seq.{drop-append-seam}
+use borrow.Author.Tests.{le-ltb}
+use Rattle.ground.specs.Buffers.{front}
+use Rattle.ground.specs.declared.Written.{Written}
+use Rattle.ground.specs.declared.Written.the-variants.{Places}
+use Rattle.theory.specs.Tables.{CostTable, cost}
+use Rattle.bits.specs.Bits.{AllBytes}
+use Rattle.bits.specs.Laws.Written.{all-bytes-drop}
+use Rattle.stored_costs.specs.Form.{costBytes, costUsed, costsOf, imagesOf, markOf}
+use Rattle.stored_costs.specs.Laws.Passed.{Readable, passed-read, table-at}
+use Rattle.stored_costs.specs.Laws.ReadBack.{written-costs-of, written-images, written-readable}
+use Rattle.stored_costs.specs.Laws.Writable.{passed-write}
+use Rattle.stored_costs.specs.Laws.WriteBack.{read-table, read-written}
+use Rattle.stored_costs.specs.Outcomes.{Outcome, frontIf, judged, readOutcome, tableIf}
+use Rattle.stored_costs.specs.Reading.{readChecks}
+use Rattle.stored_costs.specs.Writing.{writeOutcome}
+use Rattle.stored_costs.specs.declared.StoredCosts.{StoredCosts}
+use Rattle.stored_costs.specs.declared.StoredCosts.the-variants.{Table}
+
+-- an accepted reading, and an accepted writing, into the lent slice
+abbrev pub readInto : ℕ → ℕ → List ℕ → List ℕ → Outcome StoredCosts
+readInto n used t out = record { answer = Table n used; places = front t out }
+
+abbrev pub wroteInto : ℕ → List ℕ → List ℕ → Outcome Written
+wroteInto used m out = record { answer = Places used; places = front m out }
+
+module _ (head w L : ℕ) where
+  -- what reading at the front of s gives
+  fromFront : List ℕ → List ℕ → Outcome StoredCosts
+  fromFront s out =
+      record {
+        answer = tableIf (readChecks head w L s (length out)) (imagesOf head s) (costUsed head w (imagesOf head s));
+        places = frontIf (readChecks head w L s (length out)) (costsOf head w (imagesOf head s) s) out;
+      }
+
+  read-front : (bytes s : List ℕ) (k : ℕ) (out : List ℕ) → k ≤ length bytes → drop k bytes ≡ s → readOutcome head w L bytes (8 * k) out ≡ fromFront s out
+  unfolding fromFront
+  read-front bytes s k out h e =
+      let q : 8 * k / 8 ≡ k = omega arith in
+      let z : 8 * k % 8 ≡ 0 = omega arith in
+      rw (q, z, e, le-ltb (length bytes) k h)
+
+  -- at the start of byte k the table is read that stands from there on
+  pub read-at : (bytes s : List ℕ) (k : ℕ) (out : List ℕ) → k ≤ length bytes → drop k bytes ≡ s → Readable head w L s (length out)
+      → readOutcome head w L bytes (8 * k) out ≡ readInto (imagesOf head s) (costUsed head w (imagesOf head s)) (costsOf head w (imagesOf head s) s) out
+  unfolding fromFront
+  read-at bytes s k out h e r = read-front bytes s k out h e ∙ rw (passed-read head w L s (length out) r)
+
+  -- so the rest of the bytes, from byte k on, reads as the whole does at that byte
+  pub read-rest : (bytes : List ℕ) (k : ℕ) (out : List ℕ) → k ≤ length bytes → readOutcome head w L (drop k bytes) 0 out ≡ readOutcome head w L bytes (8 * k) out
+  read-rest bytes k out h = read-front (drop k bytes) (drop k bytes) 0 out (omega arith) refl ∙ sym (read-front bytes (drop k bytes) k out h refl)
+
+  -- reading what was written gives the table back, whatever stands ahead and behind
+  pub written-at : (mark n : ℕ) (t ahead behind out : List ℕ) → CostTable L n t → L < 2 ^ w → n * n ≤ length out
+      → readOutcome head w L (ahead ++ (costBytes head mark w n (cost t n) ++ behind)) (8 * length ahead) out ≡ readInto n (costUsed head w n) t out
+  written-at mark n t ahead behind out c f h =
+      let s = costBytes head mark w n (cost t n) ++ behind in
+      let i : imagesOf head s ≡ n = written-images head mark w L n t behind c f in
+      let m : costsOf head w n s ≡ t = written-costs-of head mark w L n t behind c f in
+      read-at (ahead ++ s) s (length ahead) out (omega (arith, length-append ahead s)) (drop-append-seam ahead s) (written-readable head mark w L n t behind c f (length out) h)
+      ∙ ap (λ (x : ℕ). readInto x (costUsed head w x) (costsOf head w x s) out) i
+      ∙ ap (λ (x : List ℕ). readInto n (costUsed head w n) x out) m
+
+  -- the bytes used are the form of the table that was read
+  pub used-bytes : (bytes : List ℕ) (position room n used : ℕ) → AllBytes bytes → judged head w L bytes position room ≡ Table n used
+      → costBytes head (markOf head (drop (position / 8) bytes)) w n (cost (costsOf head w n (drop (position / 8) bytes)) n) ≡ take used (drop (position / 8) bytes)
+  used-bytes bytes position room n used b e =
+      let s = drop (position / 8) bytes in
+      let a = table-at head w L bytes position room n used e in
+      rw (← (a .count), ← (a .number)) (read-written head w L s room (a .readable) (all-bytes-drop (position / 8) bytes b))
+
+  -- writing what was read gives the same used bytes
+  pub read-again : (bytes : List ℕ) (position room n used : ℕ) (out : List ℕ) → AllBytes bytes → judged head w L bytes position room ≡ Table n used → used ≤ length out
+      → writeOutcome head (markOf head (drop (position / 8) bytes)) w L n (costsOf head w n (drop (position / 8) bytes)) out
+      ≡ wroteInto used (take used (drop (position / 8) bytes)) out
+  read-again bytes position room n used out b e h =
+      let s = drop (position / 8) bytes in
+      let a = table-at head w L bytes position room n used e in
+      let c : CostTable L n (costsOf head w n s) = rw (← (a .number)) (read-table head w L s room (a .readable)) in
+      rw (passed-write head w L n (costsOf head w n s) (length out) c (rw (a .count) h), a .count, used-bytes bytes position room n used b e)
+
+  -- one stored form for one table: bytes that are read as the same table are the same
+  pub same-bytes : (a b : List ℕ) (p q r s n u v : ℕ) → AllBytes a → AllBytes b
+      → judged head w L a p r ≡ Table n u → judged head w L b q s ≡ Table n v
+      → markOf head (drop (p / 8) a) ≡ markOf head (drop (q / 8) b)
+      → costsOf head w n (drop (p / 8) a) ≡ costsOf head w n (drop (q / 8) b)
+      → take u (drop (p / 8) a) ≡ take v (drop (q / 8) b)
+  same-bytes a b p q r s n u v ha hb e f g h =
+      sym (used-bytes a p r n u ha e)
+      ∙ ap₂ (λ (m : ℕ) (t : List ℕ). costBytes head m w n (cost t n)) g h
+      ∙ used-bytes b q s n v hb f

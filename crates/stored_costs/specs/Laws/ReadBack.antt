@@ -1,0 +1,121 @@
+-- Reading what was written gives the table back, whatever bytes follow. Assumes nothing.
+use mathlib.Core.List.{List, append-assoc, _++_}
+use mathlib.Core.Path.{ap, subst, sym, _∙_, _≡_}
+use Prim.Native.Nat.{suc, zero, ℕ, _*_, _+_, _-_, _<_, _^_, _≤_}
+use native.Mathlib.Nat.{lt-of-le-of-lt}
+use native.Mathlib.Omega.{arith}
+use lib.Dec.{ltb}
+use lib.ListN.{List·getD-append, List·getD-eq-default, getD, length, length-append}
+use lib.Pow.{pow-pos}
+use lib.Seq.{getD-append-add}
+use borrow.Author.Tests.{ltb-false, ltb-true}
+use borrow.Table.Steps.{cases}
+use Rattle.theory.specs.Tables.{CostTable, cost}
+use Rattle.bits.specs.Bits.{bits, bitsOf, part, valueOf}
+use Rattle.bits.specs.Forms.{fieldValue, fillWidth, formBytes}
+use Rattle.bits.specs.Laws.Numbers.{length-bitsOf, value-bits}
+use Rattle.bits.specs.Laws.OneWidth.{field-value}
+use Rattle.bits.specs.Laws.Packed.{bits-packed-then}
+use Rattle.bits.specs.Laws.Parts.{part-cut}
+use Rattle.bits.specs.Listed.{listed-at}
+use Rattle.stored_costs.specs.Entries.{entries, entriesTo, entryCount, entryNumber, rowEntries}
+use Rattle.stored_costs.specs.Form.{costBytes, costEnd, costsOf, entryOf, fillOf, imagesOf}
+use Rattle.stored_costs.specs.Laws.Entries.{entry-is, length-entries, length-row, number-lt}
+use Rattle.stored_costs.specs.Laws.Form.{all-bits-costs, cost-parts, costBits, entryBits, length-cost-bits, length-costs, length-entry-bits, length-front}
+use Rattle.stored_costs.specs.Laws.Passed.{Readable}
+use Rattle.stored_costs.specs.Laws.Tables.{table-is}
+
+-- no entry is above what the costs are not above
+entries-small : (d : ℕ → ℕ → ℕ) (n L : ℕ) → ((i j : ℕ) → i < j → j < n → d i j ≤ L) → (k : ℕ) → getD (entries d n) k 0 ≤ L
+unfolding rowEntries entriesTo
+entries-small d n L h k = go n (omega arith) k
+  where
+    row : (i : ℕ) → i < n → (k : ℕ) → getD (rowEntries d n i) k 0 ≤ L
+    row i l k =
+        let f : ℕ → ℕ = λ k. d i (i + 1 + k) in
+        cases (ltb k (n - (i + 1)))
+        (λ e. rw (listed-at f (n - (i + 1)) k (ltb-true k (n - (i + 1)) e)) (h i (i + 1 + k) (omega arith) (omega (arith, ltb-true k (n - (i + 1)) e))))
+        (λ e. rw (List·getD-eq-default (rowEntries d n i) 0 {n = k} (omega (arith, length-row d n i, ltb-false k (n - (i + 1)) e))) (omega arith))
+
+    go : (m : ℕ) → m ≤ n → (k : ℕ) → getD (entriesTo d n m) k 0 ≤ L
+    go zero l k = omega arith
+    go (suc m) l k =
+        let a = entriesTo d n m in
+        let b = rowEntries d n m in
+        let ih = go m (omega arith) k in
+        cases (ltb k (length a))
+        (λ e. rw (List·getD-append a b 0 k (ltb-true k (length a) e)) ih)
+        (λ e.
+        let q : k ≡ length a + (k - length a) = omega (arith, ltb-false k (length a) e) in
+        subst (λ (x : ℕ). getD (a ++ b) x 0 ≤ L) (sym q) (rw (getD-append-add a b (k - length a) 0) (row m (omega arith) (k - length a))))
+
+module _ (head mark w L n : ℕ) (t behind : List ℕ) (c : CostTable L n t) (fits : L < 2 ^ w) where
+  stored : List ℕ
+  stored = costBytes head mark w n (cost t n) ++ behind
+
+  fill : List ℕ
+  fill = bitsOf (fillWidth (costEnd head w n)) 0
+
+  -- the bits: head, n, entries, fill bits, and what follows
+  stored-bits : bits stored ≡ (bitsOf head mark ++ bitsOf 7 n) ++ (entryBits head mark w n (cost t n) ++ (fill ++ bits behind))
+  unfolding stored costBytes formBytes fill costBits
+  stored-bits =
+      let b = costBits head mark w n (cost t n) in
+      bits-packed-then b (all-bits-costs head mark w n (cost t n)) behind
+      ∙ ap (λ (x : ℕ). b ++ (bitsOf (fillWidth x) 0 ++ bits behind)) (length-cost-bits head mark w n (cost t n))
+      ∙ ap (λ (x : List ℕ). x ++ (fill ++ bits behind)) (cost-parts head mark w n (cost t n))
+      ∙ append-assoc (bitsOf head mark ++ bitsOf 7 n) (entryBits head mark w n (cost t n)) (fill ++ bits behind)
+
+  images-is : imagesOf head stored ≡ n
+  unfolding imagesOf
+  images-is =
+      let r = entryBits head mark w n (cost t n) ++ (fill ++ bits behind) in
+      ap (λ (l : List ℕ). valueOf (part l head 7)) (stored-bits ∙ append-assoc (bitsOf head mark) (bitsOf 7 n) r)
+      ∙ ap valueOf (part-cut (bitsOf head mark) (bitsOf 7 n) r head 7 (length-bitsOf head mark) (length-bitsOf 7 n))
+      ∙ value-bits 7 n (omega (arith, c .few))
+
+  entry-read : (k : ℕ) → k < entryCount n → entryOf head w stored k ≡ getD (entries (cost t n) n) k 0
+  unfolding entryOf entryBits
+  entry-read k h =
+      let v = entries (cost t n) n in
+      ap (λ (l : List ℕ). fieldValue l (head + 7) w k) stored-bits
+      ∙ field-value w (bitsOf head mark ++ bitsOf 7 n) v (fill ++ bits behind) (head + 7) k (length-front head mark w n (cost t n))
+      (omega (arith, length-entries (cost t n) n n))
+      (lt-of-le-of-lt (entries-small (cost t n) n L (λ i j l m. c .formed .small (omega arith) m) k) fits)
+
+  fill-is : fillOf head w n stored ≡ 0
+  unfolding fillOf fill
+  fill-is =
+      let e = entryBits head mark w n (cost t n) in
+      let a = bitsOf head mark ++ bitsOf 7 n in
+      ap (λ (l : List ℕ). valueOf (part l (costEnd head w n) (fillWidth (costEnd head w n)))) (stored-bits ∙ sym (append-assoc a e (fill ++ bits behind)))
+      ∙ ap valueOf (part-cut (a ++ e) fill (bits behind) (costEnd head w n) (fillWidth (costEnd head w n))
+      (omega (arith, length-append a e, length-front head mark w n (cost t n), length-entry-bits head mark w n (cost t n))) (length-bitsOf _ 0))
+      ∙ value-bits (fillWidth (costEnd head w n)) 0 (pow-pos (fillWidth (costEnd head w n)))
+
+  pub written-images : imagesOf head (costBytes head mark w n (cost t n) ++ behind) ≡ n
+  unfolding stored
+  written-images = images-is
+
+  -- it is accepted, where there is room
+  pub written-readable : (room : ℕ) → n * n ≤ room → Readable head w L (costBytes head mark w n (cost t n) ++ behind) room
+  unfolding stored
+  written-readable room h =
+      let lc = length-costs head mark w n (cost t n) in
+      let la = length-append (costBytes head mark w n (cost t n)) behind in
+      record {
+        begun = omega (arith, lc, la);
+        some = rw images-is (c .some);
+        few = rw images-is (c .few);
+        roomy = rw images-is h;
+        whole = rw images-is (omega (arith, lc, la));
+        clear = rw images-is fill-is;
+        fine = λ i j l m.
+            let k : j < n = rw images-is at m in
+            rw (images-is, entry-read (entryNumber n i j) (number-lt n i j l k), entry-is (cost t n) n i j l k) (c .formed .small (omega arith) k);
+      }
+
+  -- and the table is the one that was written
+  pub written-costs-of : costsOf head w n (costBytes head mark w n (cost t n) ++ behind) ≡ t
+  unfolding stored
+  written-costs-of = table-is L n t c (entryOf head w stored) entry-read

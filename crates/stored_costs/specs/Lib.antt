@@ -1,0 +1,11 @@
+-- What is stored of a cost table, and what the calls answer.
+pub mod Entries
+pub mod Form
+pub mod Reading
+pub mod Outcomes
+pub mod Writing
+pub mod Sizes
+-- What is true of them.
+pub mod Laws
+pub mod RoundTrips
+pub mod Examples

@@ -1,0 +1,46 @@
+-- What the calls answer, and what they leave in the lent slice. Assumes nothing.
+use mathlib.Core.List.{List}
+use mathlib.Core.Path.{_≡_}
+use Prim.Native.Nat.{ℕ, _/_}
+use lib.ListN.{drop, length}
+use Rattle.ground.specs.Buffers.{front}
+use Rattle.ground.specs.declared.Check.{Check}
+use Rattle.ground.specs.declared.Check.the-variants.{Passed, Refused}
+use Rattle.stored_costs.specs.Form.{costUsed, costsOf, imagesOf}
+use Rattle.stored_costs.specs.Reading.{readAtChecks}
+use Rattle.stored_costs.specs.declared.StoredCosts.{StoredCosts}
+use Rattle.stored_costs.specs.declared.StoredCosts.the-variants.{Table}
+use Rattle.stored_costs.specs.declared.StoredCosts.the-variants as stored
+
+-- an answer, and the lent places as they are left
+pub record Outcome (A : Type 0) : Type 0 where
+  pub answer : A
+  pub places : List ℕ
+
+-- the call answered r and left the places e
+pub record Left {A : Type 0} (w : Outcome A) (r : A) (e : List ℕ) : Type 0 where
+  pub answered : r ≡ w .answer
+  pub left : e ≡ w .places
+
+-- m at the front of the lent places d where the check passed; where it refused they are as they were
+abbrev pub frontIf : Check → List ℕ → List ℕ → List ℕ
+frontIf Passed m d = front m d
+frontIf (Refused r) m d = d
+
+-- n and the bytes used where the check passed
+abbrev pub tableIf : Check → ℕ → ℕ → StoredCosts
+tableIf Passed n used = Table n used
+tableIf (Refused r) n used = stored.Refused r
+
+-- what reading at the position answers, where so many places are lent: n and the bytes used by this table alone, or the first refusal
+abbrev pub judged : ℕ → ℕ → ℕ → List ℕ → ℕ → ℕ → StoredCosts
+judged head w L bytes position room =
+    tableIf (readAtChecks head w L bytes position room) (imagesOf head (drop (position / 8) bytes)) (costUsed head w (imagesOf head (drop (position / 8) bytes)))
+
+-- that answer, and the whole table at the front of the lent places
+abbrev pub readOutcome : ℕ → ℕ → ℕ → List ℕ → ℕ → List ℕ → Outcome StoredCosts
+readOutcome head w L bytes position out =
+    record {
+      answer = judged head w L bytes position (length out);
+      places = frontIf (readAtChecks head w L bytes position (length out)) (costsOf head w (imagesOf head (drop (position / 8) bytes)) (drop (position / 8) bytes)) out;
+    }

@@ -1,0 +1,56 @@
+-- Reading a stored cost table: the checks in document 01's order. Assumes nothing.
+use mathlib.Core.Bool.{Bool, _||_}
+use mathlib.Core.List.{List}
+use Prim.Native.Nat.{ℕ, _%_, _*_, _+_, _-_, _/_}
+use lib.Dec.{ltb}
+use lib.ListN.{drop, length}
+use Rattle.ground.specs.Lowest.{checkAll}
+use Rattle.ground.specs.Refusals.{refusal, refuseIf, _then_}
+use Rattle.ground.specs.declared.Check.{Check}
+use Rattle.tables.specs.Checks.{entryCheck, imagesCheck}
+use Rattle.bits.specs.Forms.{bytesFor}
+use Rattle.stored_costs.specs.Entries.{costOf}
+use Rattle.stored_costs.specs.Form.{costUsed, entryOf, fillOf, imagesOf}
+
+-- 9: stored bytes end early, of which so many are needed
+abbrev pub endCheck : List ℕ → ℕ → Check
+endCheck s needed = refuseIf (ltb (length s) needed) (refusal 9 0 0 0 0)
+
+-- 3: too little room for so many places
+abbrev pub roomCheck : ℕ → ℕ → Check
+roomCheck needed room = refuseIf (ltb room needed) (refusal 3 0 0 0 0)
+
+-- 11: fill bits not zero
+abbrev pub fillCheck : ℕ → Check
+fillCheck fill = refuseIf (ltb 0 fill) (refusal 11 0 0 0 0)
+
+-- 4: an entry above the limit, at the lowest row and column with row below column
+abbrev pub storedCheck : ℕ → (ℕ → ℕ → ℕ) → ℕ → Check
+storedCheck L d n = checkAll (λ i. checkAll (entryCheck L d i) (i + 1) (n - (i + 1))) 0 n
+
+-- 9: a position past the end of so many bytes, or not at the start of a byte
+abbrev pub misplaced : ℕ → ℕ → Bool
+misplaced bytes position = ltb bytes (position / 8) || ltb 0 (position % 8)
+
+-- refused with 9 there
+abbrev pub positionCheck : List ℕ → ℕ → Check
+positionCheck bytes position = refuseIf (misplaced (length bytes) position) (refusal 9 0 0 0 0)
+
+-- ## In order
+
+-- 9, 1, 3
+abbrev pub startChecks : ℕ → List ℕ → ℕ → Check
+startChecks head s room = endCheck s (bytesFor (head + 7)) then imagesCheck (imagesOf head s) then roomCheck (imagesOf head s * imagesOf head s) room
+
+-- 9, 11
+abbrev pub bodyChecks : ℕ → ℕ → ℕ → List ℕ → Check
+bodyChecks head w n s = endCheck s (costUsed head w n) then fillCheck (fillOf head w n s)
+
+-- 9, 1, 3, 9, 11, 4
+abbrev pub readChecks : ℕ → ℕ → ℕ → List ℕ → ℕ → Check
+readChecks head w L s room =
+    startChecks head s room then bodyChecks head w (imagesOf head s) s then storedCheck L (costOf (entryOf head w s) (imagesOf head s)) (imagesOf head s)
+
+-- 9 for the position, then those of the bytes from there on
+abbrev pub readAtChecks : ℕ → ℕ → ℕ → List ℕ → ℕ → ℕ → Check
+readAtChecks head w L bytes position room = positionCheck bytes position then readChecks head w L (drop (position / 8) bytes) room

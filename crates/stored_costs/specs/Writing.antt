@@ -1,0 +1,24 @@
+-- Writing a stored cost table: the checks in document 01's order, and the outcome. Assumes nothing.
+use mathlib.Core.List.{List}
+use Prim.Native.Nat.{ℕ}
+use lib.ListN.{length}
+use Rattle.ground.specs.Refusals.{placesIf, _then_}
+use Rattle.ground.specs.declared.Check.{Check}
+use Rattle.ground.specs.declared.Written.{Written}
+use Rattle.theory.specs.Tables.{cost}
+use Rattle.tables.specs.Checks.{costsCheck, sizeCheck}
+use Rattle.stored_costs.specs.Form.{costBytes, costUsed}
+use Rattle.stored_costs.specs.Outcomes.{Outcome, frontIf}
+use Rattle.stored_costs.specs.Reading.{roomCheck}
+
+-- 1, 2, 4, 5, 6, 3, room counting exact bytes
+abbrev pub writeChecks : ℕ → ℕ → ℕ → ℕ → List ℕ → ℕ → Check
+writeChecks head w L n t room = sizeCheck n t then costsCheck L (cost t n) n then roomCheck (costUsed head w n) room
+
+-- the bytes used, and the form's bytes at the front of the lent ones
+abbrev pub writeOutcome : ℕ → ℕ → ℕ → ℕ → ℕ → List ℕ → List ℕ → Outcome Written
+writeOutcome head mark w L n t out =
+    record {
+      answer = placesIf (writeChecks head w L n t (length out)) (costUsed head w n);
+      places = frontIf (writeChecks head w L n t (length out)) (costBytes head mark w n (cost t n)) out;
+    }
