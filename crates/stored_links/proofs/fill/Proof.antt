@@ -33,7 +33,7 @@ placed c =
     let h = s .pre .0 in
     let k = c .before .before .loop .k in
     let e = row-within (a .head) (a .w) (a .n) (a .count) k (c .before .loop-test .taken) in
-    (rw (c .row-at .ensures) (omega (arith, e, h .within)), rw (c .row-at .ensures) (omega (arith, e, end-le (a .head) (a .w) (a .n) (a .count) (h .small))))
+    (omega (arith, c .row-at .ensures, e, h .within), omega (arith, c .row-at .ensures, e, end-le (a .head) (a .w) (a .n) (a .count) (h .small)))
 
 loop-holds : tie.Need-loop-holds Inv-loop μ-loop
 loop-holds c = (search needs, refl, refl, listed-front-none _ _, listed-front-none _ _)
@@ -90,9 +90,9 @@ loop-again c =
       simp length-set (l .inv .1),
       simp length-set (l .inv .2),
       listed-front-more (farOf (a .head) (a .w) (a .n) (a .bytes .now)) (l .k) (c .before .far-at .result) _ (l .fars) (omega (arith, s .pre .1, r .before .loop-test .taken)) (l .inv .3)
-      (c .before .far-at .ensures ∙ ap (λ (p : ℕ). 2 * valueOf (part (bits (a .bytes .now)) p (a .n - 1))) (r .row-at .ensures)),
+          (c .before .far-at .ensures ∙ ap (λ (p : ℕ). 2 * valueOf (part (bits (a .bytes .now)) p (a .n - 1))) (r .row-at .ensures)),
       listed-front-more (costOf (a .head) (a .w) (a .n) (a .bytes .now)) (l .k) (c .cost-at .result) _ (l .costs) (omega (arith, s .pre .2, r .before .loop-test .taken)) (l .inv .4)
-      (c .cost-at .ensures ∙ ap (λ (p : ℕ). valueOf (part (bits (a .bytes .now)) (p + (a .n - 1)) (a .w))) (r .row-at .ensures)),
+          (c .cost-at .ensures ∙ ap (λ (p : ℕ). valueOf (part (bits (a .bytes .now)) (p + (a .n - 1)) (a .w))) (r .row-at .ensures)),
     )
 
 same-length : tie.Need-same-length Inv-loop μ-loop
