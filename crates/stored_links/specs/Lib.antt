@@ -6,3 +6,4 @@ pub mod Reading
 pub mod Outcomes
 -- What is true of them.
 pub mod Laws
+pub mod Examples

@@ -129,3 +129,15 @@ rows-again head w n s (suc m) h =
     rows-suc w n (farOf head w n s) (costOf head w n s) m
     ∙ ap₂ (λ (x y : List ℕ). x ++ y) ih (row-again head w n s m (omega (arith, mul-suc (rowWidth w n) m)))
     ∙ sym (ap (part l (head + 14)) (mul-suc (rowWidth w n) m) ∙ part-more l (head + 14) (rowWidth w n * m) (rowWidth w n))
+
+-- two writes, one behind the other, make a row
+pub row-over : (w n S c position : ℕ) (l x y : List ℕ) → position + rowWidth w n ≤ length l
+    → x ≡ overAt l position (bitsOf (n - 1) (S / 2)) → y ≡ overAt x (position + (n - 1)) (bitsOf w c) → y ≡ overAt l position (formBits (rowFields w n S c))
+row-over w n S c position l x y h e q =
+    let a = bitsOf (n - 1) (S / 2) in
+    let la = length-bitsOf (n - 1) (S / 2) in
+    let lc = length-bitsOf w c in
+    q
+    ∙ ap (λ (z : List ℕ). overAt z (position + (n - 1)) (bitsOf w c)) e
+    ∙ over-at-twice l position a (bitsOf w c) (position + (n - 1)) (omega arith) (omega arith)
+    ∙ ap (overAt l position) (sym (row-bits w n S c))

@@ -1,0 +1,3 @@
+-- What the writer of link tables answers, and what is true of it.
+pub mod Writing
+pub mod Accepted
