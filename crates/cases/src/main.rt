@@ -12,10 +12,10 @@ fn one_case(call: u32, text: &[u8], at: usize) -> usize {
     if call <= calls::WRITE_COSTS {
         return cost_cases::cost_case(call, text, at);
     }
-    if call <= calls::ROUTE {
+    if call <= calls::WRITE_LINKS {
         return link_cases::link_case(call, text, at);
     }
-    byte_cases::byte_case(text, at)
+    byte_cases::byte_case(call, text, at)
 }
 
 // Runs every case of a text, which has fewer cases than bytes.
@@ -55,4 +55,6 @@ fn main() {
     run(calls::COMPARE, b"compare", b"compare.txt");
     run(calls::WRITE_COSTS, b"write_costs", b"write_costs.txt");
     run(calls::READ_COSTS, b"read_costs", b"read_costs.txt");
+    run(calls::WRITE_LINKS, b"write_links", b"write_links.txt");
+    run(calls::READ_LINKS, b"read_links", b"read_links.txt");
 }
