@@ -7,9 +7,9 @@ use case_text::show_next;
 use case_text::show_refusal;
 use case_text::show32;
 use case_text::show64;
-use case_text::take64;
 use case_text::take8;
 use case_text::take32;
+use case_text::take64;
 use stored_costs::StoredCosts;
 use stored_links::StoredLinks;
 

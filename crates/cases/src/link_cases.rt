@@ -6,11 +6,11 @@ use crate::calls::UPPER_ROWS;
 use case_text::number_at;
 use case_text::show_answer;
 use case_text::show_written;
-use case_text::show32;
 use case_text::show8;
+use case_text::show32;
+use case_text::take8;
 use case_text::take32;
 use case_text::take64;
-use case_text::take8;
 
 fn path_case(n: usize, count: usize, fars: &[u64], costs: &[u32], text: &[u8], at: usize) -> usize {
     let i = number_at(text, at);
