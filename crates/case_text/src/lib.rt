@@ -183,7 +183,7 @@ pub fn show8(list: &[u8]) {
 }
 
 // Prints the four places of a refusal.
-pub fn show_places(r: Refusal) {
+fn show_places(r: Refusal) {
     show_next(r.a as u64);
     show_next(r.b as u64);
     show_next(r.c as u64);
@@ -193,6 +193,13 @@ pub fn show_places(r: Refusal) {
 // Prints a refusal at the beginning of a line.
 pub fn show_refusal(r: Refusal) {
     show_first(r.number as u64);
+    show_places(r);
+}
+
+// Prints a refusal of a call over several tables, with the table's number, at the beginning of a line.
+pub fn show_table_refusal(table: usize, r: Refusal) {
+    show_first(r.number as u64);
+    show_next(table as u64);
     show_places(r);
 }
 

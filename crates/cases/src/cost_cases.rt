@@ -9,7 +9,7 @@ use case_text::number_at;
 use case_text::show_answer;
 use case_text::show_first;
 use case_text::show_next;
-use case_text::show_places;
+use case_text::show_table_refusal;
 use case_text::show_written;
 use case_text::show8;
 use case_text::show32;
@@ -71,11 +71,7 @@ fn show_difference(d: Difference) {
 fn show_comparison(answer: Comparison) {
     match answer {
         Comparison::Compared(d) => show_difference(d),
-        Comparison::Refused(table, r) => {
-            show_first(r.number as u64);
-            show_next(table as u64);
-            show_places(r);
-        }
+        Comparison::Refused(table, r) => show_table_refusal(table, r),
     }
 }
 

@@ -2,6 +2,7 @@
 // lent output. The independent program's text is the file stdout.
 mod byte_cases;
 mod calls;
+mod choice_cases;
 mod cost_cases;
 mod link_cases;
 
@@ -15,7 +16,10 @@ fn one_case(call: u32, text: &[u8], at: usize) -> usize {
     if call <= calls::WRITE_LINKS {
         return link_cases::link_case(call, text, at);
     }
-    byte_cases::byte_case(call, text, at)
+    if call <= calls::READ_LINKS {
+        return byte_cases::byte_case(call, text, at);
+    }
+    choice_cases::choice_case(text, at)
 }
 
 // Runs every case of a text, which has fewer cases than bytes.
@@ -57,4 +61,5 @@ fn main() {
     run(calls::READ_COSTS, b"read_costs", b"read_costs.txt");
     run(calls::WRITE_LINKS, b"write_links", b"write_links.txt");
     run(calls::READ_LINKS, b"read_links", b"read_links.txt");
+    run(calls::CHOICE, b"choice", b"choice.txt");
 }
