@@ -94,7 +94,9 @@ fn check_head(head: usize, bytes: &[u8]) -> Check
     let Check::Passed = short else {
         return short;
     };
-    links::check_count(images(head, bytes), row_count(head, bytes))
+    let n = images(head, bytes);
+    let count = row_count(head, bytes);
+    links::check_count(n, count)
 }
 
 // Refusals 12 and 13 of the first rows of two slices.
