@@ -15,8 +15,8 @@ use Rattle.link_writer.specs.Writing.{Left, Outcome, RoomFor, fitChecks,
 use Rattle.links.specs.Checks.{rowChecks, sizeChecks}
 use Rattle.links.specs.LinkChecks.{Links, link-checks, sizes-passed}
 use Rattle.stored_links.specs.Form.{linkUsed}
+use Rattle.stored_links.specs.Kinds.{roomCheck}
 use Rattle.stored_links.specs.Laws.Passed.{room-passed}
-use Rattle.stored_links.specs.Reading.{roomCheck}
 use Rattle.ground.specs.declared.Written.the-variants as written
 
 pub places-stops : {x : Check} {r : Refusal} (y : Check) (used : ℕ) → x ≡ Refused r → x ≡ y → written.Refused r ≡ placesIf y used

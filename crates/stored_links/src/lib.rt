@@ -14,7 +14,8 @@ ghost use Rattle.bits.specs.Forms.{bytesFor};
 ghost use Rattle.stored_links.specs.Form.{rowAt};
 ghost use Rattle.stored_links.specs.Said.{costsOf, countOf, farsOf, imagesOf};
 ghost use Rattle.stored_links.specs.Outcomes.{Left, judged, judgedTable, readOutcome, saidIf};
-ghost use Rattle.stored_links.specs.Reading.{bodyChecks, headChecks, misplaced, readAtChecks, readChecks};
+ghost use Rattle.stored_links.specs.Kinds.{misplaced};
+ghost use Rattle.stored_links.specs.Reading.{bodyChecks, headChecks, readAtChecks, readChecks};
 ghost use Rattle.stored_links.specs.Sizes.{Held, Small};
 
 // What the reader answers: n, the row count and the bytes used by this table alone, or the refusal.
