@@ -9,7 +9,6 @@ use Rattle.ground.specs.declared.Refusal.{Refusal}
 use Rattle.ground.specs.declared.Written.the-variants.{Places}
 use Rattle.theory.specs.Tables.{limit}
 use Rattle.bits.specs.Bits.{AllBytes, part, valueOf}
-use Rattle.bits.specs.Laws.Written.{written}
 use Rattle.link_writer.specs.Again.{read-again, written-is, wroteInto}
 use Rattle.link_writer.specs.Writing.{Outcome, writeChecks, writeOutcome}
 use Rattle.links.specs.LinkChecks.{Links}
