@@ -6,7 +6,7 @@ use native.Mathlib.Numerals.{add-one}
 use native.Mathlib.Omega.{arith}
 use lib.Dec.{eqb}
 use lib.ListN.{drop, drop-of-length-le, getD, length, length-append, length-drop, length-set, length-take, set, take}
-use lib.Seq.{getD-set-other, getD-set-same, take-all}
+use lib.Seq.{getD-set-other, getD-set-same, sets, sets-eq, take-all}
 use borrow.Author.Tests.{eqb-false, eqb-true}
 use borrow.Table.Steps.{cases}
 
@@ -45,6 +45,12 @@ over-length n s d l h = simp (length-append, length-take, length-drop) (omega ar
 pub over-front : (n : ℕ) (s d m : List ℕ) → take n s ≡ m → length m ≡ n → over n s d ≡ front m d
 unfolding over
 over-front n s d m e f = rw (e, f)
+
+pub over-all : (m o : List ℕ) (n : ℕ) → length m ≡ n → over n m o ≡ front m o
+over-all m o n e = over-front n m o m (take-all n m (omega arith)) e
+
+pub sets-front : (m o : List ℕ) → length m ≤ length o → sets o 0 m ≡ front m o
+sets-front m o h = let e : 0 + length m ≡ length m = omega arith in let q = sets-eq m o 0 (omega arith) in rw e at q
 
 -- ## The rest from `at` on, lent as `&mut b[at..]`: what is lent, and the whole once m stands there
 

@@ -35,6 +35,10 @@ _then_ (Refused r) y = Refused r
 abbrev pub outside : ℕ → ℕ → ℕ → Bool
 outside low high m = ltb m low || ltb high m
 
+-- 3: too little room for so many places
+abbrev pub roomCheck : ℕ → ℕ → Check
+roomCheck needed room = refuseIf (ltb room needed) (refusal 3 0 0 0 0)
+
 -- the value where the check passed
 abbrev pub valueIf : Check → ℕ → Answer
 valueIf Passed v = Value v

@@ -6,14 +6,13 @@ use lib.Dec.{eqb}
 use lib.ListN.{length}
 use Rattle.ground.specs.Refusals.{outside, refusal, refuseIf, _then_}
 use Rattle.ground.specs.declared.Check.{Check}
+use Rattle.theory.specs.Checks.{imagesCheck}
 use Rattle.links.specs.BadRows.{badRow, missing}
 use Rattle.links.specs.FirstChecks.{firstCheck}
 
 -- 1, 10: n is 3 to 64, and the row count N is n to 2 n - 3
 abbrev pub countChecks : ℕ → ℕ → Check
-countChecks n N =
-    refuseIf (outside 3 64 n) (refusal 1 n 0 0 0) then
-    refuseIf (outside n (2 * n - 3) N) (refusal 10 N 0 0 0)
+countChecks n N = imagesCheck n then refuseIf (outside n (2 * n - 3) N) (refusal 10 N 0 0 0)
 
 -- 2: each slice is exactly as long as the row count
 abbrev pub lengthChecks : ℕ → List ℕ → List ℕ → Check

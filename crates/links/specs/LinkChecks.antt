@@ -13,14 +13,17 @@ use borrow.Table.Steps.{cases}
 use Rattle.ground.specs.Members.{isIn, isIn-mem, mem-isIn}
 use Rattle.ground.specs.Refusals.{outside, outside-false, refusal, refuseIf, refuseIf-passed, then-passed, _then_}
 use Rattle.ground.specs.declared.Check.the-variants.{Passed}
+use Rattle.theory.specs.Checks.{images-passed, imagesCheck}
 use Rattle.theory.specs.FarSides.{Nested, own}
 use Rattle.theory.specs.Laws.Paths.{rowsOf-fars}
 use Rattle.theory.specs.Laws.RowCount.{row-count}
 use Rattle.theory.specs.LinkTables.{LinkTable, fars, rowsOf}
+use Rattle.theory.specs.Readings.{drawn}
 use Rattle.links.specs.BadRows.{badRow, missing}
 use Rattle.links.specs.Checks.{countChecks, lengthChecks, rowChecks, sizeChecks}
 use Rattle.links.specs.FirstChecks.{first-passed, firstCheck, passed-first}
 use Rattle.links.specs.RowTests.{GoodRow, between-steps, clear-nested, good-row, mem-rows, nested-clear, nested-sym, row-good, rows-mem, steps-between}
+use denote.RattleType.{owns}
 
 module _ (L n : ℕ) (l v : List ℕ) (e : length l ≡ length v) where
   -- every row is good, and no own link is missing: a link table
@@ -89,8 +92,8 @@ pub record Sized (n N : ℕ) (l v : List ℕ) : Type 0 where
 
 pub count-passed : (n N : ℕ) → countChecks n N ≡ Passed → (3 ≤ n) × (n ≤ 64) × (n ≤ N) × (N ≤ 2 * n - 3)
 count-passed n N e =
-    let p = then-passed (refuseIf (outside 3 64 n) (refusal 1 n 0 0 0)) _ e in
-    let a = outside-false 3 64 n (refuseIf-passed (outside 3 64 n) _ (p .0)) in
+    let p = then-passed (imagesCheck n) _ e in
+    let a = images-passed n (p .0) in
     let b = outside-false n (2 * n - 3) N (refuseIf-passed (outside n (2 * n - 3) N) _ (p .1)) in
     (a .0, a .1, b .0, b .1)
 

@@ -161,7 +161,7 @@ fn first_missing(n: usize, fars: &[u64]) -> usize
 pub fn check_count(n: usize, count: usize) -> Check
     ensures { λ r. ⌜ r ≡ countChecks n count ⌝ }
 {
-    let images = ground::refuse_if(ground::is_outside(3, 64, n), 1, n, 0);
+    let images = theory::check_images(n);
     match images {
         Check::Refused(_) => images,
         Check::Passed => ground::refuse_if(ground::is_outside(n, 2 * n - 3, count), 10, count, 0),

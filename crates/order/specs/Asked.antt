@@ -6,13 +6,13 @@ use mathlib.Core.Path.{_≡_}
 use Prim.Native.Nat.{ℕ, _≤_}
 use lib.Dec.{eqb, ltb}
 use borrow.Author.Tests.{eqb-false, le-ltb, ltb-false, ne-eqb}
-use Rattle.ground.specs.Refusals.{outside, outside-false, refuseIf-passed, then-passed, _then_}
+use Rattle.ground.specs.Refusals.{outside, outside-false, refuseIf-passed, roomCheck, then-passed, _then_}
 use Rattle.ground.specs.Tests.{or-false}
 use Rattle.ground.specs.declared.Check.the-variants.{Passed}
 use Rattle.theory.specs.Tables.{CostTable, cost}
 use Rattle.tables.specs.Checks.{costsCheck, sizeCheck}
 use Rattle.tables.specs.Formed.{cost-table}
-use Rattle.order.specs.Outcome.{badEnds, endsCheck, orderChecks, roomCheck}
+use Rattle.order.specs.Outcome.{badEnds, endsCheck, orderChecks}
 
 -- a cost table, room for n places, and first and last two different images of 1 to n
 pub record Asked (L n : ℕ) (t : List ℕ) (first last room : ℕ) : Type 0 where

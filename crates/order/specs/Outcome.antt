@@ -2,22 +2,16 @@
 -- Assumes nothing.
 use mathlib.Core.Bool.{Bool, _||_}
 use mathlib.Core.List.{List, map}
-use mathlib.Core.Path.{_≡_}
 use Prim.Native.Nat.{suc, ℕ, _-_}
-use lib.Dec.{eqb, ltb}
+use lib.Dec.{eqb}
 use lib.ListN.{length}
-use Rattle.ground.specs.Buffers.{front}
-use Rattle.ground.specs.Refusals.{outside, placesIf, refusal, refuseIf, _then_}
+use Rattle.ground.specs.Outcomes.{Outcome, frontIf}
+use Rattle.ground.specs.Refusals.{outside, placesIf, refusal, refuseIf, roomCheck, _then_}
 use Rattle.ground.specs.declared.Check.{Check}
-use Rattle.ground.specs.declared.Check.the-variants.{Passed, Refused}
 use Rattle.ground.specs.declared.Written.{Written}
 use Rattle.theory.specs.Order.{order}
 use Rattle.theory.specs.Tables.{cost}
 use Rattle.tables.specs.Checks.{costsCheck, sizeCheck}
-
--- 3: too little room for n places
-abbrev pub roomCheck : ℕ → ℕ → Check
-roomCheck n room = refuseIf (ltb room n) (refusal 3 0 0 0 0)
 
 -- first or last is outside 1..n, or first = last
 abbrev pub badEnds : ℕ → ℕ → ℕ → Bool
@@ -36,24 +30,9 @@ orderChecks L n t first last room =
 abbrev pub images : ℕ → List ℕ → ℕ → ℕ → List ℕ
 images n t first last = map suc (order (cost t n) n (first - 1) (last - 1))
 
--- m at the front of the lent places where the check passed; where it refused they are as they were
-abbrev pub frontIf : Check → List ℕ → List ℕ → List ℕ
-frontIf Passed m o = front m o
-frontIf (Refused r) m o = o
-
--- an answer, and the lent places as they are left
-pub record Outcome : Type 0 where
-  pub answer : Written
-  pub out : List ℕ
-
 -- n places, and the order at the front of them; or the first refusal
-abbrev pub orderOutcome : ℕ → ℕ → List ℕ → ℕ → ℕ → List ℕ → Outcome
+abbrev pub orderOutcome : ℕ → ℕ → List ℕ → ℕ → ℕ → List ℕ → Outcome Written
 orderOutcome L n t first last o = record {
   answer = placesIf (orderChecks L n t first last (length o)) n;
-  out = frontIf (orderChecks L n t first last (length o)) (images n t first last) o;
+  places = frontIf (orderChecks L n t first last (length o)) (images n t first last) o;
 }
-
--- the call answered r and left the places e
-pub record Left (w : Outcome) (r : Written) (e : List ℕ) : Type 0 where
-  pub answered : r ≡ w .answer
-  pub left : e ≡ w .out

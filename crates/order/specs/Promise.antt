@@ -9,12 +9,12 @@ use lib.Seq.{drop-at, getD-take, take-at}
 use Rattle.ground.specs.Bits.{bit}
 use Rattle.ground.specs.Buffers.{front}
 use Rattle.ground.specs.Members.{occurs}
+use Rattle.ground.specs.Outcomes.{Left}
 use Rattle.ground.specs.declared.Check.{Check}
 use Rattle.ground.specs.declared.Check.the-variants.{Passed, Refused}
 use Rattle.ground.specs.declared.Refusal.{Refusal}
 use Rattle.ground.specs.declared.Written.{Written}
 use Rattle.ground.specs.declared.Written.the-variants.{Places}
-use Rattle.ground.specs.declared.Written.the-variants as written
 use Rattle.theory.specs.Demands.{Ordered, ordered}
 use Rattle.theory.specs.FarSides.{FarSide}
 use Rattle.theory.specs.Index.{AtLeast}
@@ -25,7 +25,8 @@ use Rattle.theory.specs.Readings.{Exact}
 use Rattle.theory.specs.Tables.{cost}
 use Rattle.order.specs.Asked.{Asked, asked-passed, passed-asked}
 use Rattle.order.specs.Counted.{back-suc, counted, last-suc, occurs-suc}
-use Rattle.order.specs.Outcome.{Left, Outcome, images, orderChecks, orderOutcome}
+use Rattle.order.specs.Outcome.{images, orderChecks, orderOutcome}
+use Rattle.ground.specs.declared.Written.the-variants as written
 
 -- ## The two ways out of the call
 
@@ -129,7 +130,3 @@ module _ (L n : ℕ) (t : List ℕ) (first last : ℕ) (e₀ : List ℕ) where
           → (orderChecks L n t first last (length e₀) ≡ Refused q) × (e ≡ e₀)
       go Passed s p = absurd (let w = rw s at (p .answered) in let y : _≡_ {A = ℕ} 0 1 = cc in omega arith)
       go (Refused u) s p = let w = rw s at (p .answered) in (let v : u ≡ q = cc in s ∙ ap Refused v, rw s at (p .left))
-
--- no second answer meets it
-pub order-one : {w : Outcome} {r r′ : Written} {e e′ : List ℕ} → Left w r e → Left w r′ e′ → (r ≡ r′) × (e ≡ e′)
-order-one p q = (p .answered ∙ sym (q .answered), p .left ∙ sym (q .left))

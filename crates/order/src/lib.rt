@@ -9,9 +9,10 @@ ghost use lib.Dec.{ltb};
 ghost use lib.IntN.{pos, _-ℤ_};
 ghost use lib.ListN.{length, set};
 ghost use Rattle.ground.specs.Buffers.{front};
+ghost use Rattle.ground.specs.Outcomes.{Left};
 ghost use Rattle.theory.specs.Order.{better, order};
 ghost use Rattle.theory.specs.Tables.{limit, cost, CostTable};
-ghost use Rattle.order.specs.Outcome.{badEnds, orderChecks, orderOutcome, Left};
+ghost use Rattle.order.specs.Outcome.{badEnds, orderChecks, orderOutcome};
 ghost use Rattle.order.specs.Next.{nextLeft, turnNext};
 
 // The signed difference of two entries.

@@ -7,7 +7,7 @@ use lib.Dec.{ltb}
 use lib.ListN.{length}
 use borrow.Author.Tests.{le-ltb, ltb-false}
 use Rattle.ground.specs.Members.{placeOf}
-use Rattle.ground.specs.Refusals.{outside, outside-false, refusal, refuseIf-passed, then-passed}
+use Rattle.ground.specs.Refusals.{outside, outside-false, refusal, refuseIf-passed, roomCheck, then-passed}
 use Rattle.ground.specs.declared.Check.the-variants.{Passed}
 use Rattle.theory.specs.FarSides.{own}
 use Rattle.theory.specs.Laws.Paths.{rowsOf-fars}
@@ -16,7 +16,8 @@ use Rattle.theory.specs.LinkTables.{rowsOf}
 use Rattle.links.specs.Checks.{rowChecks, sizeChecks}
 use Rattle.links.specs.LinkChecks.{Links, link-checks, rows-length}
 use Rattle.links.specs.Searches.{place-in}
-use Rattle.routes.specs.Orders.{imageCheck, pathChecks, roomCheck, routeChecks, upperChecks}
+use Rattle.theory.specs.Checks.{imageCheck}
+use Rattle.routes.specs.Orders.{pathChecks, routeChecks, upperChecks}
 
 -- the size and row checks, whatever stands between them
 links-passed : (L n N : ℕ) (l v : List ℕ) → sizeChecks n N l v ≡ Passed → rowChecks L n l v ≡ Passed → Links L n N l v
@@ -63,7 +64,7 @@ pub record UppersTaken (L n N : ℕ) (l v : List ℕ) (room : ℕ) : Type 0 wher
 pub upper-passed : (L n N : ℕ) (l v : List ℕ) (room : ℕ) → upperChecks L n N l v room ≡ Passed → UppersTaken L n N l v room
 upper-passed L n N l v room e =
     let p = then-passed (sizeChecks n N l v) _ e in
-    let q = then-passed (roomCheck n room) (rowChecks L n l v) (p .1) in
+    let q = then-passed (roomCheck (2 * n - 3) room) (rowChecks L n l v) (p .1) in
     record { table = links-passed L n N l v (p .0) (q .1); spare = ltb-false room (2 * n - 3) (refuseIf-passed (ltb room (2 * n - 3)) (refusal 3 0 0 0 0) (q .0)) }
 
 pub passed-upper : (L n N : ℕ) (l v : List ℕ) (room : ℕ) → UppersTaken L n N l v room → upperChecks L n N l v room ≡ Passed

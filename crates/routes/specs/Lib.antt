@@ -6,7 +6,6 @@ pub mod PathSums
 pub mod UpperRows
 pub mod Climbs
 pub mod Accepted
-pub mod Answers
 pub mod Containing
 pub mod Holding
 -- What is promised.

@@ -2,18 +2,10 @@
 -- Images are 1 to n here, as in the calls. Assumes nothing.
 use mathlib.Core.List.{List}
 use Prim.Native.Nat.{ℕ, _*_, _-_}
-use lib.Dec.{ltb}
-use Rattle.ground.specs.Refusals.{outside, refusal, refuseIf, _then_}
+use Rattle.ground.specs.Refusals.{roomCheck, _then_}
 use Rattle.ground.specs.declared.Check.{Check}
+use Rattle.theory.specs.Checks.{imageCheck}
 use Rattle.links.specs.Checks.{rowChecks, sizeChecks}
-
--- 3: room for 2 n - 3 places
-abbrev pub roomCheck : ℕ → ℕ → Check
-roomCheck n room = refuseIf (ltb room (2 * n - 3)) (refusal 3 0 0 0 0)
-
--- 8: the image is one of 1 to n
-abbrev pub imageCheck : ℕ → ℕ → Check
-imageCheck n i = refuseIf (outside 1 n i) (refusal 8 0 0 0 0)
 
 -- path: 1, 10, 2, 12, 13, 8
 abbrev pub pathChecks : ℕ → ℕ → ℕ → List ℕ → List ℕ → ℕ → ℕ → Check
@@ -21,7 +13,7 @@ pathChecks L n N l v i j = sizeChecks n N l v then rowChecks L n l v then imageC
 
 -- upper rows: 1, 10, 2, 3, 12, 13
 abbrev pub upperChecks : ℕ → ℕ → ℕ → List ℕ → List ℕ → ℕ → Check
-upperChecks L n N l v room = sizeChecks n N l v then roomCheck n room then rowChecks L n l v
+upperChecks L n N l v room = sizeChecks n N l v then roomCheck (2 * n - 3) room then rowChecks L n l v
 
 -- routes: the same, then 8
 abbrev pub routeChecks : ℕ → ℕ → ℕ → List ℕ → List ℕ → ℕ → ℕ → Check

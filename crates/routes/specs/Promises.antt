@@ -14,7 +14,6 @@ use Rattle.ground.specs.Ranges.{from}
 use Rattle.ground.specs.declared.Answer.{Answer}
 use Rattle.ground.specs.declared.Answer.the-variants.{Value}
 use Rattle.ground.specs.declared.Check.the-variants.{Passed}
-use Rattle.ground.specs.declared.Written.{Written}
 use Rattle.ground.specs.declared.Written.the-variants.{Places}
 use Rattle.theory.specs.FarSides.{own}
 use Rattle.theory.specs.FourPoint.{FourPoint}
@@ -26,7 +25,7 @@ use Rattle.routes.specs.Accepted.{PathTaken, RouteTaken, UppersTaken, pa
 use Rattle.routes.specs.Containing.{last-row, upper-none, upper-smallest, upper-there}
 use Rattle.routes.specs.Holding.{heldBy, route-ascends, route-ends, route-first, route-held, route-starts}
 use Rattle.routes.specs.Orders.{pathChecks, routeChecks, upperChecks}
-use Rattle.routes.specs.Outcomes.{Left, Outcome, pathOutcome, routeOutcome, upperOutcome}
+use Rattle.routes.specs.Outcomes.{pathOutcome, routeOutcome, upperOutcome}
 use Rattle.routes.specs.UpperRows.{upper-contains, upper-later, upper-most, uppers-length}
 
 -- ## Which calls are accepted: exactly those with a link table, room and images in range
@@ -115,7 +114,3 @@ route-laws L n N l v t i h = record {
 
 pub path-only : {r q : Answer} (L n N : ℕ) (l v : List ℕ) (i j : ℕ) → r ≡ pathOutcome L n N l v i j → q ≡ pathOutcome L n N l v i j → r ≡ q
 path-only L n N l v i j e f = cc
-
--- upper rows and routes: the answer, and every lent place
-pub left-only : {r q : Written} {d e : List ℕ} (w : Outcome) → Left w r d → Left w q e → (r ≡ q) × (d ≡ e)
-left-only w a b = (cc, cc)

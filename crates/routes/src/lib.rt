@@ -9,11 +9,13 @@ ghost use lib.Seq.{sets};
 ghost use Rattle.ground.specs.Buffers.{over};
 ghost use Rattle.ground.specs.Refusals.{_then_};
 ghost use Rattle.ground.specs.Sums.{when};
+ghost use Rattle.ground.specs.Outcomes.{Left};
 ghost use Rattle.theory.specs.LinkTables.{apart, path, rowsOf};
 ghost use Rattle.theory.specs.Routes.{uppers};
 ghost use Rattle.theory.specs.Tables.{limit};
-ghost use Rattle.routes.specs.Orders.{imageCheck, pathChecks, upperChecks, routeChecks};
-ghost use Rattle.routes.specs.Outcomes.{pathOutcome, upperOutcome, routeOutcome, Left};
+ghost use Rattle.theory.specs.Checks.{imageCheck};
+ghost use Rattle.routes.specs.Orders.{pathChecks, upperChecks, routeChecks};
+ghost use Rattle.routes.specs.Outcomes.{pathOutcome, upperOutcome, routeOutcome};
 ghost use Rattle.routes.specs.Climbs.{climbFrom};
 
 // What a row adds to the path cost of images i and j, from 0: its cost where the far side holds exactly one of them.

@@ -1,9 +1,8 @@
 -- What the calls answer, and what they leave in the lent slice. Assumes nothing.
 use mathlib.Core.List.{List}
-use mathlib.Core.Path.{_≡_}
 use Prim.Native.Nat.{ℕ, _/_}
 use lib.ListN.{drop, length}
-use Rattle.ground.specs.Buffers.{front}
+use Rattle.ground.specs.Outcomes.{Outcome, frontIf}
 use Rattle.ground.specs.declared.Check.{Check}
 use Rattle.ground.specs.declared.Check.the-variants.{Passed, Refused}
 use Rattle.stored_costs.specs.Form.{costUsed, costsOf, imagesOf}
@@ -11,21 +10,6 @@ use Rattle.stored_costs.specs.Reading.{readAtChecks}
 use Rattle.stored_costs.specs.declared.StoredCosts.{StoredCosts}
 use Rattle.stored_costs.specs.declared.StoredCosts.the-variants.{Table}
 use Rattle.stored_costs.specs.declared.StoredCosts.the-variants as stored
-
--- an answer, and the lent places as they are left
-pub record Outcome (A : Type 0) : Type 0 where
-  pub answer : A
-  pub places : List ℕ
-
--- the call answered r and left the places e
-pub record Left {A : Type 0} (w : Outcome A) (r : A) (e : List ℕ) : Type 0 where
-  pub answered : r ≡ w .answer
-  pub left : e ≡ w .places
-
--- m at the front of the lent places d where the check passed; where it refused they are as they were
-abbrev pub frontIf : Check → List ℕ → List ℕ → List ℕ
-frontIf Passed m d = front m d
-frontIf (Refused r) m d = d
 
 -- n and the bytes used where the check passed
 abbrev pub tableIf : Check → ℕ → ℕ → StoredCosts

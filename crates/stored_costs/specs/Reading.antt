@@ -5,9 +5,10 @@ use Prim.Native.Nat.{ℕ, _%_, _*_, _+_, _-_, _/_}
 use lib.Dec.{ltb}
 use lib.ListN.{drop, length}
 use Rattle.ground.specs.Lowest.{checkAll}
-use Rattle.ground.specs.Refusals.{refusal, refuseIf, _then_}
+use Rattle.ground.specs.Refusals.{refusal, refuseIf, roomCheck, _then_}
 use Rattle.ground.specs.declared.Check.{Check}
-use Rattle.tables.specs.Checks.{entryCheck, imagesCheck}
+use Rattle.theory.specs.Checks.{imagesCheck}
+use Rattle.tables.specs.Checks.{entryCheck}
 use Rattle.bits.specs.Forms.{bytesFor}
 use Rattle.stored_costs.specs.Entries.{costOf}
 use Rattle.stored_costs.specs.Form.{costUsed, entryOf, fillOf, imagesOf}
@@ -15,10 +16,6 @@ use Rattle.stored_costs.specs.Form.{costUsed, entryOf, fillOf, imagesOf}
 -- 9: stored bytes end early, of which so many are needed
 abbrev pub endCheck : List ℕ → ℕ → Check
 endCheck s needed = refuseIf (ltb (length s) needed) (refusal 9 0 0 0 0)
-
--- 3: too little room for so many places
-abbrev pub roomCheck : ℕ → ℕ → Check
-roomCheck needed room = refuseIf (ltb room needed) (refusal 3 0 0 0 0)
 
 -- 11: fill bits not zero
 abbrev pub fillCheck : ℕ → Check

@@ -2,14 +2,13 @@
 use mathlib.Core.List.{List}
 use Prim.Native.Nat.{ℕ}
 use lib.ListN.{length}
-use Rattle.ground.specs.Refusals.{placesIf, _then_}
+use Rattle.ground.specs.Refusals.{placesIf, roomCheck, _then_}
 use Rattle.ground.specs.declared.Check.{Check}
 use Rattle.ground.specs.declared.Written.{Written}
+use Rattle.ground.specs.Outcomes.{Outcome, frontIf}
 use Rattle.theory.specs.Tables.{cost}
 use Rattle.tables.specs.Checks.{costsCheck, sizeCheck}
 use Rattle.stored_costs.specs.Form.{costBytes, costUsed}
-use Rattle.stored_costs.specs.Outcomes.{Outcome, frontIf}
-use Rattle.stored_costs.specs.Reading.{roomCheck}
 
 -- 1, 2, 4, 5, 6, 3, room counting exact bytes
 abbrev pub writeChecks : ℕ → ℕ → ℕ → ℕ → List ℕ → ℕ → Check

@@ -8,13 +8,14 @@ ghost use Prim.Native.Nat.{_*_, _+_, _-_, _<_, _≤_};
 ghost use lib.ListN.{length};
 ghost use Rattle.ground.specs.Buffers.{front};
 ghost use Rattle.ground.specs.Lowest.{checkAll};
+ghost use Rattle.ground.specs.Outcomes.{Left};
 ghost use Rattle.theory.specs.Tables.{cost, CostTable, limit};
 ghost use Rattle.tables.specs.Checks.{entryCheck};
 ghost use Rattle.bits.specs.Bits.{bits, overAt};
 ghost use Rattle.bits.specs.Forms.{bytesFor, fieldsOf, formBits};
 ghost use Rattle.stored_costs.specs.Entries.{costOf, entries, entryCount, rowEntries, rowStart};
 ghost use Rattle.stored_costs.specs.Form.{costBytes, costEnd, costsOf, costUsed, entryOf, imagesOf};
-ghost use Rattle.stored_costs.specs.Outcomes.{Left, judged, readOutcome};
+ghost use Rattle.stored_costs.specs.Outcomes.{judged, readOutcome};
 ghost use Rattle.stored_costs.specs.Reading.{bodyChecks, misplaced, readAtChecks, readChecks, startChecks, storedCheck};
 ghost use Rattle.stored_costs.specs.Sizes.{Held, Small, Span};
 ghost use Rattle.stored_costs.specs.Writing.{writeChecks, writeOutcome};
@@ -81,7 +82,7 @@ fn check_start(head: usize, bytes: &[u8], room: usize) -> Check
         return short;
     };
     let n = images(head, bytes);
-    let outside = tables::check_images(n);
+    let outside = theory::check_images(n);
     let Check::Passed = outside else {
         return outside;
     };

@@ -7,13 +7,14 @@ ghost use Prim.Native.Nat.{min, _*_, _+_, _-_, _≤_, _<_};
 ghost use lib.ListN.{length, take};
 ghost use Rattle.ground.specs.Buffers.{front};
 ghost use Rattle.ground.specs.declared.Check.the-variants.{Passed};
+ghost use Rattle.ground.specs.Outcomes.{Left};
 ghost use Rattle.theory.specs.Tables.{limit};
 ghost use Rattle.links.specs.Checks.{rowChecks};
 ghost use Rattle.bits.specs.Bits.{bits, part, valueOf};
 ghost use Rattle.bits.specs.Forms.{bytesFor};
 ghost use Rattle.stored_links.specs.Form.{linkUsed, rowAt};
 ghost use Rattle.stored_links.specs.Said.{costOf, costsOf, countOf, farOf, farsOf, imagesOf};
-ghost use Rattle.stored_links.specs.Outcomes.{Left, judged, readOutcome, saidIf};
+ghost use Rattle.stored_links.specs.Outcomes.{judged, readOutcome, saidIf};
 ghost use Rattle.stored_links.specs.Reading.{bodyChecks, headChecks, misplaced, readAtChecks, readChecks};
 ghost use Rattle.stored_links.specs.Sizes.{Held, Small};
 

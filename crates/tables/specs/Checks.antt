@@ -5,12 +5,9 @@ use Prim.Native.Nat.{ℕ, _*_, _+_, _-_}
 use lib.Dec.{eqb, ltb}
 use lib.ListN.{length}
 use Rattle.ground.specs.Lowest.{checkAll}
-use Rattle.ground.specs.Refusals.{outside, refusal, refuseIf, _then_}
+use Rattle.ground.specs.Refusals.{refusal, refuseIf, _then_}
 use Rattle.ground.specs.declared.Check.{Check}
-
--- 1: n outside 3..64
-abbrev pub imagesCheck : ℕ → Check
-imagesCheck n = refuseIf (outside 3 64 n) (refusal 1 n 0 0 0)
+use Rattle.theory.specs.Checks.{imagesCheck}
 
 -- 2: a slice's length does not fit n
 abbrev pub lengthCheck : ℕ → List ℕ → Check

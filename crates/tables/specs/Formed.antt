@@ -10,10 +10,11 @@ use lib.ListN.{length}
 use borrow.Author.Tests.{eq-eqb, eqb-false, eqb-true, le-ltb, ltb-false, ltb-true, not-false}
 use borrow.Table.Steps.{cases}
 use Rattle.ground.specs.Lowest.{all-passed, checkAll, passed-all}
-use Rattle.ground.specs.Refusals.{outside, outside-false, refuseIf-passed, then-passed, _then_}
+use Rattle.ground.specs.Refusals.{refuseIf-passed, then-passed, _then_}
 use Rattle.ground.specs.declared.Check.the-variants.{Passed}
+use Rattle.theory.specs.Checks.{images-passed, imagesCheck}
 use Rattle.theory.specs.Tables.{CostTable, WellFormed, cost}
-use Rattle.tables.specs.Checks.{costsCheck, diagonalCheck, entriesCheck, entryCheck, imagesCheck, lengthCheck, mirrorCheck, sizeCheck, symmetryCheck, zeroCheck}
+use Rattle.tables.specs.Checks.{costsCheck, diagonalCheck, entriesCheck, entryCheck, lengthCheck, mirrorCheck, sizeCheck, symmetryCheck, zeroCheck}
 
 -- ## 1 and 2
 
@@ -26,7 +27,7 @@ pub record Sized (n : ℕ) (t : List ℕ) : Type 0 where
 pub size-passed : (n : ℕ) (t : List ℕ) → sizeCheck n t ≡ Passed → Sized n t
 size-passed n t e =
     let p = then-passed (imagesCheck n) (lengthCheck n t) e in
-    let q = outside-false 3 64 n (refuseIf-passed (outside 3 64 n) _ (p .0)) in
+    let q = images-passed n (p .0) in
     record {
       some = q .0;
       few = q .1;

@@ -5,7 +5,7 @@ ghost use Prim.Native.Nat.{_+_, _-_, _<_, _≤_, _*_};
 ghost use lib.ListN.{length};
 ghost use Rattle.ground.specs.Lowest.{checkAll};
 ghost use Rattle.theory.specs.Tables.{limit, cost, CostTable};
-ghost use Rattle.tables.specs.Checks.{imagesCheck, sizeCheck, entryCheck, entriesCheck, zeroCheck, diagonalCheck, mirrorCheck, symmetryCheck, costsCheck};
+ghost use Rattle.tables.specs.Checks.{sizeCheck, entryCheck, entriesCheck, zeroCheck, diagonalCheck, mirrorCheck, symmetryCheck, costsCheck};
 ghost use Rattle.tables.specs.Formed.{Sized};
 
 // The entry of images i and j in a table of the right size.
@@ -24,18 +24,11 @@ pub fn entry(t: &[u32], n: usize, i: usize, j: usize) -> u32
     at(t, n, i, j)
 }
 
-// Refusal 1.
-pub fn check_images(n: usize) -> Check
-    ensures { λ r. ⌜ r ≡ imagesCheck n ⌝ }
-{
-    ground::refuse_if(ground::is_outside(3, 64, n), 1, n, 0)
-}
-
 // Refusals 1 and 2. Nothing is computed from n before it is known to be small.
 pub fn check_size(n: usize, t: &[u32]) -> Check
     ensures { λ r. ⌜ r ≡ sizeCheck n (now (t .entry)) ⌝ }
 {
-    let c = check_images(n);
+    let c = theory::check_images(n);
     match c {
         Check::Refused(_) => c,
         Check::Passed => ground::refuse_if(t.len() != n * n, 2, 0, 0),

@@ -1,5 +1,6 @@
 -- What a reader must believe: document 01's definitions, a short file to a topic, in its order.
 pub mod Tables
+pub mod Checks
 pub mod FourPoint
 pub mod FarSides
 pub mod LinkTables

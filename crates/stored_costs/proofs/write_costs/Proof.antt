@@ -6,9 +6,9 @@ use lib.ListN.{length}
 use Rattle.theory.specs.Tables.{CostTable, limit}
 use Rattle.stored_costs.specs.Form.{costUsed}
 use Rattle.stored_costs.specs.Sizes.{Small}
-use Rattle.stored_costs.specs.Laws.Outcomes.{front-goes, front-stops, places-goes, places-stops}
 use Rattle.stored_costs.specs.Laws.Writable.{write-passed}
 use borrow.Author.Needs.{needs}
+use Rattle.ground.specs.Outcomes.{front-goes, front-stops, places-goes, places-stops}
 use Rattle.stored_costs.proofs.write_costs.Statement.{statement}
 use Rattle.stored_costs.proofs.write_costs.Tie as tie
 

@@ -7,18 +7,19 @@ use lib.Dec.{ltb}
 use lib.ListN.{drop, length}
 use borrow.Author.Tests.{le-ltb, ltb-false}
 use Rattle.ground.specs.Lowest.{all-passed, checkAll, passed-all}
-use Rattle.ground.specs.Refusals.{outside, outside-false, refuseIf-passed, then-passed, _then_}
+use Rattle.ground.specs.Refusals.{outside, outside-false, refuseIf-passed, roomCheck, then-passed, _then_}
 use Rattle.ground.specs.Tests.{or-false}
 use Rattle.ground.specs.declared.Check.{Check}
 use Rattle.ground.specs.declared.Check.the-variants.{Passed, Refused}
 use Rattle.ground.specs.declared.Refusal.{Refusal}
-use Rattle.tables.specs.Checks.{entryCheck, imagesCheck}
+use Rattle.theory.specs.Checks.{images-passed, imagesCheck}
+use Rattle.tables.specs.Checks.{entryCheck}
 use Rattle.bits.specs.Forms.{bytesFor}
 use Rattle.stored_costs.specs.Entries.{costOf, entryNumber}
 use Rattle.stored_costs.specs.Form.{costUsed, entryOf, fillOf, imagesOf}
 use Rattle.stored_costs.specs.Laws.Tables.{cost-of-up}
 use Rattle.stored_costs.specs.Outcomes.{judged, tableIf}
-use Rattle.stored_costs.specs.Reading.{bodyChecks, endCheck, fillCheck, misplaced, positionCheck, readAtChecks, readChecks, roomCheck, startChecks, storedCheck}
+use Rattle.stored_costs.specs.Reading.{bodyChecks, endCheck, fillCheck, misplaced, positionCheck, readAtChecks, readChecks, startChecks, storedCheck}
 use Rattle.stored_costs.specs.Sizes.{Held}
 use Rattle.stored_costs.specs.declared.StoredCosts.the-variants.{Table}
 use Rattle.stored_costs.specs.declared.StoredCosts.the-variants as stored
@@ -45,7 +46,7 @@ start-passed head s room e =
     let n = imagesOf head s in
     let q = then-passed (endCheck s (bytesFor (head + 7))) (imagesCheck n then roomCheck (n * n) room) e in
     let r = then-passed (imagesCheck n) (roomCheck (n * n) room) (q .1) in
-    let o = outside-false 3 64 n (refuseIf-passed (outside 3 64 n) _ (r .0)) in
+    let o = images-passed n (r .0) in
     (ltb-false _ _ (refuseIf-passed (ltb (length s) (bytesFor (head + 7))) _ (q .0)), o .0, o .1, ltb-false _ _ (refuseIf-passed (ltb room (n * n)) _ (r .1)))
 
 pub body-passed : (head w n : ℕ) (s : List ℕ) → bodyChecks head w n s ≡ Passed → (costUsed head w n ≤ length s) × (fillOf head w n s ≡ 0)

@@ -9,6 +9,7 @@ use borrow.Author.Tests.{le-ltb}
 use Rattle.ground.specs.Buffers.{front}
 use Rattle.ground.specs.declared.Written.{Written}
 use Rattle.ground.specs.declared.Written.the-variants.{Places}
+use Rattle.ground.specs.Outcomes.{Outcome, frontIf}
 use Rattle.theory.specs.Tables.{CostTable, cost}
 use Rattle.bits.specs.Bits.{AllBytes}
 use Rattle.bits.specs.Laws.Written.{all-bytes-drop}
@@ -17,7 +18,7 @@ use Rattle.stored_costs.specs.Laws.Passed.{Readable, passed-read, table-
 use Rattle.stored_costs.specs.Laws.ReadBack.{written-costs-of, written-images, written-readable}
 use Rattle.stored_costs.specs.Laws.Writable.{passed-write}
 use Rattle.stored_costs.specs.Laws.WriteBack.{read-table, read-written}
-use Rattle.stored_costs.specs.Outcomes.{Outcome, frontIf, judged, readOutcome, tableIf}
+use Rattle.stored_costs.specs.Outcomes.{judged, readOutcome, tableIf}
 use Rattle.stored_costs.specs.Reading.{readChecks}
 use Rattle.stored_costs.specs.Writing.{writeOutcome}
 use Rattle.stored_costs.specs.declared.StoredCosts.{StoredCosts}

@@ -4,13 +4,12 @@ use mathlib.Core.Path.{_≡_}
 use Prim.Native.Nat.{ℕ, _≤_}
 use lib.Dec.{ltb}
 use borrow.Author.Tests.{le-ltb, ltb-false}
-use Rattle.ground.specs.Refusals.{refuseIf-passed, then-passed, _then_}
+use Rattle.ground.specs.Refusals.{refuseIf-passed, roomCheck, then-passed, _then_}
 use Rattle.ground.specs.declared.Check.the-variants.{Passed}
 use Rattle.theory.specs.Tables.{CostTable, cost}
 use Rattle.tables.specs.Checks.{costsCheck, sizeCheck}
 use Rattle.tables.specs.Formed.{cost-table}
 use Rattle.stored_costs.specs.Form.{costUsed}
-use Rattle.stored_costs.specs.Reading.{roomCheck}
 use Rattle.stored_costs.specs.Writing.{writeChecks}
 
 module _ (head w L n : ℕ) (t : List ℕ) (room : ℕ) where

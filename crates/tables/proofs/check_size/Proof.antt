@@ -3,7 +3,8 @@ use mathlib.Core.Path.{_∙_, sym}
 use native.Mathlib.Nat.{mul-le-mul}
 use native.Mathlib.Omega.{arith}
 use borrow.Author.Needs.{needs}
-use Rattle.ground.specs.Refusals.{outside, outside-false, refuseIf-passed, then-goes, then-stops}
+use Rattle.ground.specs.Refusals.{then-goes, then-stops}
+use Rattle.theory.specs.Checks.{images-passed}
 use Rattle.tables.proofs.check_size.Statement.{statement}
 use Rattle.tables.proofs.check_size.Tie as tie
 
@@ -20,7 +21,7 @@ mul-refuse-if : tie.Need-mul-refuse-if
 mul-refuse-if c =
     let e = sym (c .before .before .check-images .ensures) ∙ c .enum-told2 .given .1 in
     let n = c .before .before .before .before .args .n in
-    let h = outside-false 3 64 n (refuseIf-passed (outside 3 64 n) _ e) in
+    let h = images-passed n e in
     omega (arith, mul-le-mul (h .1) (h .1))
 
 refuse-if-requires : tie.Need-refuse-if-requires

@@ -12,7 +12,8 @@ use Rattle.ground.specs.Filters.{filter, filter-mem, mem-filter}
 use Rattle.ground.specs.Members.{isIn, isIn-mem, mem-isIn}
 use Rattle.theory.specs.Comparison.{common, differing}
 
-split-length : (p : ℕ → Bool) (l : List ℕ) → length (filter p l) + length (filter (λ x. not (p x)) l) ≡ length l
+-- what passes a test and what does not
+pub split-length : (p : ℕ → Bool) (l : List ℕ) → length (filter p l) + length (filter (λ x. not (p x)) l) ≡ length l
 split-length p [] = refl
 split-length p (x ∷ l) = let r = split-length p l in cases (p x) (λ e. rw e (omega arith)) (λ e. rw e (omega arith))
 

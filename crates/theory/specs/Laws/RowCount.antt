@@ -3,18 +3,16 @@
 use mathlib.Core.Bool.{Bool, false, true}
 use mathlib.Core.List.{List, List·Memᴰ, List·Memᴰ·head, List·Memᴰ·tail, [], map, _∷_}
 use mathlib.Core.Path.{ap, refl, sym, _∙_, _≡_}
-use Prim.Native.Nat.{suc, zero, ℕ, _*_, _+_, _-_, _/_, _<_, _^_, _≤_}
+use Prim.Native.Nat.{suc, zero, ℕ, _*_, _+_, _<_, _≤_}
 use native.Mathlib.Nat.{le-trans}
 use native.Mathlib.Omega.{arith}
-use lib.Count.{ones, ones-step}
 use lib.Dec.{eqb}
 use lib.ListN.{length, length-map}
-use lib.Pow.{pow-lt, pow-pos}
+use lib.Pow.{pow-lt, pow-mono, pow-pos}
 use borrow.Author.Tests.{eqb-true}
 use borrow.Table.Steps.{cases}
 use Rattle.ground.specs.Counts.{count, sum-count-all}
 use Rattle.ground.specs.Maps.{map-mem}
-use Rattle.ground.specs.Ones.{ones-full, ones-none, ones-pow}
 use Rattle.ground.specs.Sums.{sum, sum-le, when}
 use Rattle.theory.specs.FarSides.{own}
 use Rattle.theory.specs.Laws.OnlyOne.{unique}
@@ -28,17 +26,9 @@ use denote.RattleType.{owns}
 -- ## At least n rows
 
 -- own links of different images differ, from three images on
-own-differ : (k i j : ℕ) → i < j → j < suc (suc (suc k)) → own (suc (suc (suc k))) i ≡ own (suc (suc (suc k))) j → ⊥
+pub own-differ : (k i j : ℕ) → i < j → j < suc (suc (suc k)) → own (suc (suc (suc k))) i ≡ own (suc (suc (suc k))) j → ⊥
 own-differ k i zero h l e = omega arith
-own-differ k zero (suc j) h l e =
-    let a : ones (2 ^ suc (suc (suc k)) - 2) ≡ suc (suc k) = full in
-    let b : 2 ^ suc j ≡ 2 ^ suc j + 0 = omega arith in
-    omega (arith, ap ones e, ap ones b, ones-pow (suc j) 0 (pow-pos (suc j)), ones-none)
-  where
-    full : ones (2 ^ suc (suc (suc k)) - 2) ≡ suc (suc k)
-    full =
-        let e : (2 ^ suc (suc (suc k)) - 2) / 2 ≡ 2 ^ suc (suc k) - 1 = omega arith in
-        omega (arith, ones-step (2 ^ suc (suc (suc k)) - 2), ap ones e, ones-full (suc (suc k)))
+own-differ k zero (suc j) h l e = omega (arith, pow-mono {i = suc j} {j = suc (suc k)} (omega arith), pow-pos k)
 own-differ k (suc i) (suc j) h l e = omega (arith, pow-lt h)
 
 -- at most one t passes

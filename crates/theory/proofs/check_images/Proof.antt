@@ -1,7 +1,7 @@
--- `tables::check_images` meets its contract. Assumes nothing.
+-- `theory::check_images` meets its contract. Assumes nothing.
 use borrow.Author.Needs.{needs}
-use Rattle.tables.proofs.check_images.Statement.{statement}
-use Rattle.tables.proofs.check_images.Tie as tie
+use Rattle.theory.proofs.check_images.Statement.{statement}
+use Rattle.theory.proofs.check_images.Tie as tie
 
 is-outside-requires : tie.Need-is-outside-requires
 is-outside-requires c κs = search needs

@@ -1,0 +1,74 @@
+-- `compare::against_second` meets its contract: the refusal with number 2, or the difference of the two trees. Assumes nothing.
+use mathlib.Core.List.{List}
+use mathlib.Core.Path.{ap, sym, _∙_}
+use Prim.Native.Nat.{ℕ}
+use native.Mathlib.Omega.{arith}
+use lib.Seq.{length-take-le}
+use borrow.Author.Needs.{needs}
+use Rattle.theory.specs.Tables.{limit}
+use Rattle.counts.specs.Differ.{differ}
+use Rattle.compare.specs.Chain.{numbered-goes, numbered-stops}
+use Rattle.compare.specs.Read.{Listed, read-listed, read-refused}
+use Rattle.compare.specs.declared.Comparison.the-variants.{Compared}
+use Rattle.compare.proofs.against_second.Statement.{statement}
+use Rattle.compare.proofs.against_second.Tie as tie
+
+slice-aggregate-read : tie.Need-slice-aggregate-read
+slice-aggregate-read c = search needs
+
+read-requires : tie.Need-read-requires
+read-requires c κs = search needs
+
+enum-known-rows : tie.Need-enum-known-rows
+enum-known-rows c = search needs
+
+enum-known-rows-2 : tie.Need-enum-known-rows-2
+enum-known-rows-2 c = search needs
+
+-- the far sides of the second tree, where its table was accepted
+listed : (c : tie.After-rows2)
+    → Listed limit (c .before .before .before .before .before .before .before .args .n) (c .before .before .before .before .before .before .before .args .second .now) (c .rows2 .given .0 .0) (c .before .before .before .read .last .1 .1 .0)
+listed c =
+    let e = c .before .before .before in
+    let s = e .before .before .before .before in
+    read-listed limit (s .args .n) (s .args .second .now) (s .pre .0) (s .pre .1) (e .read .ensures) (c .rows2 .given .1)
+
+array-share-prefix-fars : tie.Need-array-share-prefix-fars
+array-share-prefix-fars c = omega (arith, listed (c .before) .few, c .before .before .before .before .read .kept .1 .1 .0)
+
+slice-aggregate-differ : tie.Need-slice-aggregate-differ
+slice-aggregate-differ c =
+    sym (length-take-le _ _ (omega (arith, listed (c .before .before) .few, c .before .before .before .before .before .read .kept .1 .1 .0)))
+
+differ-requires : tie.Need-differ-requires
+differ-requires c κs =
+    let s = c .before .before .before .before .before .before .before .before .before in
+    let q = listed (c .before .before) in
+    (s .pre .0, s .pre .1, s .pre .2, q .ascending, s .pre .3, q .short)
+
+returns : tie.Need-returns
+returns c =
+    let e = c .before .before .before .before in
+    let s = e .before .before .before .before in
+    numbered-stops _ _ _ (read-refused limit (s .args .n) (s .args .second .now) (s .pre .0) (s .pre .1) (e .read .ensures) (c .before .rows .given .1))
+
+returns-2 : tie.Need-returns-2
+returns-2 c =
+    let s = c .before .before .before .before .before .before .before .before .before .before in
+    let q = listed (c .before .before .before) in
+    numbered-goes _ _ _ (q .passed)
+    (ap Compared (c .differ .ensures) ∙ ap (λ (l : List ℕ). Compared (differ (s .args .n) (s .args .first .now) l)) (q .front))
+
+pub against-second-spec : {M : Type 1} → statement M
+against-second-spec =
+    tie.close
+    (tie.spec
+    slice-aggregate-read
+    read-requires
+    enum-known-rows
+    enum-known-rows-2
+    array-share-prefix-fars
+    slice-aggregate-differ
+    differ-requires
+    returns
+    returns-2)

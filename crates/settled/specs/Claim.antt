@@ -1,0 +1,73 @@
+-- The one claim: what each settled example says is so. Everything is computed from the definitions; that the rows are the exact
+-- reading follows by the law that no other table is. Assumes nothing.
+use mathlib.Core.List.{List, [], map}
+use mathlib.Core.Path.{refl, sym, _≡_}
+use Prim.Native.Nat.{suc, ℕ}
+use native.Mathlib.Omega.{arith}
+use lib.Count.{ones, onesIn}
+use Rattle.ground.specs.Filters.{Each, each-cons, each-nil}
+use Rattle.ground.specs.Least.{leastOn}
+use Rattle.ground.specs.Lowest.{checkAll}
+use Rattle.ground.specs.Refusals.{refusal, _then_}
+use Rattle.ground.specs.declared.Check.{Check}
+use Rattle.ground.specs.declared.Check.the-variants.{Passed, Refused}
+use Rattle.theory.specs.Comparison.{differing}
+use Rattle.theory.specs.Demands.{exact-reading}
+use Rattle.theory.specs.FourPoint.{failing}
+use Rattle.theory.specs.Index.{shifted}
+use Rattle.theory.specs.LinkTables.{Row}
+use Rattle.theory.specs.Order.{closed, grow, next}
+use Rattle.theory.specs.Readings.{Exact}
+use Rattle.theory.specs.Tables.{CostTable, limit}
+use Rattle.tables.specs.Checks.{costsCheck, sizeCheck}
+use Rattle.tables.specs.Formed.{cost-table}
+use Rattle.settled.specs.Examples.{exampleA, exampleB, exampleC, exampleD, exampleE, exampleEG, exampleF, exampleG, exampleH, orderH, settled}
+use Rattle.settled.specs.Settled.{Holds, Settled, compared, ordered, reads, refused, around, innerSides, rowsRead}
+use Rattle.settled.specs.Triangles.{square, table}
+use Rattle.wiring.specs.Check.{wiringCheck}
+
+-- the checks 1, 2, 4, 5, 6
+abbrev checks : ℕ → List ℕ → Check
+checks n t = sizeCheck n (square n t) then costsCheck limit (table n t) n
+
+is-table : (n : ℕ) (t : List ℕ) → checks n t ≡ Passed → CostTable limit n (square n t)
+is-table n t e = cost-table limit n (square n t) .0 e
+
+-- rows of a table in which no four images fail are its exact reading
+is-exact : (n : ℕ) (t : List ℕ) (T : List Row) → checks n t ≡ Passed → failing (table n t) n ≡ [] → rowsRead n t ≡ T → Exact limit (table n t) n T
+is-exact n t T e f m =
+    let c = is-table n t e in
+    let x = exact-reading limit (table n t) n (omega (arith, c .some)) (c .formed) in
+    x .answer T (x .scanned .0 f) .1 (sym m)
+
+-- what is computed of an example, and that it is enough
+abbrev Accepted : ℕ → List ℕ → Type 0
+Accepted n t = (checks n t ≡ Passed) × (failing (table n t) n ≡ [])
+
+abbrev Computed : Settled → Type 0
+Computed (reads n t T) = Accepted n t × (rowsRead n t ≡ T)
+Computed (refused n t i j k l T) =
+    (checks n t ≡ Passed) × (wiringCheck (table n t) n ≡ Refused (refusal 7 i j k l)) × (rowsRead n t ≡ T)
+Computed (ordered n t first last l s) =
+    (checks n t ≡ Passed) × (map suc (around n t first last) ≡ l) × (closed (table n t) (around n t first last) ≡ s)
+Computed (compared n t u c) = Accepted n t × Accepted n u × (differing (innerSides n t) (innerSides n u) ≡ c)
+
+computed : (x : Settled) → Computed x → Holds x
+computed (reads n t T) p = (is-table n t (p .0 .0), is-exact n t T (p .0 .0) (p .0 .1) (p .1), p .1)
+computed (refused n t i j k l T) p = (is-table n t (p .0), p .1, p .2)
+computed (ordered n t first last l s) p = (is-table n t (p .0), p .1, p .2)
+computed (compared n t u c) p = (is-exact n t _ (p .0 .0) (p .0 .1) refl, is-exact n u _ (p .1 .0) (p .1 .1) refl, p .2)
+
+pub claim : Each settled Holds
+unfolding checkAll shifted leastOn ones onesIn next grow
+claim =
+    each-cons Holds exampleA _ (computed exampleA ((refl, refl), refl))
+    (each-cons Holds exampleB _ (computed exampleB ((refl, refl), refl))
+    (each-cons Holds exampleC _ (computed exampleC (refl, refl, refl))
+    (each-cons Holds exampleD _ (computed exampleD ((refl, refl), refl))
+    (each-cons Holds exampleE _ (computed exampleE ((refl, refl), refl))
+    (each-cons Holds exampleF _ (computed exampleF (refl, refl, refl))
+    (each-cons Holds exampleG _ (computed exampleG ((refl, refl), refl))
+    (each-cons Holds exampleEG _ (computed exampleEG ((refl, refl), (refl, refl), refl))
+    (each-cons Holds exampleH _ (computed exampleH ((refl, refl), refl))
+    (each-cons Holds orderH _ (computed orderH (refl, refl, refl)) (each-nil Holds))))))))))

@@ -1,0 +1,994 @@
+#!/usr/bin/env python3
+"""Cases for every public call, with the answers of the independent program.
+
+    python3 tests/generate.py            writes the files
+    python3 tests/generate.py --check    says whether the files are what it makes
+
+It writes crates/cases/data/CALL.txt, one case a line: the call's arguments in
+order, a slice as its length and then its elements. It writes crates/cases/stdout,
+for each call a line with its name and then one line a case: the numbers of the
+answer, then each lent output as the call leaves it, its length first. It writes
+tests/listing/NAME.stdin and NAME.stdout, stored bytes for the listing program and
+the text it prints. All is decided by the seeds below.
+"""
+
+import os
+import sys
+
+sys.dont_write_bytecode = True
+
+import independent as law
+from independent import (Dice, is_inner, own_link, pairs, stored_costs, table_from, tree_rows,
+                         tree_table)
+
+ROOT = os.path.dirname(os.path.dirname(os.path.abspath(__file__)))
+
+LONGEST_LINE = 60000
+LONGEST_SLICE = 4200
+LARGEST_FILE = 400000
+LARGEST_TOTAL = 890000
+FEWEST_CASES = 2500
+FEWEST_OF_EACH_REFUSAL = 8
+
+# Each call: its function; its arguments, a single number of 64 bits as n and a
+# slice by the bits of its elements, a lent output with a star; the refusal
+# numbers it can give.
+CALLS = {
+    "index": (law.index, "n 32 n", (1, 2, 4, 5, 6, 12)),
+    "order": (law.order, "n 32 n n 32*", (1, 2, 3, 4, 5, 6, 8)),
+    "measured": (law.measured, "n 32 64* 32*", (1, 2, 3, 4, 5, 6)),
+    "exact": (law.exact, "n 32 64* 32*", (1, 2, 3, 4, 5, 6, 7)),
+    "path": (law.path, "n n 64 32 n n", (1, 2, 8, 10, 12, 13)),
+    "upper_rows": (law.upper_rows, "n n 64 32 32*", (1, 2, 3, 10, 12, 13)),
+    "route": (law.route, "n n 64 32 n 32*", (1, 2, 3, 8, 10, 12, 13)),
+    "compare": (law.compare, "n 32 32", (1, 2, 4, 5, 6, 7)),
+    "write_costs": (law.write_costs, "n 32 8*", (1, 2, 3, 4, 5, 6)),
+    "read_costs": (law.read_costs, "8 n 32*", (1, 3, 4, 9, 11)),
+    "write_links": (law.write_links, "n n 64 32 8*", (1, 2, 3, 10, 12, 13)),
+    "read_links": (law.read_links, "8 n 64* 32*", (1, 3, 9, 10, 11, 12, 13)),
+    "write_batch": (law.write_batch, "32 32 64 32 8*", (1, 2, 3, 10, 12, 13)),
+    "choice": (law.choice, "8 8", (1, 9, 10, 11, 12, 13, 14, 15)),
+}
+
+BAD_N = [0, 1, 2, 65, 66, 127, 2 ** 32 + 3, 2 ** 32 + 4, 2 ** 40, 2 ** 63, 2 ** 64 - 1]
+HUGE = [2 ** 32, 2 ** 32 + 1, 2 ** 40, 2 ** 63, 2 ** 64 - 8, 2 ** 64 - 1]
+BAD_IN_LIST = [0, 1, 2, 65, 127, 2 ** 31, 2 ** 32 - 1]
+BAD_ENTRY = [1000001, 1000001, 1048575, 2000000, 2 ** 31, 2 ** 32 - 1]
+BAD_COST = [2000001, 2000001, 2097151, 2 ** 32 - 1]
+
+
+# Small parts
+
+def small_n(dice):
+    return dice.one_of([3, 3, 3, 3, 4, 4, 4, 4, 4, 5, 5, 5, 5, 6, 6, 7, 8, 9])
+
+
+def damaged_n(dice, least=3):
+    """Few images where there is a fault."""
+    return max(least, dice.one_of([3, 3, 3, 3, 3, 4, 4, 4, 4, 4, 4, 5, 5, 5, 6, 9]))
+
+
+def places(dice, length):
+    """A lent output of small numbers, filled so that untouched places show."""
+    kind = dice.below(4)
+    if kind == 0 and length < 8:
+        return [2 ** 32 - 1 - k for k in range(length)]
+    return [70 + (7 * k + kind) % 29 for k in range(length)]
+
+
+def far_places(dice, length):
+    """The same for far sides."""
+    if dice.below(5) == 0 and length < 8:
+        return [2 ** 64 - 1 - k for k in range(length)]
+    return places(dice, length)
+
+
+def byte_places(dice, length):
+    """The same for bytes."""
+    kind = dice.below(3)
+    return [255 if kind == 0 else (165 + 37 * k) % 256 if kind == 1 else 90 - k % 7
+            for k in range(length)]
+
+
+def room(dice, needed, short):
+    if short:
+        return dice.one_of([0, needed - 1, needed - 1, needed // 2])
+    return dice.one_of([needed, needed, needed + 1, needed + 4])
+
+
+def two_rooms(dice, needed, short):
+    """Room in two outputs; where it is short, in the first, the second or both."""
+    which = dice.below(3) if short else 3
+    return room(dice, needed, which in (0, 2)), room(dice, needed, which in (1, 2))
+
+
+def fault_sets(dice, kinds, alone, together):
+    """Each kind alone some times; then several at once. The kinds stand in the
+    order of the call's checks, so that each but the last comes first about as
+    often; the last stands alone a few times more."""
+    for kind in kinds + kinds[-1:]:
+        for _ in range(alone):
+            yield {kind}
+    for turn in range(together):
+        first = turn % (len(kinds) - 1)
+        later = [kind for kind in kinds[first + 1:] if dice.chance(1, 2)]
+        yield {kinds[first], dice.one_of(kinds[first + 1:])} | set(later)
+
+
+def some_of(dice, faults):
+    """Of three faults and more, some: where two tables are damaged, each has its own."""
+    if len(faults) < 3:
+        return set(faults)
+    return {fault for fault in sorted(faults) if dice.chance(1, 2)}
+
+
+def bad_image(dice, n):
+    return dice.one_of([0, n + 1, n + 1, 64 + n, 2 ** 32 + 1, 2 ** 40, 2 ** 63, 2 ** 64 - 1])
+
+
+def sides_and_costs(rows):
+    return [far for far, _ in rows], [cost for _, cost in rows]
+
+
+# Cost tables
+
+def tree(dice, n, most=None, shape=None):
+    shape = shape or law.random_shape(dice)
+    return tree_table(n, tree_rows(dice, n, shape, most or dice.one_of([1, 3, 20, 20, 300])))
+
+
+def good_table(dice, n):
+    kind = dice.below(12)
+    if kind < 5:
+        return tree(dice, n)
+    if kind < 7:
+        return law.noisy(dice, n, tree(dice, n), dice.one_of([1, 1, 2, 8]))
+    if kind < 9:
+        return law.random_table(dice, n, dice.one_of([1, 2, 3, 9]))
+    if kind == 9 and n < 7:
+        return law.random_table(dice, n, 1000000)
+    if kind == 10:
+        return table_from(n, [dice.one_of([0, 1000000]) for _ in pairs(n)])
+    return table_from(n, [dice.one_of([0, 1000000, 999999])] * (n * n))
+
+
+TABLE_FAULTS = ["n", "length", "entry", "diagonal", "asymmetric"]
+
+
+def damage_table(dice, n, t, faults):
+    """The table with these faults, and the n that goes with it."""
+    t = list(t)
+    for _ in range(dice.between(1, 2)):
+        i, j = dice.below(n), dice.below(n)
+        other = dice.one_of([k for k in range(n) if k != i])
+        if "entry" in faults:
+            t[i * n + j] = dice.one_of(BAD_ENTRY)
+        if "diagonal" in faults:
+            k = dice.below(n)
+            t[k * n + k] = max(t[k * n + k], dice.one_of([1, 5, 1000000]))
+        if "asymmetric" in faults:
+            at = i * n + other
+            t[at] += -1 if t[at] > 999999 or (t[at] > 0 and dice.chance(1, 2)) else 1
+    if "length" in faults:
+        t = dice.one_of([t[:-1], t + [0], [], t[:n], t[:(n - 1) ** 2], t + t[:2 * n + 1]])
+    if "n" in faults:
+        n = dice.one_of(BAD_N)
+    return n, t
+
+
+def all_small_tables():
+    for x in range(3):
+        for y in range(3):
+            for z in range(3):
+                yield table_from(3, [x, y, z])
+
+
+def example_tables():
+    return [law.example(name) for name in sorted(law.EXAMPLES)]
+
+
+def tables(dice, good):
+    """Well-formed tables, then tables without a possible n; with each whether it
+    is well-formed."""
+    for n, t in example_tables():
+        yield n, t, True
+    for t in all_small_tables():
+        if dice.chance(1, 2):
+            yield 3, t, True
+    for _ in range(good):
+        n = small_n(dice)
+        yield n, good_table(dice, n), True
+    for _ in range(5):
+        yield 9, tree(dice, 9, 20, "uneven"), True
+    for n in BAD_N:
+        yield n, [], False
+    for n in (1, 2):
+        yield n, [0] * (n * n), False
+
+
+def damaged(dice, kinds, alone, together):
+    """n, an undamaged table of n images, n and table damaged, the faults."""
+    for faults in fault_sets(dice, kinds, alone, together):
+        n = damaged_n(dice)
+        t = good_table(dice, n)
+        bad_n, bad_t = damage_table(dice, n, t, faults)
+        yield n, bad_n, bad_t, faults
+
+
+# Cases of the calls that take a cost table
+
+def any_far_side(dice, n, t, bad):
+    if bad:
+        beyond = [2 ** n, 2 ** n + 2, 2 ** 63] if n < 64 else []
+        return dice.one_of([0, 0, 1, 3, 2 ** n - 1, 2 ** 64 - 1] + beyond)
+    if dice.chance(1, 3):
+        return own_link(n, dice.between(1, n))
+    if dice.chance(1, 2):
+        rows = law.measured_rows(n, tuple(t))
+        return dice.one_of([far for far, _ in rows])
+    return 2 * dice.between(1, 2 ** (n - 1) - 1)
+
+
+def index_cases(dice):
+    for n, t, sound in tables(dice, 60):
+        yield n, t, any_far_side(dice, n, t, False) if sound else 2
+    for n, bad_n, bad_t, faults in damaged(dice, TABLE_FAULTS + ["side"], 7, 60):
+        yield bad_n, bad_t, any_far_side(dice, n, [0] * (n * n), "side" in faults)
+    for n, most in ((33, 2), (33, 20), (64, 1)):
+        rows = tree_rows(dice, n, "uneven", most)
+        inner = [far for far, _ in rows if is_inner(n, far)]
+        t = tree_table(n, rows)
+        yield n, t, dice.one_of(inner)
+    yield 64, table_from(64, [1] * 2016), 2 ** 63
+    for s in (2 ** 33 + 2, 2 ** 32):
+        yield 33, table_from(33, [1] * 528), s
+
+
+def two_images(dice, n, bad):
+    first, last = dice.mixed(range(1, n + 1))[:2]
+    if bad:
+        kind = dice.below(4)
+        if kind == 0:
+            first = bad_image(dice, n)
+        elif kind == 1:
+            last = bad_image(dice, n)
+        elif kind == 2:
+            last = first
+        else:
+            first, last = bad_image(dice, n), bad_image(dice, n)
+    return first, last
+
+
+def order_cases(dice):
+    n, t = law.example("H")
+    yield n, t, 1, 2, places(dice, 7)
+    for first in range(1, 8):
+        for last in range(1, 8):
+            if dice.chance(1, 3):
+                yield n, t, first, last, places(dice, 8)
+    n, t = law.example("E")
+    for image in [0, 5, 65] + HUGE:
+        for first, last in ((1, image), (image, 2), (image, image)):
+            yield n, t, first, last, places(dice, 4)
+    for n, t, sound in tables(dice, 60):
+        first, last = two_images(dice, n, False) if sound else (1, 2)
+        yield n, t, first, last, places(dice, room(dice, n, False) if sound else 4)
+    kinds = ["n", "length", "room", "entry", "diagonal", "asymmetric", "image"]
+    for n, bad_n, bad_t, faults in damaged(dice, kinds, 7, 60):
+        first, last = two_images(dice, n, "image" in faults)
+        yield bad_n, bad_t, first, last, places(dice, room(dice, n, "room" in faults))
+    for n, most, first, last in ((33, 3, 1, 33), (33, 20, 17, 2), (64, 1, 64, 1)):
+        yield n, tree(dice, n, most, "uneven"), first, last, places(dice, n + 1)
+
+
+def reading_cases(dice, exactly):
+    for n, t, sound in tables(dice, 60):
+        room1, room2 = two_rooms(dice, 2 * n - 3, False) if sound else (3, 3)
+        yield n, t, far_places(dice, room1), places(dice, room2)
+    kinds = ["n", "length", "room", "entry", "diagonal", "asymmetric"]
+    for n, bad_n, bad_t, faults in damaged(dice, kinds, 7, 60):
+        room1, room2 = two_rooms(dice, 2 * n - 3, "room" in faults)
+        yield bad_n, bad_t, far_places(dice, room1), places(dice, room2)
+    # Room for the rows of a star, but not the 2n-3 places that are asked.
+    for n in (4, 5, 9):
+        t = tree(dice, n, 5, "star")
+        yield n, t, far_places(dice, n), places(dice, 2 * n - 3)
+        yield n, t, far_places(dice, 2 * n - 3), places(dice, 2 * n - 4)
+    # Trees of every shape, and the same with one entry, or every entry, a little off.
+    for n in (4, 5, 6, 7, 9):
+        for shape in ("star", "caterpillar", "uneven"):
+            t = tree(dice, n, 12, shape)
+            i, j = sorted(dice.mixed(range(n))[:2])
+            off = list(t)
+            off[i * n + j] = off[j * n + i] = t[i * n + j] + 1
+            yield n, dice.one_of([t, off, law.noisy(dice, n, t, 1)]), \
+                far_places(dice, 2 * n - 3), places(dice, 2 * n - 3)
+    for n, most, shape in ((33, 1, "caterpillar"), (33, 30, "uneven"),
+                           (64, 1, "caterpillar" if exactly else "uneven")):
+        yield n, tree(dice, n, most, shape), far_places(dice, 2 * n - 3), places(dice, 2 * n)
+    # The last pair of images a little too far apart.
+    n = 64
+    t = tree(dice, n, 1, "uneven")
+    t[n * n - 2] += 1
+    t[n * (n - 1) - 1] += 1
+    yield n, t, far_places(dice, 2 * n - 3), places(dice, 2 * n - 3)
+    if not exactly:
+        n = 33
+        yield n, law.noisy(dice, n, tree(dice, n, 30, "uneven"), 3), \
+            far_places(dice, 2 * n - 3), places(dice, 2 * n - 3)
+
+
+def fewer_inner(dice, n, rows):
+    """The rows without some of the inner ones."""
+    return [row for row in rows if not is_inner(n, row[0]) or dice.chance(1, 2)]
+
+
+def related_rows(dice, n):
+    """Rows of two trees: the same far sides, fewer of them, or another tree."""
+    one = tree_rows(dice, n, law.random_shape(dice), 20)
+    kind = dice.below(4)
+    if kind == 0:
+        return one, [(far, cost + 2 * dice.below(4)) for far, cost in one]
+    if kind == 1:
+        less = [(far, 2 * cost) for far, cost in fewer_inner(dice, n, one)]
+        return dice.one_of([(one, less), (less, one)])
+    return one, tree_rows(dice, n, law.random_shape(dice), 20)
+
+
+def even_rows(rows):
+    return [(far, 2 * cost) for far, cost in rows]
+
+
+def compare_cases(dice):
+    for n, t in example_tables():
+        for n2, t2 in example_tables():
+            if n == n2 and (n != 3 or dice.chance(1, 2)):
+                yield n, t, t2
+    for n in [small_n(dice) for _ in range(50)] + [9] * 6:
+        one, two = related_rows(dice, n)
+        yield n, tree_table(n, even_rows(one)), tree_table(n, even_rows(two))
+    for _ in range(20):
+        n = small_n(dice)
+        yield n, good_table(dice, n), good_table(dice, n)
+    for n in BAD_N:
+        yield n, [], [1]
+    for faults in fault_sets(dice, TABLE_FAULTS + ["wiring"], 8, 60):
+        n = damaged_n(dice)
+        t = [tree(dice, n), tree(dice, n)]
+        bad_n = n
+        for which in dice.one_of([[0], [1], [1], [0, 1]]):
+            if "wiring" in faults:
+                t[which] = good_table(dice, n)
+            some = some_of(dice, faults)
+            changed, t[which] = damage_table(dice, n, t[which], some)
+            bad_n = changed if changed != n else bad_n
+        yield bad_n, t[0], t[1]
+    # Each fault in the first table with each in the second.
+    n, crooked = law.example("F")
+    kinds = ["length", "entry", "diagonal", "asymmetric", "wiring"]
+    for fault in kinds:
+        for fault2 in kinds:
+            yield (n, damage_table(dice, n, crooked, {fault})[1],
+                   damage_table(dice, n, crooked, {fault2})[1])
+    for n, most in ((33, 3), (64, 1)):
+        one = tree_rows(dice, n, "uneven", most)
+        two = fewer_inner(dice, n, one) if n == 64 else tree_rows(dice, n, "caterpillar", 1)
+        yield n, tree_table(n, even_rows(one)), tree_table(n, even_rows(two))
+
+
+def write_costs_cases(dice):
+    def stored_length(n):
+        return (7 + 10 * n * (n - 1) + 7) // 8
+
+    for n, t, sound in tables(dice, 40):
+        yield n, t, byte_places(dice, room(dice, stored_length(n), False) if sound else 9)
+    for n, bad_n, bad_t, faults in damaged(dice, TABLE_FAULTS + ["room"], 7, 60):
+        yield bad_n, bad_t, byte_places(dice, room(dice, stored_length(n), "room" in faults))
+    for n in (4, 5, 8):
+        t = law.random_table(dice, n, 1000000)
+        for more in (-1, 0, 1):
+            yield n, t, byte_places(dice, stored_length(n) + more)
+    yield 33, law.random_table(dice, 33, 1000000), byte_places(dice, stored_length(33))
+    yield 58, tree(dice, 58, 1, "uneven"), [9] * (stored_length(58) + 1)
+    yield 64, table_from(64, [1] * 2016), byte_places(dice, 50)
+
+
+# Link tables
+
+def good_links(dice, n):
+    most = dice.one_of([1, 2, 9, 9, 300, 1999999])
+    return tree_rows(dice, n, law.random_shape(dice), most, even=False)
+
+
+def damage_row(dice, n, fars, costs):
+    """One bad row, or several."""
+    row = dice.below(len(fars))
+    kind = dice.below(9)
+    inner = [r for r, far in enumerate(fars) if is_inner(n, far)]
+    if kind == 0:
+        fars[row] = 0
+    elif kind == 1:
+        fars[row] += 1
+    elif kind == 2 and n < 64:
+        row = dice.one_of([row, len(fars) - 1])
+        fars[row] = dice.one_of([fars[row] + 2 ** n, 2 ** n, 2 ** 64 - 2])
+    elif kind == 3 and row > 0:
+        fars[row] = fars[row - 1]
+    elif kind == 4 and row > 0:
+        fars[row], fars[row - 1] = fars[row - 1], fars[row]
+    elif kind == 5 and inner:
+        row = dice.one_of(inner)
+        costs[row] = 0
+    elif kind < 7:
+        costs[row] = dice.one_of(BAD_COST)
+    else:
+        # A far side that fits between its neighbours as a number, and may cross.
+        least = fars[row - 1] // 2 + 1 if row > 0 else 1
+        most = fars[row + 1] // 2 - 1 if row + 1 < len(fars) else 2 ** (n - 1) - 1
+        if least <= most:
+            fars[row] = 2 * dice.between(least, most)
+        else:
+            costs[row] = dice.one_of(BAD_COST)
+
+
+def damage_links(dice, n, rows, faults):
+    """n, count, far sides and costs with these faults."""
+    if "own" in faults and n > 3:
+        rows = tree_rows(dice, n, "caterpillar", 9, even=False)
+        lost = dice.between(1, len(rows) - n)
+        images = dice.mixed(range(1, n + 1))[:lost]
+        rows = [row for row in rows if row[0] not in [own_link(n, i) for i in images]]
+    fars, costs = sides_and_costs(rows)
+    if "row" in faults:
+        for _ in range(dice.between(1, 2)):
+            damage_row(dice, n, fars, costs)
+    count = len(fars)
+    if "count" in faults:
+        kind = dice.below(4)
+        if kind == 0:
+            count = n - 1
+            fars, costs = fars[:count], costs[:count]
+        elif kind == 1:
+            count = 2 * n - 2
+            fars = (fars + fars)[:count]
+            costs = (costs + costs)[:count]
+        else:
+            count = dice.one_of([0, 1, n - 1, 2 * n - 2, 2 ** 32 + count, 2 ** 40, 2 ** 63,
+                                 2 ** 64 - 1])
+    if "length" in faults:
+        kind = dice.below(6)
+        if kind in (0, 4):
+            fars = fars[:-1]
+        if kind in (1, 4):
+            costs = costs[:-1]
+        if kind in (2, 5):
+            fars = fars + [2 ** n - 2]
+        if kind == 3:
+            costs = costs + [1]
+        if kind == 5:
+            costs = dice.one_of([costs + [0], []])
+    if "n" in faults:
+        n = dice.one_of(BAD_N)
+    return n, count, fars, costs
+
+
+def subsets_of_four():
+    """Four images: every choice of four or five of the seven far sides."""
+    for chosen in range(128):
+        fars = [2 * far for far in range(1, 8) if chosen >> (far - 1) & 1]
+        if len(fars) in (4, 5):
+            yield fars
+
+
+def links(dice, good):
+    """Link tables of all sizes, with their n."""
+    for name in sorted(law.EXAMPLES):
+        yield law.EXAMPLES[name][0], law.MEASURED[name]
+    for _ in range(good):
+        n = small_n(dice)
+        yield n, good_links(dice, n)
+    for n, shape in [(9, "uneven")] * 5 + [(33, "uneven"), (64, "star"), (64, "caterpillar")]:
+        yield n, tree_rows(dice, n, shape, 9, even=False)
+
+
+def link_tables(dice, good, kinds, alone, together):
+    """n undamaged, the four arguments of a link table, the faults. The kinds of
+    faults stand in the order of the call's checks."""
+    for n, rows in links(dice, good):
+        fars, costs = sides_and_costs(rows)
+        yield n, (n, len(rows), fars, costs), set()
+    for fars in subsets_of_four():
+        if dice.chance(1, 2):
+            yield 4, (4, len(fars), fars, [1] * len(fars)), set()
+    for faults in fault_sets(dice, kinds, alone, together):
+        n = damaged_n(dice, 4 if "own" in faults else 3)
+        yield n, damage_links(dice, n, good_links(dice, n), faults), faults
+    for n in BAD_N:
+        yield 3, (n, dice.one_of([0, 3, n]), [2, 4, 6], [1, 1, 1]), {"n"}
+    for count in [0, 1, 2, 4, 65, 2 ** 32 + 3] + HUGE:
+        yield 3, (3, count, [2, 4, 6], [1, 1, 1]), {"count"}
+    for _ in range(24):
+        n = dice.one_of([3, 4, 4])
+        count = dice.between(n, 2 * n - 3)
+        fars = [dice.below(2 ** n + 3) for _ in range(count)]
+        if dice.chance(2, 3):
+            fars = sorted(set(2 * (far // 2) for far in fars))
+            fars += [2 ** n - 2] * (count - len(fars))
+        yield n, (n, count, fars, [dice.below(3) for _ in range(count)]), {"row"}
+    # Five images, all inner rows of a caterpillar, one or two own links lost.
+    rows = tree_rows(dice, 5, "caterpillar", 9, even=False)
+    for i in range(1, 6):
+        for j in range(i, 6):
+            lost = [own_link(5, i), own_link(5, j)]
+            fars, costs = sides_and_costs([row for row in rows if row[0] not in lost])
+            yield 5, (5, len(fars), fars, costs), {"own"}
+    # Far sides that cross, at 64 images; an inner row of cost 0; image 64's link lost.
+    n = 64
+    for change in range(4):
+        rows = dict(tree_rows(dice, n, "star", 9, even=False))
+        if change == 0:
+            rows[2 ** 63 + 2] = rows[2 ** 63 + 4] = 1
+        elif change == 1:
+            rows[2 ** 63 + 2] = 0
+        elif change == 2:
+            rows[2 ** 63 + 2 ** 62] = 2000000
+            del rows[2 ** 63]
+        else:
+            rows[2 ** 64 - 4] = 2000001
+        fars, costs = sides_and_costs(sorted(rows.items()))
+        yield n, (n, len(fars), fars, costs), {"row"}
+
+
+def path_cases(dice):
+    kinds = ["n", "count", "length", "row", "own", "image"]
+    for n, table, faults in link_tables(dice, 60, kinds, 7, 60):
+        if "image" in faults:
+            i, j = dice.mixed([bad_image(dice, n),
+                               dice.one_of([bad_image(dice, n), dice.between(1, n)])])
+        else:
+            i, j = dice.between(1, n), dice.between(1, n)
+        yield table + (i, j)
+    for image in [0, 4, 65] + HUGE:
+        for i, j in ((1, image), (image, 2), (image, image)):
+            yield 3, 3, [2, 4, 6], [1, 1, 1], i, j
+    # The largest path cost: 125 links of 2,000,000 would need every row on the path.
+    n = 64
+    fars = law.tree_far_sides(dice, n, "caterpillar")
+    deepest = dice.one_of([far for far in fars if law.ones(far) == 1])
+    for i, j in ((1, deepest.bit_length()), (64, 64)):
+        yield n, len(fars), fars, [2000000] * len(fars), i, j
+
+
+def upper_rows_cases(dice):
+    kinds = ["n", "count", "length", "room", "row", "own"]
+    for n, table, faults in link_tables(dice, 50, kinds, 7, 60):
+        yield table + (places(dice, room(dice, 2 * n - 3, "room" in faults)),)
+    for n in (4, 5, 9):
+        fars, costs = sides_and_costs(tree_rows(dice, n, "star", 9))
+        yield n, n, fars, costs, places(dice, n)
+        yield n, n, fars, costs, places(dice, 2 * n - 4)
+
+
+def route_cases(dice):
+    kinds = ["n", "count", "length", "room", "row", "own", "image"]
+    for n, table, faults in link_tables(dice, 50, kinds, 7, 60):
+        image = bad_image(dice, n) if "image" in faults else dice.between(1, n)
+        yield table + (image, places(dice, room(dice, 2 * n - 3, "room" in faults)))
+    n, rows = 7, law.MEASURED["H"]
+    for image in range(1, 8):
+        yield (n, len(rows)) + sides_and_costs(rows) + (image, places(dice, 11))
+    for image in [0, 4, 65] + HUGE:
+        yield 3, 3, [2, 4, 6], [1, 1, 1], image, places(dice, 3)
+    n = 9
+    fars, costs = sides_and_costs(tree_rows(dice, n, "caterpillar", 9))
+    for image in range(1, 10):
+        yield n, len(fars), fars, costs, image, places(dice, 2 * n - 3)
+    yield n, len(fars), fars, costs, 1, places(dice, 2 * n - 4)
+
+
+def links_length(n, count):
+    return (14 + count * (n + 20) + 7) // 8
+
+
+def write_links_cases(dice):
+    kinds = ["n", "count", "length", "row", "own", "room"]
+    for n, table, faults in link_tables(dice, 40, kinds, 7, 60):
+        count = min(table[1], 2 * n - 3)
+        needed = links_length(n, count) if n < 64 or not faults else 40
+        yield table + (byte_places(dice, room(dice, needed, "room" in faults)),)
+    for n in (3, 4, 5, 9, 9):
+        fars, costs = sides_and_costs(good_links(dice, n))
+        for more in (-1, 0, 1):
+            yield n, len(fars), fars, costs, byte_places(dice, links_length(n, len(fars)) + more)
+
+
+def batch_cases(dice):
+    yield [], [], [], [], []
+    yield [], [], [], [], byte_places(dice, 5)
+    yield [], [], [2], [], byte_places(dice, 5)
+    yield [], [], [], [1], []
+    yield [], [3], [2, 4, 6], [1, 1, 1], byte_places(dice, 11)
+    yield [3], [], [2, 4, 6], [1, 1, 1], byte_places(dice, 11)
+    yield [2, 3], [3], [], [], []
+
+    def joined(several):
+        fars = [far for table in several for far in table[2]]
+        costs = [cost for table in several for cost in table[3]]
+        return [table[0] for table in several], [table[1] for table in several], fars, costs
+
+    def sound(n=None):
+        n = n or small_n(dice)
+        rows = good_links(dice, n)
+        return (n, len(rows)) + sides_and_costs(rows)
+
+    def length(several):
+        return sum(links_length(table[0], table[1]) for table in several)
+
+    for _ in range(36):
+        several = [sound() for _ in range(dice.one_of([1, 2, 2, 3, 4]))]
+        yield joined(several) + (byte_places(dice, room(dice, length(several), False)),)
+    several = [sound(64), sound(3), sound(33)]
+    yield joined(several) + (byte_places(dice, length(several) + 2),)
+    kinds = ["lists", "n", "count", "joined", "row", "own", "room", "left"]
+    for faults in fault_sets(dice, kinds, 8, 90):
+        several = [sound(damaged_n(dice)) for _ in range(dice.one_of([1, 2, 2, 3]))]
+        out = length(several)
+        last = len(several) - 1
+        for at in dice.one_of([[last], [last], [0], dice.mixed(range(last + 1))[:2]]):
+            some = some_of(dice, faults)
+            n = max(several[at][0], 4 if "own" in some else 3)
+            rows_faults = some & {"n", "count", "row", "own"}
+            bad = list(damage_links(dice, n, good_links(dice, n), rows_faults))
+            if "n" in some:
+                bad[0] = dice.one_of(BAD_IN_LIST)
+            bad[1] = min(bad[1], 2 ** 32 - 1)
+            several[at] = tuple(bad)
+            if not some & {"n", "count"}:
+                out = length([table for table in several
+                              if 3 <= table[0] <= 64 and table[1] <= 125])
+        ns, counts, fars, costs = joined(several)
+        if "joined" in faults:
+            cut = dice.between(1, min(4, len(fars)))
+            which = dice.below(3)
+            fars = fars[:-cut] if which != 1 else fars
+            costs = costs[:-cut] if which != 0 else costs
+        if "left" in faults:
+            which = dice.below(3)
+            fars = fars + [2] * (1 + dice.below(3)) if which != 1 else fars
+            costs = costs + [1] if which != 0 else costs
+        if "lists" in faults:
+            ns, counts = dice.one_of([(ns + [3], counts), (ns, counts + [3]), (ns[:-1], counts),
+                                      ([], counts), (ns, [])])
+        yield ns, counts, fars, costs, byte_places(dice, room(dice, max(out, 2), "room" in faults))
+
+
+# Stored bytes
+
+def bits_of_links(n, count, rows):
+    """Fields of a link table as they stand, whatever they hold."""
+    bits = law.field(7, n % 128) + law.field(7, count % 128)
+    for far, cost in rows:
+        bits += law.field(n - 1, far // 2 % 2 ** (n - 1)) + law.field(21, cost % 2 ** 21)
+    return bits
+
+
+def filled(dice, bits, bad):
+    """Whole bytes; where `bad`, some of the fill bits are ones."""
+    fill = -len(bits) % 8
+    tail = "0" * fill
+    if bad and fill > 0:
+        tail = law.field(fill, dice.between(1, 2 ** fill - 1))
+    return law.bytes_of_bits(bits + tail)
+
+
+def cut_body(dice, stored, least):
+    """Some of the bytes behind the header are missing."""
+    most = len(stored) - 1
+    return stored[:dice.one_of([most, most, dice.between(least, most)])]
+
+
+def around(dice, stored, faults):
+    """Bytes in front and behind, and the position; the end stays the end where
+    bytes are to be missing."""
+    front = [dice.below(256) for _ in range(dice.one_of([0, 0, 0, 1, 3]))]
+    behind = [dice.below(256) for _ in range(dice.one_of([0, 0, 1, 4]))]
+    if faults & {"header", "body"}:
+        behind = []
+    whole = front + stored + behind
+    position = 8 * len(front)
+    if "position" in faults:
+        position = dice.one_of([position + dice.between(1, 7), 8 * len(whole) + 8,
+                                8 * len(whole) + 1, 8 * len(whole), 2 ** 32 + position, 2 ** 40,
+                                2 ** 63, 2 ** 64 - 8, 2 ** 64 - 1])
+    return whole, position
+
+
+def damaged_stored_links(dice, n, rows, faults):
+    """Stored bytes of a link table with the faults that bytes can have."""
+    if "own" in faults and n < 4:
+        n, rows = 4, good_links(dice, 4)
+    _, count, fars, costs = damage_links(dice, n, rows, faults & {"row", "own"})
+    rows = list(zip(fars, costs))
+    header_n, header_count = n, count
+    if "n" in faults:
+        header_n = dice.one_of([0, 1, 2, 65, 66, 100, 127])
+    if "count" in faults:
+        header_count = dice.one_of([0, 1, n - 1, 2 * n - 2, 127])
+    bits = bits_of_links(n, count, rows)
+    bits = law.field(7, header_n) + law.field(7, header_count) + bits[14:]
+    stored = filled(dice, bits, "fill" in faults)
+    if "body" in faults:
+        stored = cut_body(dice, stored, 2)
+    if "header" in faults:
+        stored = stored[:dice.below(2)]
+    return n, stored
+
+
+def read_links_cases(dice):
+    yield [], 0, far_places(dice, 3), places(dice, 3)
+    yield law.STORED_A_LINKS, 0, far_places(dice, 3), places(dice, 3)
+
+    def outputs(n, short):
+        room1, room2 = two_rooms(dice, 2 * n - 3, short)
+        return far_places(dice, room1), places(dice, room2)
+
+    for n, rows in links(dice, 40):
+        stored = law.stored_links(n, *sides_and_costs(rows))
+        yield around(dice, stored, set()) + outputs(n, False)
+    for fars in subsets_of_four():
+        stored = law.bytes_of_bits(bits_of_links(4, len(fars), [(far, 1) for far in fars]))
+        yield stored, 0, [8] * 5, [8] * 5
+    kinds = ["position", "header", "n", "count", "room", "body", "fill", "row", "own"]
+    for faults in fault_sets(dice, kinds, 7, 80):
+        n = damaged_n(dice)
+        n, stored = damaged_stored_links(dice, n, good_links(dice, n), faults)
+        yield around(dice, stored, faults) + outputs(n, "room" in faults)
+    # Two tables one after another, read at both starts and at every bit between.
+    first, second = law.stored_links(4, [2, 4, 8, 12, 14], [1, 2, 3, 4, 5]), law.STORED_A_LINKS
+    for position in list(range(0, 20)) + [8 * len(first) - 8, 8 * len(first), 8 * len(first) + 8]:
+        yield first + second, position, [9] * 6, [9] * 6
+    for position in HUGE:
+        yield first, position, [9] * 6, [9] * 6
+    for _ in range(24):
+        n = dice.one_of([3, 3, 4])
+        count = dice.between(n, 2 * n - 3)
+        bits = law.field(7, n) + law.field(7, count)
+        body = [dice.one_of([0, 0, 1, 2, 4, 8, 64, 255]) for _ in range(links_length(n, count))]
+        stored = law.bytes_of_bits(bits + law.bits_of_bytes(body)[:8 * links_length(n, count) - 14])
+        yield stored, 0, [7] * 5, [7] * 5
+
+
+def read_costs_cases(dice):
+    yield [], 0, places(dice, 9)
+    yield law.STORED_A_COSTS, 0, places(dice, 9)
+
+    def output(n, short):
+        return (places(dice, room(dice, n * n, short)),)
+
+    for n, t in example_tables():
+        yield around(dice, stored_costs(n, t), set()) + output(n, False)
+    for _ in range(40):
+        n = small_n(dice)
+        yield around(dice, stored_costs(n, good_table(dice, n)), set()) + output(n, False)
+    kinds = ["position", "header", "n", "room", "body", "fill", "entry"]
+    for faults in fault_sets(dice, kinds, 8, 72):
+        n = damaged_n(dice)
+        t = good_table(dice, n)
+        if "entry" in faults:
+            for _ in range(dice.between(1, 2)):
+                i, j = sorted(dice.mixed(range(n))[:2])
+                t[i * n + j] = dice.one_of([1000001, 1000001, 1048575])
+        header = dice.one_of([0, 1, 2, 65, 66, 100, 127]) if "n" in faults else n
+        bits = law.field(7, header)
+        bits += "".join(law.field(20, t[(i - 1) * n + j - 1]) for i, j in pairs(n))
+        stored = filled(dice, bits, "fill" in faults)
+        if "body" in faults:
+            stored = cut_body(dice, stored, 1)
+        if "header" in faults:
+            stored = []
+        yield around(dice, stored, faults) + output(n, "room" in faults)
+    first, second = stored_costs(4, law.random_table(dice, 4, 9)), law.STORED_A_COSTS
+    for position in list(range(0, 18)) + [8 * len(first) - 8, 8 * len(first), 8 * len(first) + 8]:
+        yield first + second, position, [9] * 16
+    for position in HUGE:
+        yield first, position, [9] * 16
+    for n, most in ((33, 30), (58, 1)):
+        yield stored_costs(n, tree(dice, n, most, "uneven")), 0, [8] * (n * n + 1)
+    # 64 images: too little room, then too few bytes.
+    start = stored_costs(64, [1] * 4096)[:40]
+    yield start, 0, places(dice, 64)
+    yield start, 0, [8] * 4096
+
+
+def choice_cases(dice):
+    def stored(n, rows):
+        behind = [dice.below(256) for _ in range(dice.one_of([0, 0, 1, 3]))]
+        return law.stored_links(n, *sides_and_costs(rows)) + behind
+
+    yield [], []
+    yield law.STORED_A_LINKS, []
+    yield [], law.STORED_A_LINKS
+    for name in sorted(law.EXAMPLES):
+        for other in sorted(law.EXAMPLES):
+            if dice.chance(1, 2):
+                yield (stored(law.EXAMPLES[name][0], law.MEASURED[name]),
+                       stored(law.EXAMPLES[other][0], law.MEASURED[other]))
+    for n in [small_n(dice) for _ in range(60)] + [9] * 6:
+        one, two = related_rows(dice, n)
+        yield stored(n, one), stored(n, two)
+    for n in (33, 64):
+        rows = tree_rows(dice, n, "uneven", 9, even=False)
+        yield stored(n, fewer_inner(dice, n, rows)), stored(n, rows)
+    for _ in range(10):
+        n = damaged_n(dice, 4)
+        yield stored(n, good_links(dice, n)), stored(n - 1, good_links(dice, n - 1))
+    kinds = ["header", "n", "count", "body", "fill", "row", "own"]
+    # Each fault in the first table with each in the second.
+    for fault in kinds:
+        for fault2 in kinds:
+            yield (damaged_stored_links(dice, 4, good_links(dice, 4), {fault})[1],
+                   damaged_stored_links(dice, 4, good_links(dice, 4), {fault2})[1])
+    for faults in fault_sets(dice, kinds, 7, 72):
+        n = damaged_n(dice)
+        one, two = related_rows(dice, n)
+        both = [stored(n, one), stored(n, two)]
+        for which in dice.one_of([[0], [1], [1], [0, 1]]):
+            some = some_of(dice, faults)
+            both[which] = damaged_stored_links(dice, n, one, some)[1]
+        yield both[0], both[1]
+
+
+CASES = {
+    "index": index_cases,
+    "order": order_cases,
+    "measured": lambda dice: reading_cases(dice, False),
+    "exact": lambda dice: reading_cases(dice, True),
+    "path": path_cases,
+    "upper_rows": upper_rows_cases,
+    "route": route_cases,
+    "compare": compare_cases,
+    "write_costs": write_costs_cases,
+    "read_costs": read_costs_cases,
+    "write_links": write_links_cases,
+    "read_links": read_links_cases,
+    "write_batch": batch_cases,
+    "choice": choice_cases,
+}
+
+
+# Lines and files
+
+def line_of(arguments):
+    numbers = []
+    for argument in arguments:
+        if isinstance(argument, list):
+            numbers.append(len(argument))
+            numbers.extend(argument)
+        else:
+            numbers.append(argument)
+    return " ".join(map(str, numbers))
+
+
+def check_arguments(name, arguments):
+    """Every number fits its type, and no slice is too long."""
+    kinds = CALLS[name][1].split()
+    assert len(kinds) == len(arguments), name
+    for kind, argument in zip(kinds, arguments):
+        if kind == "n":
+            assert 0 <= argument < 2 ** 64, (name, argument)
+        else:
+            assert len(argument) <= LONGEST_SLICE, (name, len(argument))
+            most = 2 ** int(kind.rstrip("*"))
+            assert all(0 <= element < most for element in argument), (name, argument)
+
+
+def answer_line(name, arguments):
+    """The line that a call's answer makes, and the answer."""
+    function, kinds, _ = CALLS[name]
+    outputs = [at for at, kind in enumerate(kinds.split()) if kind.endswith("*")]
+    given = [list(a) if isinstance(a, list) else a for a in arguments]
+    answer = function(*given)
+    for at, (before, after) in enumerate(zip(arguments, given)):
+        assert before == after or (answer[0] == 0 and at in outputs), (name, arguments)
+    left = [given[at] for at in outputs]
+    if name == "choice":
+        left.append(law.choose(*given))
+    return line_of(list(answer) + left), answer
+
+
+def make():
+    """All files by name, and what was made of each call."""
+    files, report, answers = {}, [], []
+    for seed, name in enumerate(CALLS, 1):
+        inputs, seen, refusals, by_table = [], set(), {}, set()
+        answers.append(name)
+        for arguments in CASES[name](Dice(1000 * seed)):
+            arguments = list(arguments)
+            check_arguments(name, arguments)
+            line = line_of(arguments)
+            if line in seen:
+                continue
+            seen.add(line)
+            inputs.append(line)
+            text, answer = answer_line(name, arguments)
+            answers.append(text)
+            assert max(len(line), len(text)) <= LONGEST_LINE, (name, len(line), len(text))
+            refusals[answer[0]] = refusals.get(answer[0], 0) + 1
+            if name in ("compare", "write_batch", "choice") and answer[0] != 0:
+                by_table.add(answer[:2])
+        for number in CALLS[name][2]:
+            assert refusals.get(number, 0) >= FEWEST_OF_EACH_REFUSAL, (name, number, refusals)
+        assert set(refusals) == {0} | set(CALLS[name][2]), (name, refusals)
+        for number, table in by_table:
+            assert table == 0 or {(number, 1), (number, 2)} <= by_table, (name, number, table)
+        files["crates/cases/data/%s.txt" % name] = "".join(line + "\n" for line in inputs).encode()
+        report.append((name, len(inputs), refusals))
+    files["crates/cases/stdout"] = "".join(line + "\n" for line in answers).encode()
+    for name, stored in listing_inputs():
+        files["tests/listing/%s.stdin" % name] = bytes(stored)
+        files["tests/listing/%s.stdout" % name] = law.listing(stored).encode()
+    assert sum(count for _, count, _ in report) >= FEWEST_CASES
+    assert max(map(len, files.values())) <= LARGEST_FILE, {f: len(t) for f, t in files.items()}
+    assert sum(map(len, files.values())) <= LARGEST_TOTAL, sum(map(len, files.values()))
+    return files, report
+
+
+def listing_inputs():
+    dice = Dice(64)
+    for name in ("A", "C", "H"):
+        yield name, stored_costs(*law.example(name))
+    yield "tree64", stored_costs(64, tree(dice, 64, 3000, "uneven"))
+    n, t = law.example("H")
+    t[1 * n + 4] = t[4 * n + 1] = 1000001
+    yield "damaged", stored_costs(n, t)
+    yield "followed", law.STORED_A_COSTS + [255, 6, 0]
+    yield "empty", []
+    yield "short", law.STORED_A_COSTS[:-1]
+    yield "fill", law.STORED_A_COSTS[:-1] + [0x21]
+    yield "two_images", [4, 0, 0, 32]
+
+
+def check(files):
+    """Lines that say which files are not what is made here."""
+    wrong = []
+    for name, text in files.items():
+        path = os.path.join(ROOT, name)
+        if not os.path.exists(path):
+            wrong.append("missing: " + name)
+        else:
+            with open(path, "rb") as file:
+                if file.read() != text:
+                    wrong.append("differs: " + name)
+    for folder in ("crates/cases/data", "tests/listing"):
+        path = os.path.join(ROOT, folder)
+        for name in sorted(os.listdir(path)) if os.path.isdir(path) else []:
+            if folder + "/" + name not in files:
+                wrong.append("not made here: %s/%s" % (folder, name))
+    return wrong
+
+
+def main(arguments):
+    if arguments not in ([], ["--check"]):
+        sys.exit("usage: generate.py [--check]")
+    files, report = make()
+    if arguments:
+        wrong = check(files)
+        for line in wrong:
+            print(line)
+        print("%d files checked, %d wrong" % (len(files), len(wrong)))
+        return 1 if wrong else 0
+    for name, text in files.items():
+        path = os.path.join(ROOT, name)
+        os.makedirs(os.path.dirname(path), exist_ok=True)
+        with open(path, "wb") as file:
+            file.write(text)
+    for name, count, refusals in report:
+        numbers = " ".join("%d:%d" % pair for pair in sorted(refusals.items()))
+        print("%-12s %4d cases, by first number %s" % (name, count, numbers))
+    print("%d cases, %d bytes" % (sum(count for _, count, _ in report),
+                                  sum(map(len, files.values()))))
+    return 0
+
+
+if __name__ == "__main__":
+    sys.exit(main(sys.argv[1:]))

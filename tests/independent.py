@@ -1,0 +1,1097 @@
+#!/usr/bin/env python3
+"""Every public call of document 01, written from its definitions.
+
+Nothing here is taken from the crates: the words, the orders of checks and the
+numbers are document 01's, and where it leaves a point open, the decision noted
+for the project. The code is as plain as it can be at 64 images.
+
+A call answers a tuple of numbers. The first is 0 where the call accepts, and
+the refusal number where it refuses. A refusal is (number, a, b, c, d), the four
+places with unused ones 0; comparison, batch and choice put the table's number
+behind the refusal number: (number, table, a, b, c, d).
+
+Slices are lists of numbers. A lent output is a list that an accepted call
+writes into. A refused call alters no list.
+
+    python3 tests/independent.py --self-test
+
+runs the settled examples of document 01 and checks of demands 2 and 3 on tables
+drawn from a fixed seed.
+"""
+
+import functools
+import itertools
+import operator
+import sys
+
+MOST_ENTRY = 1000000
+MOST_COST = 2000000
+
+
+# Refusals
+
+class Refusal(Exception):
+    """A refusal on its way out of a call."""
+
+    def __init__(self, number, places=(), table=None):
+        super().__init__(number)
+        self.number = number
+        self.places = tuple(places)
+        self.table = table
+
+    def answer(self):
+        table = () if self.table is None else (self.table,)
+        unused = (0,) * (4 - len(self.places))
+        return (self.number,) + table + self.places + unused
+
+
+def refuse(number, *places):
+    raise Refusal(number, places)
+
+
+def numbered(table, step, *arguments):
+    """What the step answers; its refusal carries the table's number."""
+    try:
+        return step(*arguments)
+    except Refusal as refusal:
+        raise Refusal(refusal.number, refusal.places, table) from None
+
+
+def call(body):
+    """A public call: what the body answers, or the refusal it ran into."""
+    @functools.wraps(body)
+    def answered(*arguments):
+        try:
+            return body(*arguments)
+        except Refusal as refusal:
+            return refusal.answer()
+    return answered
+
+
+# Checks of arguments. Each looks at one kind of fault, lowest place first.
+
+def check_n(n):
+    if n < 3 or n > 64:
+        refuse(1, n)
+
+
+def check_length(n, t):
+    if len(t) != n * n:
+        refuse(2)
+
+
+def check_room(out, places):
+    if len(out) < places:
+        refuse(3)
+
+
+def check_entries(n, t):
+    """4, then 5, then 6."""
+    images = range(1, n + 1)
+    for row in images:
+        for column in images:
+            if t[(row - 1) * n + column - 1] > MOST_ENTRY:
+                refuse(4, row, column)
+    for image in images:
+        if t[(image - 1) * n + image - 1] != 0:
+            refuse(5, image)
+    for row in images:
+        for column in range(row + 1, n + 1):
+            if t[(row - 1) * n + column - 1] != t[(column - 1) * n + row - 1]:
+                refuse(6, row, column)
+
+
+def check_wiring(n, t):
+    four = first_failing_four(n, tuple(t))
+    if four is not None:
+        refuse(7, *four)
+
+
+def check_image(n, image):
+    if image < 1 or image > n:
+        refuse(8)
+
+
+def check_count(n, count):
+    if count < n or count > 2 * n - 3:
+        refuse(10, count)
+
+
+def check_both_lengths(count, fars, costs):
+    if len(fars) != count or len(costs) != count:
+        refuse(2)
+
+
+def check_rows(n, fars, costs):
+    """12 at the lowest bad row, then 13 at the lowest image without its own link."""
+    for row in range(len(fars)):
+        if is_bad_row(n, fars, costs, row):
+            refuse(12, row + 1)
+    for image in range(1, n + 1):
+        if own_link(n, image) not in fars:
+            refuse(13, image)
+
+
+def is_bad_row(n, fars, costs, row):
+    """Is this row (counted from 0) bad, the rows before it being good?"""
+    far, cost = fars[row], costs[row]
+    if far == 0 or far % 2 == 1 or far >= 2 ** n:
+        return True
+    if row > 0 and far <= fars[row - 1]:
+        return True
+    if any(crosses(far, earlier) for earlier in fars[:row]):
+        return True
+    return cost > MOST_COST or (is_inner(n, far) and cost == 0)
+
+
+# Divisions
+
+def ones(far):
+    return bin(far).count("1")
+
+
+def is_inner(n, far):
+    return 2 <= ones(far) <= n - 2
+
+
+def own_link(n, image):
+    """The far side of the division that cuts off this image alone."""
+    return 2 ** n - 2 if image == 1 else 2 ** (image - 1)
+
+
+def holds(far, image):
+    return far // 2 ** (image - 1) % 2 == 1
+
+
+def crosses(one, other):
+    """Neither nested nor disjoint."""
+    common = one & other
+    return common != 0 and common != one and common != other
+
+
+def groups(n, far):
+    """The group with image 1, and the group without it."""
+    images = range(1, n + 1)
+    return ([i for i in images if not holds(far, i)],
+            [i for i in images if holds(far, i)])
+
+
+def square(n, t):
+    """The table as d[i][j] over images 1 to n; row and column 0 are not used."""
+    return [[0] * (n + 1)] + [[0] + list(t[i * n:i * n + n]) for i in range(n)]
+
+
+# The index of one division
+
+def index_by_definition(n, d, far):
+    """Document 01's least value, word for word. It may be negative."""
+    near_group, far_group = groups(n, far)
+    return min(
+        min(d[a][b] + d[a2][b2], d[a][b2] + d[a2][b]) - d[a][a2] - d[b][b2]
+        for a in near_group for a2 in near_group
+        for b in far_group for b2 in far_group)
+
+
+def index_of(n, d, far):
+    """The same value. Exchanging b and b' turns one sum of the definition into
+    the other, so one of them is enough; and once a and b' stand, b and a' can be
+    chosen apart: d(a,b) - d(b,b') and d(a',b') - d(a,a')."""
+    near_group, far_group = groups(n, far)
+    from_near = {i: [d[i][a] for a in near_group] for i in range(1, n + 1)}
+    from_far = {i: [d[i][b] for b in far_group] for i in range(1, n + 1)}
+    return min(
+        min(map(operator.sub, from_far[a], from_far[b]))
+        + min(map(operator.sub, from_near[b], from_near[a]))
+        for a in near_group for b in far_group)
+
+
+# The measured reading
+
+def rows_by_definition(n, t):
+    """The measured reading over all divisions. For few images only."""
+    d = square(n, t)
+    rows = []
+    for far in range(2, 2 ** n, 2):
+        index = index_by_definition(n, d, far)
+        if not is_inner(n, far):
+            rows.append((far, max(index, 0)))
+        elif index > 0:
+            rows.append((far, index))
+    return rows
+
+
+def divisions_above_zero(n, d):
+    """Far sides of all divisions with index above 0, grown image by image.
+
+    Cut down to the images below m, such a division keeps an index above 0, or
+    loses its far group. So over images 1 to m the far side is m alone, or one
+    kept over the images before, with m on either side.
+    """
+    kept = []
+    for m in range(2, n + 1):
+        alone = 2 ** (m - 1)
+        candidates = kept + [alone] + [far + alone for far in kept]
+        kept = [far for far in candidates if above_zero_at(m, d, far)]
+    return kept
+
+
+def above_zero_at(m, d, far):
+    """Is every value of the index over images 1 to m in which m takes part above
+    0? With a = m these are d(m,b) + d(a',b') - d(m,a') - d(b,b')."""
+    with_m, other = groups(m, far)
+    if holds(far, m):
+        with_m, other = other, with_m
+    m_to_other = [d[m][b] for b in other]
+    m_to_with = [d[m][a] for a in with_m]
+    for b2 in other:
+        b2_to_other = [d[b2][b] for b in other]
+        b2_to_with = [d[b2][a] for a in with_m]
+        if (min(map(operator.sub, m_to_other, b2_to_other))
+                + min(map(operator.sub, b2_to_with, m_to_with))) <= 0:
+            return False
+    return True
+
+
+@functools.lru_cache(maxsize=None)
+def measured_rows(n, t):
+    """Rows (far side, doubled cost) of the measured reading, ascending."""
+    d = square(n, t)
+    rows = {far: index_of(n, d, far)
+            for far in divisions_above_zero(n, d) if is_inner(n, far)}
+    for image in range(1, n + 1):
+        far = own_link(n, image)
+        rows[far] = max(index_of(n, d, far), 0)
+    return sorted(rows.items())
+
+
+# The four-point condition
+
+def four_point_holds(d, i, j, k, l):
+    """Does the largest of the three sums occur at least twice?"""
+    sums = sorted([d[i][j] + d[k][l], d[i][k] + d[j][l], d[i][l] + d[j][k]])
+    return sums[1] == sums[2]
+
+
+@functools.lru_cache(maxsize=None)
+def first_failing_four(n, t):
+    """The first i <= j <= k <= l that fails, in dictionary order, or None."""
+    d = square(n, t)
+    for i in range(1, n + 1):
+        di = d[i]
+        for j in range(i, n + 1):
+            dj, ij = d[j], di[j]
+            for k in range(j, n + 1):
+                dk, ik, jk = d[k], di[k], dj[k]
+                for l in range(k, n + 1):
+                    x, y, z = ij + dk[l], ik + dj[l], di[l] + jk
+                    if x == y:
+                        fails = z > x
+                    else:
+                        fails = z != (x if x > y else y)
+                    if fails:
+                        return i, j, k, l
+    return None
+
+
+# Link tables
+
+def path_of(rows, i, j):
+    return sum(cost for far, cost in rows if holds(far, i) != holds(far, j))
+
+
+def upper_rows_of(fars):
+    """The upper row of each row, rows numbered from 1; 0 for the last."""
+    uppers = []
+    for row, far in enumerate(fars):
+        later = [r for r in range(row + 1, len(fars)) if fars[r] & far == far]
+        uppers.append(later[0] + 1 if later else 0)
+    return uppers
+
+
+def route_of(n, fars, image):
+    uppers = upper_rows_of(fars)
+    route = [fars.index(own_link(n, image)) + 1]
+    while uppers[route[-1] - 1] != 0:
+        route.append(uppers[route[-1] - 1])
+    return route
+
+
+# The order around the tree
+
+def order_of(n, d, first, last):
+    order = [last]
+    waiting = [w for w in range(1, n + 1) if w not in (first, last)]
+    while waiting:
+        x = order[0]
+        left = min(waiting, key=lambda w: (d[x][w] - d[first][w], w))
+        waiting.remove(left)
+        order.insert(0, left)
+    return [first] + order
+
+
+# Stored forms
+
+def field(width, value):
+    return format(value, "0%db" % width)
+
+
+def bytes_of_bits(bits):
+    """Filled with zero bits to a whole byte."""
+    bits += "0" * (-len(bits) % 8)
+    return [int(bits[at:at + 8], 2) for at in range(0, len(bits), 8)]
+
+
+def bits_of_bytes(stored):
+    return "".join(field(8, byte) for byte in stored)
+
+
+def pairs(n):
+    return [(i, j) for i in range(1, n + 1) for j in range(i + 1, n + 1)]
+
+
+def stored_costs(n, t):
+    d = square(n, t)
+    return bytes_of_bits(field(7, n) + "".join(field(20, d[i][j]) for i, j in pairs(n)))
+
+
+def stored_links(n, fars, costs):
+    bits = field(7, n) + field(7, len(fars))
+    for far, cost in zip(fars, costs):
+        bits += "".join("1" if holds(far, i) else "0" for i in range(n, 1, -1))
+        bits += field(21, cost)
+    return bytes_of_bits(bits)
+
+
+def rest_at(stored, position):
+    """The bytes from the reader's bit position on."""
+    if position % 8 != 0 or position // 8 > len(stored):
+        refuse(9)
+    return stored[position // 8:]
+
+
+def body_of(stored, width):
+    """The first `width` bits: 9 where they are not all there, 11 where the bits
+    that fill the last byte are not zero. With them, the bytes used."""
+    used = (width + 7) // 8
+    if len(stored) < used:
+        refuse(9)
+    bits = bits_of_bytes(stored[:used])
+    if "1" in bits[width:]:
+        refuse(11)
+    return bits[:width], used
+
+
+def link_table_in(stored, outputs):
+    """The link reader's checks, 3 for the outputs among them. Answers n, far
+    sides, costs, bytes used."""
+    if len(stored) < 2:
+        refuse(9)
+    header = bits_of_bytes(stored[:2])
+    n, count = int(header[:7], 2), int(header[7:14], 2)
+    check_n(n)
+    check_count(n, count)
+    for out in outputs:
+        check_room(out, 2 * n - 3)
+    each = n - 1 + 21
+    bits, used = body_of(stored, 14 + count * each)
+    fars, costs = [], []
+    for at in range(14, len(bits), each):
+        marks = bits[at:at + n - 1]
+        fars.append(sum(2 ** (image - 1)
+                        for image, mark in zip(range(n, 1, -1), marks) if mark == "1"))
+        costs.append(int(bits[at + n - 1:at + each], 2))
+    check_rows(n, fars, costs)
+    return n, fars, costs, used
+
+
+def cost_table_in(stored, room):
+    """The cost reader's checks; `room` is the output's length, None for no 3.
+    Answers n, the n*n entries, bytes used."""
+    if len(stored) < 1:
+        refuse(9)
+    n = int(bits_of_bytes(stored[:1])[:7], 2)
+    check_n(n)
+    if room is not None and room < n * n:
+        refuse(3)
+    bits, used = body_of(stored, 7 + 20 * len(pairs(n)))
+    t = [0] * (n * n)
+    for place, (i, j) in enumerate(pairs(n)):
+        entry = int(bits[7 + 20 * place:27 + 20 * place], 2)
+        if entry > MOST_ENTRY:
+            refuse(4, i, j)
+        t[(i - 1) * n + j - 1] = t[(j - 1) * n + i - 1] = entry
+    return n, t, used
+
+
+# The public calls
+
+@call
+def index(n, t, s):
+    check_n(n)
+    check_length(n, t)
+    check_entries(n, t)
+    if s == 0 or holds(s, 1) or s >= 2 ** n:
+        refuse(12)
+    return 0, max(index_of(n, square(n, t), s), 0)
+
+
+@call
+def order(n, t, first, last, out):
+    check_n(n)
+    check_length(n, t)
+    check_room(out, n)
+    check_entries(n, t)
+    check_image(n, first)
+    check_image(n, last)
+    if first == last:
+        refuse(8)
+    out[:n] = order_of(n, square(n, t), first, last)
+    return 0, n
+
+
+def reading(n, t, fars, costs, exactly):
+    check_n(n)
+    check_length(n, t)
+    check_room(fars, 2 * n - 3)
+    check_room(costs, 2 * n - 3)
+    check_entries(n, t)
+    if exactly:
+        check_wiring(n, t)
+    rows = measured_rows(n, tuple(t))
+    fars[:len(rows)] = [far for far, cost in rows]
+    costs[:len(rows)] = [cost for far, cost in rows]
+    return 0, len(rows)
+
+
+@call
+def measured(n, t, fars, costs):
+    return reading(n, t, fars, costs, False)
+
+
+@call
+def exact(n, t, fars, costs):
+    return reading(n, t, fars, costs, True)
+
+
+@call
+def path(n, count, fars, costs, i, j):
+    check_n(n)
+    check_count(n, count)
+    check_both_lengths(count, fars, costs)
+    check_rows(n, fars, costs)
+    check_image(n, i)
+    check_image(n, j)
+    return 0, path_of(list(zip(fars, costs)), i, j)
+
+
+@call
+def upper_rows(n, count, fars, costs, out):
+    check_n(n)
+    check_count(n, count)
+    check_both_lengths(count, fars, costs)
+    check_room(out, 2 * n - 3)
+    check_rows(n, fars, costs)
+    out[:count] = upper_rows_of(fars)
+    return 0, count
+
+
+@call
+def route(n, count, fars, costs, i, out):
+    check_n(n)
+    check_count(n, count)
+    check_both_lengths(count, fars, costs)
+    check_room(out, 2 * n - 3)
+    check_rows(n, fars, costs)
+    check_image(n, i)
+    climbed = route_of(n, fars, i)
+    out[:len(climbed)] = climbed
+    return 0, len(climbed)
+
+
+def inner_far_sides(n, t):
+    """Of a table that is read exactly, with the checks 2, 4, 5, 6, 7."""
+    check_length(n, t)
+    check_entries(n, t)
+    check_wiring(n, t)
+    return {far for far, cost in measured_rows(n, tuple(t)) if is_inner(n, far)}
+
+
+@call
+def compare(n, first, second):
+    numbered(0, check_n, n)
+    one = numbered(1, inner_far_sides, n, first)
+    two = numbered(2, inner_far_sides, n, second)
+    over = 1 if n == 3 else 2 * n - 6
+    return 0, len(one), len(two), len(one & two), len(one ^ two), over
+
+
+@call
+def write_costs(n, t, out):
+    check_n(n)
+    check_length(n, t)
+    check_entries(n, t)
+    stored = stored_costs(n, t)
+    check_room(out, len(stored))
+    out[:len(stored)] = stored
+    return 0, len(stored)
+
+
+@call
+def write_links(n, count, fars, costs, out):
+    check_n(n)
+    check_count(n, count)
+    check_both_lengths(count, fars, costs)
+    check_rows(n, fars, costs)
+    stored = stored_links(n, fars, costs)
+    check_room(out, len(stored))
+    out[:len(stored)] = stored
+    return 0, len(stored)
+
+
+@call
+def read_costs(stored, position, out):
+    n, t, used = cost_table_in(rest_at(stored, position), len(out))
+    out[:n * n] = t
+    return 0, n, used
+
+
+@call
+def read_links(stored, position, fars, costs):
+    n, found, found_costs, used = link_table_in(rest_at(stored, position), [fars, costs])
+    fars[:len(found)] = found
+    costs[:len(found)] = found_costs
+    return 0, n, len(found), used
+
+
+def one_of_batch(n, count, fars, costs, room):
+    """The link writer's checks for the next table of a batch, its rows being the
+    first of what is left of the joined slices. Answers its stored bytes."""
+    check_n(n)
+    check_count(n, count)
+    if len(fars) < count or len(costs) < count:
+        refuse(2)
+    check_rows(n, fars[:count], costs[:count])
+    stored = stored_links(n, fars[:count], costs[:count])
+    if room < len(stored):
+        refuse(3)
+    return stored
+
+
+@call
+def write_batch(ns, counts, fars, costs, out):
+    if len(ns) != len(counts):
+        raise Refusal(2, table=0)
+    stored, at = [], 0
+    for table, (n, count) in enumerate(zip(ns, counts), 1):
+        stored += numbered(table, one_of_batch, n, count, fars[at:], costs[at:],
+                           len(out) - len(stored))
+        at += count
+    if len(fars) > at or len(costs) > at:
+        raise Refusal(2, table=len(ns))
+    out[:len(stored)] = stored
+    return 0, len(stored)
+
+
+@call
+def choice(first, second):
+    """The chosen table's number and its used bytes."""
+    n, fars, _, used = numbered(1, link_table_in, first, [])
+    n2, fars2, _, used2 = numbered(2, link_table_in, second, [])
+    if n != n2:
+        raise Refusal(15, table=0)
+    inner = {far for far in fars if is_inner(n, far)}
+    inner2 = {far for far in fars2 if is_inner(n, far)}
+    if inner >= inner2:
+        return 0, 1, used
+    if inner2 >= inner:
+        return 0, 2, used2
+    raise Refusal(14, table=0)
+
+
+def choose(first, second):
+    """The chosen table's used bytes; empty where the choice is refused."""
+    answer = choice(first, second)
+    if answer[0] != 0:
+        return []
+    return (first if answer[1] == 1 else second)[:answer[2]]
+
+
+def listing(stored):
+    """What the listing program prints for these bytes on standard input."""
+    try:
+        n, t, _ = cost_table_in(stored, None)
+        check_wiring(n, t)
+    except Refusal as refusal:
+        return "refused %d %d %d %d %d\n" % refusal.answer()
+    rows = measured_rows(n, tuple(t))
+    uppers = upper_rows_of([far for far, cost in rows])
+    lines = ["images %d rows %d" % (n, len(rows))]
+    lines += ["%d %d %d" % (far, cost, upper) for (far, cost), upper in zip(rows, uppers)]
+    lines.append("order " + " ".join(map(str, order_of(n, square(n, t), 1, n))))
+    return "".join(line + "\n" for line in lines)
+
+
+# Numbers from a fixed seed, the same with every Python
+
+class Dice:
+    """A sequence of 64-bit numbers decided by its seed (splitmix64)."""
+
+    def __init__(self, seed):
+        self.state = seed
+
+    def next(self):
+        most = 2 ** 64 - 1
+        self.state = (self.state + 0x9E3779B97F4A7C15) & most
+        x = self.state
+        x = ((x ^ (x >> 30)) * 0xBF58476D1CE4E5B9) & most
+        x = ((x ^ (x >> 27)) * 0x94D049BB133111EB) & most
+        return x ^ (x >> 31)
+
+    def below(self, bound):
+        return self.next() % bound
+
+    def between(self, least, most):
+        return least + self.below(most - least + 1)
+
+    def one_of(self, things):
+        return things[self.below(len(things))]
+
+    def chance(self, part, whole):
+        return self.below(whole) < part
+
+    def mixed(self, things):
+        things = list(things)
+        for at in range(len(things) - 1, 0, -1):
+            other = self.below(at + 1)
+            things[at], things[other] = things[other], things[at]
+        return things
+
+
+# Tables to try
+
+def table_from(n, upper):
+    """The n*n entries from the upper triangle in stored order."""
+    t = [0] * (n * n)
+    for (i, j), entry in zip(pairs(n), upper):
+        t[(i - 1) * n + j - 1] = t[(j - 1) * n + i - 1] = entry
+    return t
+
+
+def tree_table(n, rows):
+    """The table whose doubled entries are the path costs of these rows."""
+    return table_from(n, [path_of(rows, i, j) // 2 for i, j in pairs(n)])
+
+
+def tree_far_sides(dice, n, shape):
+    """Far sides of a tree over n images: a star, a caterpillar, or uneven."""
+    fars = set()
+
+    def divide(images):
+        fars.add(sum(2 ** (i - 1) for i in images))
+        if len(images) == 1:
+            return
+        if shape == "star":
+            parts = [[i] for i in images]
+        elif shape == "caterpillar":
+            parts = [images[:1], images[1:]]
+        else:
+            count = 2 if dice.chance(3, 4) else dice.between(2, min(5, len(images)))
+            cuts = sorted(dice.mixed(range(1, len(images)))[:count - 1])
+            parts = [images[a:b] for a, b in zip([0] + cuts, cuts + [len(images)])]
+        for part in parts:
+            divide(part)
+
+    divide(dice.mixed(range(2, n + 1)))
+    return sorted(fars)
+
+
+def tree_rows(dice, n, shape="uneven", most=40, even=True):
+    """Rows of a link table of this shape. With `even`, every path cost is even,
+    so that half of it is an entry: a mark on each switch, and the cost of a link
+    is odd exactly where the marks of its two ends differ; images are unmarked."""
+    fars = tree_far_sides(dice, n, shape)
+    # A row's far end: an image, or the switch below it. The last row joins image
+    # 1 to the switch of all the others.
+    mark = {far: 0 if ones(far) == 1 else dice.below(2) for far in fars}
+    uppers = upper_rows_of(fars)
+    rows = []
+    for far, upper in zip(fars, uppers):
+        inner = is_inner(n, far)
+        cost = dice.between(1 if inner else 0, most)
+        if even:
+            above = mark[fars[upper - 1]] if upper else 0
+            if cost % 2 != mark[far] ^ above:
+                cost += 1
+        rows.append((far, cost))
+    return rows
+
+
+def noisy(dice, n, t, most):
+    """The table with every entry moved by at most `most`, still well-formed."""
+    moved = []
+    for i, j in pairs(n):
+        entry = t[(i - 1) * n + j - 1] + dice.between(0, 2 * most) - most
+        moved.append(min(max(entry, 0), MOST_ENTRY))
+    return table_from(n, moved)
+
+
+def random_table(dice, n, most):
+    return table_from(n, [dice.between(0, most) for _ in pairs(n)])
+
+
+def random_shape(dice):
+    return dice.one_of(["star", "caterpillar", "uneven", "uneven"])
+
+
+# The settled examples
+
+EXAMPLES = {
+    "A": (3, [1, 1, 1]),
+    "B": (3, [0, 0, 0]),
+    "C": (3, [1, 1, 3]),
+    "D": (3, [1, 1, 2]),
+    "E": (4, [2, 4, 4, 4, 4, 2]),
+    "F": (4, [2, 3, 4, 4, 4, 2]),
+    "G": (4, [2, 2, 2, 2, 2, 2]),
+    "H": (7, [28, 5, 48, 54, 59, 41, 25, 56, 62, 67, 49, 45, 51, 56, 38, 8, 55, 37, 61, 43, 30]),
+}
+
+MEASURED = {
+    "A": [(2, 1), (4, 1), (6, 1)],
+    "B": [(2, 0), (4, 0), (6, 0)],
+    "C": [(2, 2), (4, 2), (6, 0)],
+    "D": [(2, 2), (4, 2), (6, 0)],
+    "E": [(2, 2), (4, 2), (8, 2), (12, 4), (14, 2)],
+    "F": [(2, 2), (4, 1), (8, 2), (12, 3), (14, 1)],
+    "G": [(2, 2), (4, 2), (8, 2), (14, 2)],
+    "H": [(2, 36), (4, 2), (8, 2), (16, 14), (24, 42), (32, 48), (64, 12), (96, 18),
+          (120, 32), (122, 12), (126, 8)],
+}
+
+NOT_EXACT = {"C": (7, 1, 1, 2, 3), "F": (7, 1, 2, 3, 4)}
+
+STORED_A_COSTS = [0x06, 0x00, 0x00, 0x20, 0x00, 0x02, 0x00, 0x00, 0x20]
+STORED_A_LINKS = [0x06, 0x0D, 0x00, 0x00, 0x0C, 0x00, 0x00, 0x1C, 0x00, 0x00, 0x20]
+
+LISTING_A = "images 3 rows 3\n2 1 3\n4 1 3\n6 1 0\norder 1 2 3\n"
+LISTING_C = "refused 7 1 1 2 3\n"
+
+
+def example(name):
+    n, upper = EXAMPLES[name]
+    return n, table_from(n, upper)
+
+
+# Self-test
+
+def read_rows(reader, n, t):
+    """Rows that a reading answers, or its refusal. Longer outputs keep their ends."""
+    room = 2 * n
+    fars, costs = [5] * room, [6] * room
+    answer = reader(n, t, fars, costs)
+    count = answer[1] if answer[0] == 0 else 0
+    assert fars[count:] == [5] * (room - count) and costs[count:] == [6] * (room - count)
+    return list(zip(fars[:count], costs[:count])) if answer[0] == 0 else answer
+
+
+def is_link_table(n, rows):
+    fars, costs = [far for far, _ in rows], [cost for _, cost in rows]
+    return path(n, len(rows), fars, costs, 1, 1) == (0, 0)
+
+
+def closed_sum(n, t, order_found):
+    d = square(n, t)
+    return sum(d[i][j] for i, j in zip(order_found, order_found[1:] + order_found[:1]))
+
+
+def test_settled_examples():
+    for name in EXAMPLES:
+        n, t = example(name)
+        assert read_rows(measured, n, t) == MEASURED[name], name
+        assert read_rows(exact, n, t) == NOT_EXACT.get(name, MEASURED[name]), name
+        assert rows_by_definition(n, t) == MEASURED[name], name
+    n, e = example("E")
+    _, g = example("G")
+    assert compare(n, e, g) == (0, 1, 0, 0, 1, 2)
+    assert compare(n, g, g) == (0, 0, 0, 0, 0, 2)
+    assert compare(3, example("A")[1], example("D")[1]) == (0, 0, 0, 0, 0, 1)
+    n, h = example("H")
+    out = [9] * 8
+    assert order(n, h, 1, 2, out) == (0, 7)
+    assert out == [1, 3, 7, 6, 5, 4, 2, 9]
+    assert closed_sum(n, h, out[:7]) == 226 == sum(cost for _, cost in MEASURED["H"])
+    # Leaving repeats out of the index would give C's image 2 the cost 3.
+    assert index(3, example("C")[1], 2) == (0, 2)
+
+
+def test_settled_limits():
+    for n in (2, 65):
+        t = [0] * (n * n)
+        refused = (1, n, 0, 0, 0)
+        assert index(n, t, 2) == refused
+        assert order(n, t, 1, 2, [0] * 70) == refused
+        assert measured(n, t, [0] * 130, [0] * 130) == refused
+        assert exact(n, t, [0] * 130, [0] * 130) == refused
+        assert path(n, n, [0] * n, [0] * n, 1, 2) == refused
+        assert upper_rows(n, n, [0] * n, [0] * n, [0] * 130) == refused
+        assert route(n, n, [0] * n, [0] * n, 1, [0] * 130) == refused
+        assert compare(n, t, t) == (1, 0, n, 0, 0, 0)
+        assert write_costs(n, t, [0] * 6000) == refused
+        assert write_links(n, n, [0] * n, [0] * n, [0] * 6000) == refused
+        assert write_batch([n], [n], [0] * n, [0] * n, [0] * 6000) == (1, 1, n, 0, 0, 0)
+        stored = bytes_of_bits(field(7, n) + field(7, n)) + [0] * 6000
+        assert read_costs(stored, 0, [0] * 5000) == refused
+        assert read_links(stored, 0, [0] * 130, [0] * 130) == refused
+        assert choice(stored, stored) == (1, 1, n, 0, 0, 0)
+        assert listing(stored) == "refused 1 %d 0 0 0\n" % n
+    for n in (3, 4, 9):
+        t = table_from(n, [MOST_ENTRY] * (n * n))
+        rows = [(2 ** i, MOST_ENTRY) for i in range(1, n)] + [(2 ** n - 2, MOST_ENTRY)]
+        assert read_rows(exact, n, t) == rows
+        t[1] += 1
+        assert read_rows(exact, n, t) == (4, 1, 2, 0, 0)
+        assert write_costs(n, t, []) == (4, 1, 2, 0, 0)
+        stored = stored_costs(n, table_from(n, [MOST_ENTRY + 1] + [0] * (n * n)))
+        assert read_costs(stored, 0, [0] * (n * n)) == (4, 1, 2, 0, 0)
+
+
+def test_stored_a():
+    n, t = example("A")
+    fars, costs = [2, 4, 6], [1, 1, 1]
+    out = [0xFF] * 12
+    assert write_costs(n, t, out) == (0, 9) and out == STORED_A_COSTS + [0xFF] * 3
+    out = [0xFF] * 12
+    assert write_links(n, 3, fars, costs, out) == (0, 11) and out == STORED_A_LINKS + [0xFF]
+    out = [7] * 10
+    assert read_costs(STORED_A_COSTS, 0, out) == (0, 3, 9) and out == t + [7]
+    fars, costs = [8] * 4, [8] * 4
+    assert read_links([255] + STORED_A_LINKS, 8, fars, costs) == (0, 3, 3, 11)
+    assert fars == [2, 4, 6, 8] and costs == [1, 1, 1, 8]
+    assert choose(STORED_A_LINKS + [1], STORED_A_LINKS) == STORED_A_LINKS
+    assert choice(STORED_A_LINKS + [1], STORED_A_LINKS) == (0, 1, 11)
+
+
+def test_listing():
+    n, c = example("C")
+    assert listing(STORED_A_COSTS) == LISTING_A
+    assert listing(STORED_A_COSTS + [1, 2, 3]) == LISTING_A
+    assert listing(stored_costs(n, c)) == LISTING_C
+    assert listing([]) == "refused 9 0 0 0 0\n"
+
+
+def tables_to_try(dice, n, count):
+    """Tree tables, noisy ones, random ones, and ones of zeros and 1,000,000s."""
+    for turn in range(count):
+        kind = turn % 6
+        rows = tree_rows(dice, n, random_shape(dice), dice.one_of([2, 6, 40]))
+        if kind < 2:
+            yield tree_table(n, rows)
+        elif kind == 2:
+            yield noisy(dice, n, tree_table(n, rows), dice.one_of([1, 2, 5]))
+        elif kind == 3:
+            yield random_table(dice, n, dice.one_of([1, 2, 3, 10]))
+        elif kind == 4:
+            yield random_table(dice, n, MOST_ENTRY)
+        else:
+            yield table_from(n, [dice.one_of([0, MOST_ENTRY]) for _ in pairs(n)])
+
+
+def test_readings_agree_with_definitions(dice):
+    """The grown reading against all divisions, the index against its definition,
+    the sorted scan against all fours and against fours with image 1 in front."""
+    for n, count in ((3, 60), (4, 120), (5, 120), (6, 60), (7, 24), (8, 12), (9, 12)):
+        for t in tables_to_try(dice, n, count):
+            assert measured_rows(n, tuple(t)) == rows_by_definition(n, t)
+            d = square(n, t)
+            far = 2 * dice.between(1, 2 ** (n - 1) - 1)
+            least = index_by_definition(n, d, far)
+            assert index_of(n, d, far) == least
+            assert index(n, t, far) == (0, max(least, 0))
+            fours = itertools.product(range(1, n + 1), repeat=4)
+            failing = sorted(tuple(sorted(four)) for four in fours
+                             if not four_point_holds(d, *four))
+            assert first_failing_four(n, tuple(t)) == (failing[0] if failing else None)
+            assert not failing or failing[0][0] == 1
+
+
+def test_all_small_tables():
+    """Four images, entries 0 to 2: accepted exactly where the measured reading's
+    path costs are twice the entries."""
+    n = 4
+    for upper in itertools.product(range(3), repeat=6):
+        t = table_from(n, upper)
+        rows = measured_rows(n, tuple(t))
+        meets = all(path_of(rows, i, j) == 2 * entry
+                    for (i, j), entry in zip(pairs(n), upper))
+        assert meets == (first_failing_four(n, tuple(t)) is None)
+
+
+def test_only_one_table():
+    """Four images, costs 0 to 3: a link table with even path costs is the exact
+    reading of the halves."""
+    n = 4
+    for own in itertools.product(range(4), repeat=4):
+        for inner in [None] + [(far, cost) for far in (6, 10, 12) for cost in (1, 2, 3)]:
+            rows = list(zip((2, 4, 8, 14), own)) + ([inner] if inner else [])
+            rows.sort()
+            if all(path_of(rows, i, j) % 2 == 0 for i, j in pairs(n)):
+                assert read_rows(exact, n, tree_table(n, rows)) == rows
+
+
+def test_demand_2(dice):
+    """On tree tables the exact reading gives the tree back, path costs are twice
+    the entries, and every order's closed sum is the sum of all doubled costs."""
+    for n in (3, 4, 5, 6, 9, 12, 20, 33):
+        for _ in range(20 if n < 10 else 3):
+            rows = tree_rows(dice, n, random_shape(dice), dice.one_of([2, 10, 500]))
+            t = tree_table(n, rows)
+            assert is_link_table(n, rows)
+            assert read_rows(exact, n, t) == rows == read_rows(measured, n, t)
+            fars, costs = [far for far, _ in rows], [cost for _, cost in rows]
+            for i, j in itertools.product(range(1, n + 1), repeat=2):
+                if n < 10 or j < 4:
+                    twice = 2 * t[(i - 1) * n + j - 1]
+                    assert path(n, len(rows), fars, costs, i, j) == (0, twice)
+            for first, last in itertools.permutations(range(1, n + 1), 2):
+                if n < 10 or (first < 3 and last < 6):
+                    out = [0] * n
+                    assert order(n, t, first, last, out) == (0, n)
+                    assert sorted(out) == list(range(1, n + 1))
+                    assert (out[0], out[-1]) == (first, last)
+                    assert closed_sum(n, t, out) == sum(costs)
+
+
+def test_demand_3(dice):
+    """The drawn rows form a link table, no path cost is above twice the entry, and
+    the doubled costs stay within 4D of an accepted table's."""
+    for n in (3, 4, 5, 6, 9, 12, 20):
+        for _ in range(30 if n < 10 else 4):
+            rows = tree_rows(dice, n, random_shape(dice), dice.one_of([4, 20, 500]))
+            t = tree_table(n, rows)
+            most = dice.one_of([1, 2, 5, 30])
+            moved = noisy(dice, n, t, most)
+            distance = max(abs(a - b) for a, b in zip(t, moved))
+            before, after = dict(rows), dict(measured_rows(n, tuple(moved)))
+            for far in set(before) | set(after):
+                assert abs(before.get(far, 0) - after.get(far, 0)) <= 4 * distance
+            others = [moved, random_table(dice, n, dice.one_of([3, 50, MOST_ENTRY]))]
+            for other in others:
+                drawn = measured_rows(n, tuple(other))
+                assert is_link_table(n, drawn)
+                for i, j in pairs(n):
+                    assert path_of(drawn, i, j) <= 2 * other[(i - 1) * n + j - 1]
+
+
+def test_comparison(dice):
+    """The count is the inner far sides in exactly one table, and not always 2n-6
+    less twice the common ones."""
+    for n in (3, 4, 5, 6, 9):
+        for _ in range(20):
+            one = tree_rows(dice, n, random_shape(dice))
+            two = tree_rows(dice, n, random_shape(dice))
+            inner1 = [far for far, _ in one if is_inner(n, far)]
+            inner2 = [far for far, _ in two if is_inner(n, far)]
+            common = [far for far in inner1 if far in inner2]
+            count = len(inner1) + len(inner2) - 2 * len(common)
+            assert compare(n, tree_table(n, one), tree_table(n, two)) == (
+                0, len(inner1), len(inner2), len(common), count, max(2 * n - 6, 1))
+
+
+def test_routes(dice):
+    for n in (3, 4, 5, 9, 33, 64):
+        for shape in ("star", "caterpillar", "uneven"):
+            rows = tree_rows(dice, n, shape, 9, even=False)
+            fars, costs = [far for far, _ in rows], [cost for _, cost in rows]
+            for image in range(1, n + 1):
+                out = [0] * (2 * n - 3)
+                answer = route(n, len(rows), fars, costs, image, out)
+                climbed = out[:answer[1]]
+                own = own_link(n, image)
+                expected = [r + 1 for r, far in enumerate(fars) if far & own == own]
+                assert climbed == expected and climbed[-1] == len(rows)
+
+
+def test_stored_forms(dice):
+    """Reading undoes writing, writing gives the used bytes again, a second table
+    is read where the first ended, and a batch is its tables one after another."""
+    for n in (3, 4, 5, 8, 9, 33, 64):
+        t = random_table(dice, n, MOST_ENTRY)
+        out = [255] * (len(stored_costs(n, t)) + 2)
+        used = write_costs(n, t, out)[1]
+        assert out[used:] == [255, 255]
+        found = [0] * (n * n)
+        assert read_costs([9] + out, 8, found) == (0, n, used) and found == t
+        tables = [tree_rows(dice, n, random_shape(dice), MOST_COST - 1, even=False)
+                  for _ in range(3)]
+        fars = [far for rows in tables for far, _ in rows]
+        costs = [cost for rows in tables for _, cost in rows]
+        out = [255] * 6000
+        answer = write_batch([n] * 3, [len(rows) for rows in tables], fars, costs, out)
+        assert answer[0] == 0
+        at = 0
+        for rows in tables:
+            room = 2 * n - 3
+            found, found_costs = [0] * room, [0] * room
+            answer2 = read_links(out, 8 * at, found, found_costs)
+            count, used = answer2[2], answer2[3]
+            assert answer2[:2] == (0, n) and count == len(rows)
+            assert list(zip(found, found_costs))[:count] == rows
+            again = [0] * used
+            assert write_links(n, count, found[:count], found_costs[:count], again) == (0, used)
+            assert again == out[at:at + used]
+            at += used
+        assert at == answer[1] and out[at:] == [255] * (6000 - at)
+    assert write_batch([], [], [], [], []) == (0, 0)
+    assert write_batch([], [], [2], [], []) == (2, 0, 0, 0, 0, 0)
+    assert write_batch([3], [], [], [], []) == (2, 0, 0, 0, 0, 0)
+
+
+def test_choice(dice):
+    """A tree against itself with inner rows left out, in both orders."""
+    for n in (4, 5, 9, 33, 64):
+        rows = tree_rows(dice, n, "caterpillar", 9, even=False)
+        inner = [far for far, _ in rows if is_inner(n, far)]
+        left_out = dice.one_of(inner)
+        fewer = [row for row in rows if row[0] != left_out]
+        more = stored_links(n, [far for far, _ in rows], [cost for _, cost in rows])
+        less = stored_links(n, [far for far, _ in fewer], [cost for _, cost in fewer])
+        assert choose(more + [3], less) == more and choice(more + [3], less) == (0, 1, len(more))
+        assert choose(less, more + [3]) == more and choice(less, more + [3]) == (0, 2, len(more))
+        assert choice(more, STORED_A_LINKS) == (15, 0, 0, 0, 0, 0)
+    crossing = [stored_links(4, sorted([2, 4, 8, 14, far]), [1] * 5) for far in (6, 12)]
+    assert choice(*crossing) == (14, 0, 0, 0, 0, 0) and choose(*crossing) == []
+
+
+def test_sixty_four(dice):
+    n = 64
+    rows = tree_rows(dice, n, "uneven", 300)
+    t = tree_table(n, rows)
+    assert read_rows(exact, n, t) == rows and rows[-1][0] == 2 ** 64 - 2
+    moved = noisy(dice, n, t, 2)
+    drawn = read_rows(measured, n, moved)
+    assert is_link_table(n, drawn)
+    for i, j in pairs(n):
+        assert path_of(drawn, i, j) <= 2 * moved[(i - 1) * n + j - 1]
+
+
+def self_test():
+    if not __debug__:
+        sys.exit("the self-test needs its assertions: run it without -O")
+    dice = Dice(1)
+    tests = [
+        (test_settled_examples, ()), (test_settled_limits, ()), (test_stored_a, ()),
+        (test_listing, ()), (test_readings_agree_with_definitions, (dice,)),
+        (test_all_small_tables, ()), (test_only_one_table, ()), (test_demand_2, (dice,)),
+        (test_demand_3, (dice,)), (test_comparison, (dice,)), (test_routes, (dice,)),
+        (test_stored_forms, (dice,)), (test_choice, (dice,)), (test_sixty_four, (dice,)),
+    ]
+    for test, arguments in tests:
+        test(*arguments)
+        print("passed", test.__name__[5:].replace("_", " "))
+    print("%d passed, 0 failed" % len(tests))
+
+
+if __name__ == "__main__":
+    if sys.argv[1:] != ["--self-test"]:
+        sys.exit("usage: independent.py --self-test")
+    self_test()
