@@ -5,7 +5,7 @@ use Prim.Native.Nat.{ℕ, _*_, _-_, _≤_}
 use native.Mathlib.Omega.{arith}
 use lib.ListN.{length}
 use borrow.Author.Tests.{le-ltb}
-use Rattle.ground.specs.Refusals.{placesIf, roomCheck, then-passed}
+use Rattle.ground.specs.Refusals.{placesIf, then-passed}
 use Rattle.ground.specs.declared.Check.{Check}
 use Rattle.ground.specs.declared.Check.the-variants.{Passed, Refused}
 use Rattle.ground.specs.declared.Refusal.{Refusal}
@@ -16,6 +16,7 @@ use Rattle.links.specs.Checks.{rowChecks, sizeChecks}
 use Rattle.links.specs.LinkChecks.{Links, link-checks, sizes-passed}
 use Rattle.stored_links.specs.Form.{linkUsed}
 use Rattle.stored_links.specs.Laws.Passed.{room-passed}
+use Rattle.stored_links.specs.Reading.{roomCheck}
 use Rattle.ground.specs.declared.Written.the-variants as written
 
 pub places-stops : {x : Check} {r : Refusal} (y : Check) (used : ℕ) → x ≡ Refused r → x ≡ y → written.Refused r ≡ placesIf y used

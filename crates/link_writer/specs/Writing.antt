@@ -4,12 +4,13 @@ use mathlib.Core.List.{List}
 use mathlib.Core.Path.{_≡_}
 use Prim.Native.Nat.{ℕ, _≤_}
 use lib.ListN.{length}
-use Rattle.ground.specs.Refusals.{placesIf, roomCheck, _then_}
+use Rattle.ground.specs.Refusals.{placesIf, _then_}
 use Rattle.ground.specs.declared.Check.{Check}
 use Rattle.ground.specs.declared.Written.{Written}
-use Rattle.ground.specs.Outcomes.{frontIf}
 use Rattle.links.specs.Checks.{rowChecks, sizeChecks}
 use Rattle.stored_links.specs.Form.{linkBytes, linkUsed}
+use Rattle.stored_links.specs.Outcomes.{frontIf}
+use Rattle.stored_links.specs.Reading.{roomCheck}
 use Rattle.stored_links.specs.Sizes.{Small}
 
 -- 12, 13, 3: of rows as many as counted, room counting exact bytes

@@ -7,3 +7,4 @@ pub mod Outcomes
 pub mod Positions
 pub mod ReadBack
 pub mod WriteBack
+pub mod ReadAt

@@ -6,7 +6,7 @@ use lib.ListN.{drop, length}
 use Rattle.ground.specs.Buffers.{front}
 use Rattle.ground.specs.declared.Check.{Check}
 use Rattle.ground.specs.declared.Check.the-variants.{Passed, Refused}
-use Rattle.stored_links.specs.Reading.{readAtChecks}
+use Rattle.stored_links.specs.Reading.{readAtChecks, tableAtChecks}
 use Rattle.stored_links.specs.Said.{costsOf, countOf, farsOf, imagesOf, usedOf}
 use Rattle.stored_links.specs.declared.StoredLinks.{StoredLinks}
 use Rattle.stored_links.specs.declared.StoredLinks.the-variants.{Table}
@@ -42,6 +42,10 @@ saidIf c head w s = tableIf c (imagesOf head s) (countOf head s) (usedOf head w 
 -- or the first refusal
 abbrev pub judged : ℕ → ℕ → ℕ → List ℕ → ℕ → ℕ → StoredLinks
 judged head w L bytes position room = saidIf (readAtChecks head w L bytes position room) head w (drop (position / 8) bytes)
+
+-- the same without 3
+abbrev pub judgedTable : ℕ → ℕ → ℕ → List ℕ → ℕ → StoredLinks
+judgedTable head w L bytes position = saidIf (tableAtChecks head w L bytes position) head w (drop (position / 8) bytes)
 
 -- the answer, with the rows that s begins with at the front of the lent places where the check passed
 abbrev pub rowsIf : Check → ℕ → ℕ → List ℕ → List ℕ → List ℕ → Outcome

@@ -7,14 +7,13 @@ ghost use Prim.Native.Nat.{min, _*_, _+_, _-_, _≤_, _<_};
 ghost use lib.ListN.{length, take};
 ghost use Rattle.ground.specs.Buffers.{front};
 ghost use Rattle.ground.specs.declared.Check.the-variants.{Passed};
-ghost use Rattle.ground.specs.Outcomes.{Left};
 ghost use Rattle.theory.specs.Tables.{limit};
 ghost use Rattle.links.specs.Checks.{rowChecks};
 ghost use Rattle.bits.specs.Bits.{bits, part, valueOf};
 ghost use Rattle.bits.specs.Forms.{bytesFor};
 ghost use Rattle.stored_links.specs.Form.{linkUsed, rowAt};
 ghost use Rattle.stored_links.specs.Said.{costOf, costsOf, countOf, farOf, farsOf, imagesOf};
-ghost use Rattle.stored_links.specs.Outcomes.{judged, readOutcome, saidIf};
+ghost use Rattle.stored_links.specs.Outcomes.{Left, judged, judgedTable, readOutcome, saidIf};
 ghost use Rattle.stored_links.specs.Reading.{bodyChecks, headChecks, misplaced, readAtChecks, readChecks};
 ghost use Rattle.stored_links.specs.Sizes.{Held, Small};
 
@@ -211,6 +210,13 @@ pub fn judge_links(bytes: &[u8], position: usize, room: usize) -> StoredLinks
     ensures { λ r. ⌜ r ≡ judged 0 21 limit (now (bytes .entry)) position room ⌝ }
 {
     judge(0, 21, theory::LIMIT, bytes, position, room)
+}
+
+// The same without refusal 3: no table has more than 125 rows.
+pub fn judge_table(bytes: &[u8], position: usize) -> StoredLinks
+    ensures { λ r. ⌜ r ≡ judgedTable 0 21 limit (now (bytes .entry)) position ⌝ }
+{
+    judge_links(bytes, position, 125)
 }
 
 // The lesser of two lengths.

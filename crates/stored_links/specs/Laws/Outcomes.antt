@@ -9,8 +9,7 @@ use Rattle.ground.specs.Buffers.{front}
 use Rattle.ground.specs.declared.Check.{Check}
 use Rattle.ground.specs.declared.Check.the-variants.{Passed, Refused}
 use Rattle.ground.specs.declared.Refusal.{Refusal}
-use Rattle.ground.specs.Outcomes.{Left, Outcome, frontIf}
-use Rattle.stored_links.specs.Outcomes.{rowsIf, tableIf}
+use Rattle.stored_links.specs.Outcomes.{Left, Outcome, frontIf, rowsIf, tableIf}
 use Rattle.stored_links.specs.declared.StoredLinks.{StoredLinks}
 use Rattle.stored_links.specs.declared.StoredLinks.the-variants.{Table}
 use Rattle.stored_links.specs.declared.StoredLinks.the-variants as stored

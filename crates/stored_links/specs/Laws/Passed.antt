@@ -6,7 +6,7 @@ use native.Mathlib.Omega.{arith}
 use lib.Dec.{ltb}
 use lib.ListN.{length}
 use borrow.Author.Tests.{le-ltb, ltb-false}
-use Rattle.ground.specs.Refusals.{refuseIf-passed, roomCheck, then-passed, _then_}
+use Rattle.ground.specs.Refusals.{refuseIf-passed, then-passed, _then_}
 use Rattle.ground.specs.declared.Check.{Check}
 use Rattle.ground.specs.declared.Check.the-variants.{Passed, Refused}
 use Rattle.theory.specs.LinkTables.{LinkTable, rowsOf}
@@ -15,7 +15,7 @@ use Rattle.bits.specs.Listed.{length-listed}
 use Rattle.links.specs.Checks.{countChecks, rowChecks}
 use Rattle.links.specs.LinkChecks.{count-passed, row-checks}
 use Rattle.stored_links.specs.Form.{linkUsed}
-use Rattle.stored_links.specs.Reading.{bodyChecks, endCheck, fillCheck, headChecks, readChecks, tableChecks}
+use Rattle.stored_links.specs.Reading.{bodyChecks, endCheck, fillCheck, headChecks, readChecks, roomCheck, tableChecks}
 use Rattle.stored_links.specs.Said.{costOf, costsOf, countOf, farOf, farsOf, fillOf, imagesOf}
 use Rattle.stored_links.specs.Sizes.{Held}
 use Rattle.stored_links.specs.declared.StoredLinks.the-variants as stored
