@@ -3,5 +3,5 @@ pub mod Tables
 pub mod Batch
 pub mod Fitting
 -- What is true of it.
--- pub mod Laws
+pub mod Laws
 -- pub mod Examples

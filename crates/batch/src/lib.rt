@@ -7,9 +7,9 @@ ghost use Rattle.ground.specs.Buffers.{front};
 ghost use Rattle.ground.specs.Outcomes.{Left};
 ghost use Rattle.theory.specs.Tables.{limit};
 ghost use Rattle.batch.specs.Tables.{leftOverChecks, nextChecks, runOutChecks, tables};
-ghost use Rattle.batch.specs.Batch.{batchAnswer, batchBytes, batchFrom, batchOutcome};
+ghost use Rattle.batch.specs.Batch.{batchAnswer, batchBytes, batchFrom, batchOutcome, numbered};
 ghost use Rattle.batch.specs.Fitting.{Fits};
-ghost use mathlib.Core.List.{[]};
+ghost use Rattle.batch.specs.declared.Batched.the-variants.{Bytes};
 
 // What the batch answers: the bytes used, or the first refusal with the table's number beside it.
 pub enum Batched {
@@ -56,7 +56,7 @@ fn check_next(n: usize, count: usize, fars: &[u64], costs: &[u32], room: usize) 
 
 // The answer once all i tables passed: nothing may be left over.
 fn check_end(i: usize, used: usize, fars: &[u64], costs: &[u32]) -> Batched
-    ensures { λ r. ⌜ r ≡ batchFrom 0 21 limit i used [] (now (fars .entry)) (now (costs .entry)) 0 ⌝ }
+    ensures { λ r. ⌜ r ≡ numbered i (leftOverChecks (now (fars .entry)) (now (costs .entry))) (Bytes used) ⌝ }
 {
     match check_left_over(fars, costs) {
         Check::Refused(r) => Batched::Refused(i, r),
