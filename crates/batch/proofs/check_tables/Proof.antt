@@ -63,7 +63,7 @@ shared-slice-read-n : tie.Need-shared-slice-read-n Inv-loop μ-loop
 shared-slice-read-n c = search needs
 
 cast-n : tie.Need-cast-n Inv-loop μ-loop
-cast-n c = search needs
+cast-n c = omega (arith, c .shared-slice-known5 .given (c .before .before .loop .i) .fits)
 
 mul-count : tie.Need-mul-count Inv-loop μ-loop
 mul-count c = search needs
@@ -72,7 +72,7 @@ shared-slice-read-count : tie.Need-shared-slice-read-count Inv-loop μ-loop
 shared-slice-read-count c = search needs
 
 cast-count : tie.Need-cast-count Inv-loop μ-loop
-cast-count c = search needs
+cast-count c = omega (arith, c .shared-slice-known6 .given (c .before .before .before .loop .i) .fits)
 
 mul-check-next : tie.Need-mul-check-next Inv-loop μ-loop
 mul-check-next c = search needs
@@ -132,7 +132,12 @@ add-used c =
     omega (arith, c .links-used .ensures, passed (c .before) .fits, t .before .loop .inv .3, begun t .fits .room)
 
 add-rows : tie.Need-add-rows Inv-loop μ-loop
-add-rows c = ?
+add-rows c =
+    let t = turn (c .before .before .before) in
+    let s = begun t in
+    let l = t .before .loop in
+    let z = next-length 0 21 limit _ _ _ _ _ (passed (c .before)) in
+    omega (arith, z .0, length-drop (l .rows) (s .args .fars .now), l .inv .1, s .good)
 
 add-i : tie.Need-add-i Inv-loop μ-loop
 add-i c = search needs

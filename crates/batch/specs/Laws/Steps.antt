@@ -54,6 +54,10 @@ module _ (head w L : ℕ) (ns counts l v : List ℕ) (room used rows i : ℕ) wh
 pub answer-start : (head w L : ℕ) (ns counts l v : List ℕ) (room : ℕ) → batchFrom head w L 0 0 (tables ns counts) l v room ≡ answerAt head w L ns counts l v room 0 0 0
 answer-start head w L ns counts l v room = ap (λ (x : ℕ). batchFrom head w L 0 0 (tables ns counts) l v x) (omega arith)
 
+pub fits-start : (head w L : ℕ) (ns counts l v : List ℕ) (room : ℕ) → Fits head w L (tables ns counts) l v room
+    → Fits head w L (drop 0 (tables ns counts)) (drop 0 l) (drop 0 v) (room - 0)
+fits-start head w L ns counts l v room f = subst (λ (x : ℕ). Fits head w L (tables ns counts) l v x) (omega arith) f
+
 module _ (head w L : ℕ) (ns counts l v : List ℕ) (room used rows i n N : ℕ) (e : length ns ≡ length counts) (h : i < length ns) (en : getD ns i 0 ≡ n) (eN : getD counts i 0 ≡ N) where
   table-is : drop i (tables ns counts) ≡ (n, N) ∷ drop (i + 1) (tables ns counts)
   table-is = table-at ns counts i e h ∙ ap₂ (λ (x y : ℕ). (x, y) ∷ drop (i + 1) (tables ns counts)) en eN
