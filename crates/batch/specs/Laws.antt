@@ -3,4 +3,4 @@ pub mod Next
 pub mod Answers
 pub mod Steps
 pub mod Joined
--- pub mod ReadBack
+pub mod ReadBack

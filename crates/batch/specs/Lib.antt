@@ -4,4 +4,4 @@ pub mod Batch
 pub mod Fitting
 -- What is true of it.
 pub mod Laws
--- pub mod Examples
+pub mod Examples

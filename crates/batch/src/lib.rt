@@ -65,13 +65,7 @@ fn check_end(i: usize, used: usize, fars: &[u64], costs: &[u32]) -> Batched
 }
 
 // The answer for two lists of one length: table by table, with the rows and the room that the tables before left.
-fn check_tables(
-    ns: &[u32],
-    counts: &[u32],
-    fars: &[u64],
-    costs: &[u32],
-    room: usize,
-) -> Batched
+fn check_tables(ns: &[u32], counts: &[u32], fars: &[u64], costs: &[u32], room: usize) -> Batched
     requires { ⌜ length (now ns) ≡ length (now counts) ⌝ }
     ensures { λ r. ⌜ r ≡ batchFrom 0 21 limit 0 0 (tables (now (ns .entry)) (now (counts .entry))) (now (fars .entry)) (now (costs .entry)) room ⌝ }
 {
@@ -93,13 +87,7 @@ fn check_tables(
 }
 
 // The answer, and nothing written: 2 with table number 0 where the two lists differ in length.
-fn check_batch(
-    ns: &[u32],
-    counts: &[u32],
-    fars: &[u64],
-    costs: &[u32],
-    room: usize,
-) -> Batched
+fn check_batch(ns: &[u32], counts: &[u32], fars: &[u64], costs: &[u32], room: usize) -> Batched
     ensures { λ r. ⌜ r ≡ batchAnswer 0 21 limit (now (ns .entry)) (now (counts .entry)) (now (fars .entry)) (now (costs .entry)) room ⌝ }
 {
     match ground::refuse_if(ns.len() != counts.len(), 2, 0, 0) {

@@ -39,6 +39,14 @@ numbered-bytes k (Refused r) b u e = absurd (let q : _≡_ {A = ℕ} 0 1 = cc in
 bytes-same : (x y : ℕ) → Bytes x ≡ Bytes y → x ≡ y
 bytes-same x y e = cc
 
+-- ## What is left of the lent bytes
+
+pub by-stops : {a : Batched} {k : ℕ} {r : Refusal} (b : Batched) (m d : List ℕ) → a ≡ batched.Refused k r → a ≡ b → d ≡ frontBy b m d
+by-stops b m d e f = rw (← f, e)
+
+pub by-goes : {a : Batched} {u : ℕ} (b : Batched) (m d e : List ℕ) → a ≡ Bytes u → a ≡ b → e ≡ front m d → e ≡ frontBy b m d
+by-goes b m d e p q h = rw (← q, p) h
+
 -- ## The whole batch
 
 module _ (head mark w L : ℕ) where
