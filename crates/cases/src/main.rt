@@ -1,5 +1,6 @@
 // Runs the cases of data/: for each call its name, and then a line for each case with the answer and what the call left in each
 // lent output. The independent program's text is the file stdout.
+mod batch_cases;
 mod byte_cases;
 mod calls;
 mod choice_cases;
@@ -18,6 +19,9 @@ fn one_case(call: u32, text: &[u8], at: usize) -> usize {
     }
     if call <= calls::READ_LINKS {
         return byte_cases::byte_case(call, text, at);
+    }
+    if call == calls::WRITE_BATCH {
+        return batch_cases::batch_case(text, at);
     }
     choice_cases::choice_case(text, at)
 }
@@ -61,5 +65,6 @@ fn main() {
     run(calls::READ_COSTS, b"read_costs", b"read_costs.txt");
     run(calls::WRITE_LINKS, b"write_links", b"write_links.txt");
     run(calls::READ_LINKS, b"read_links", b"read_links.txt");
+    run(calls::WRITE_BATCH, b"write_batch", b"write_batch.txt");
     run(calls::CHOICE, b"choice", b"choice.txt");
 }
