@@ -90,3 +90,14 @@ pub fn take_costs<'a, 'b>(reader: Reader<'a>, out: &'b mut [u32]) -> CostsTaken
 {
     costs_at(reader.bytes, reader.position, out)
 }
+
+// The link table where the reader stands.
+pub fn take_links<'a, 'b, 'c>(
+    reader: Reader<'a>,
+    fars: &'b mut [u64],
+    costs: &'c mut [u32],
+) -> LinksTaken
+    ensures { λ r. ⌜ LinksLeft (links.readOutcome 0 21 limit (now (reader .entry .bytes)) (reader .entry .position) (now (fars .entry)) (now (costs .entry))) (reader .entry .position) r (now (fars .exit)) (now (costs .exit)) ⌝ }
+{
+    links_at(reader.bytes, reader.position, fars, costs)
+}
