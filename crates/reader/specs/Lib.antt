@@ -1,4 +1,6 @@
--- Where the reader stands, and what its calls leave.
+-- Where the reader stands, what its calls leave, and two tables one behind the other.
 pub mod Stands
--- What is true of it.
+pub mod TwoTables
+-- What is true of them.
 pub mod Laws
+pub mod TwoRead

@@ -1,13 +1,17 @@
 // A reader of stored tables: it holds the lent bytes and its bit position. The work is done by functions that take both one by one;
 // those over the struct only take it apart.
+use ground::Refusal;
 use stored_costs::StoredCosts;
 use stored_links::StoredLinks;
 ghost use mathlib.Core.Path.{_≡_};
-ghost use Prim.Native.Nat.{_+_, _/_, _<_, _^_};
+ghost use Prim.Native.Nat.{_*_, _+_, _/_, _<_, _^_};
+ghost use lib.ListN.{length};
 ghost use Rattle.theory.specs.Tables.{limit};
 ghost use Rattle.stored_costs.specs.Outcomes as costs;
+ghost use Rattle.stored_costs.specs.declared.StoredCosts.the-variants as stored;
 ghost use Rattle.stored_links.specs.Outcomes as links;
 ghost use Rattle.reader.specs.Stands.{CostsLeft, LinksLeft, behind};
+ghost use Rattle.reader.specs.TwoTables.{TwoLeft, secondOf, twoOutcome};
 
 // The lent bytes and the bit at which the next table is read.
 pub struct Reader<'a> {
@@ -100,4 +104,51 @@ pub fn take_links<'a, 'b, 'c>(
     ensures { λ r. ⌜ LinksLeft (links.readOutcome 0 21 limit (now (reader .entry .bytes)) (reader .entry .position) (now (fars .entry)) (now (costs .entry))) (reader .entry .position) r (now (fars .exit)) (now (costs .exit)) ⌝ }
 {
     links_at(reader.bytes, reader.position, fars, costs)
+}
+
+// What reading two cost tables one after the other answers: n of the first and of the second and the bytes used by both, or the
+// refusal with the table's number.
+pub enum TwoCosts {
+    Tables {
+        first: usize,
+        second: usize,
+        used: usize,
+    },
+    Refused(usize, Refusal),
+}
+
+// The second table, and once it is accepted the first too. The part of the lent bytes behind the first table is handed to the same
+// reader.
+fn second_costs(
+    n: usize,
+    used: usize,
+    bytes: &[u8],
+    first: &mut [u32],
+    second: &mut [u32],
+) -> TwoCosts
+    requires { ⌜ costs.judged 0 20 limit (now bytes) 0 (length (now first)) ≡ stored.Table n used ⌝ }
+    ensures { λ r. ⌜ TwoLeft (secondOf n used (costs.readOutcome 0 20 limit (now (bytes .entry)) 0 (now (first .entry)) .places) (costs.readOutcome 0 20 limit (now (bytes .entry)) (8 * used) (now (second .entry))) (now (first .entry)) (now (second .entry))) r (now (first .exit)) (now (second .exit)) ⌝ }
+{
+    match stored_costs::read_costs(&bytes[used..], 0, second) {
+        StoredCosts::Refused(r) => TwoCosts::Refused(2, r),
+        StoredCosts::Table { n: m, used: more } => {
+            stored_costs::read_costs(bytes, 0, first);
+            TwoCosts::Tables {
+                first: n,
+                second: m,
+                used: used + more,
+            }
+        }
+    }
+}
+
+// Two cost tables that stand one behind the other, from the first byte on, each into its own lent places. Where either is refused
+// nothing is written.
+pub fn two_costs(bytes: &[u8], first: &mut [u32], second: &mut [u32]) -> TwoCosts
+    ensures { λ r. ⌜ TwoLeft (twoOutcome 0 20 limit (now (bytes .entry)) (now (first .entry)) (now (second .entry))) r (now (first .exit)) (now (second .exit)) ⌝ }
+{
+    match stored_costs::judge_costs(bytes, 0, first.len()) {
+        StoredCosts::Refused(r) => TwoCosts::Refused(1, r),
+        StoredCosts::Table { n, used } => second_costs(n, used, bytes, first, second),
+    }
 }
