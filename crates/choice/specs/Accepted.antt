@@ -37,6 +37,9 @@ not-included : (head w : ℕ) (s t : List ℕ) → (Includes head w s t → ⊥)
 not-included head w s t h =
     cases (includes (innersOf head w s) (innersOf head w t)) (λ e. absurd (h (includes-each (innersOf head w s) (innersOf head w t) e))) (λ e. e)
 
+pub not-includes : (head w : ℕ) (s t : List ℕ) → includes (innersOf head w s) (innersOf head w t) ≡ false → Includes head w s t → ⊥
+not-includes head w s t e h = false≢true (sym e ∙ each-includes (innersOf head w s) (innersOf head w t) h)
+
 module _ (head w L : ℕ) (s t : List ℕ) where
   -- which table is taken: the first where its inner far sides include the second's, the second where only its do
   pub data Taken (k u : ℕ) : Type 0 where
@@ -58,7 +61,7 @@ module _ (head w L : ℕ) (s t : List ℕ) where
       let b = not-false (includes l r || includes r l) (refuseIf-passed (not (includes l r || includes r l)) _ (a .0)) in
       cases (includes l r)
       (λ p. first (rw p at (a .1)) (includes-each l r p))
-      (λ p. second (rw p at (a .1)) (includes-each r l (rw p at b)) (λ h. false≢true (sym p ∙ each-includes l r h)))
+      (λ p. second (rw p at (a .1)) (includes-each r l (rw p at b)) (not-includes head w s t p))
     where
       first : Table 1 (usedOf head w s) ≡ Table k u → Includes head w s t → Taken k u
       first q h = let a : k ≡ 1 = cc in let b : u ≡ usedOf head w s = cc in the-first a b h
@@ -108,16 +111,13 @@ module _ (head w L : ℕ) (s t : List ℕ) where
     λ p. let a = choice-accepted (p .0) (p .1) (p .2) in (a .first, a .second, a .same, either (a .chosen)),
     λ p. cases (includes (innersOf head w s) (innersOf head w t))
         (λ e. (1, usedOf head w s, first-taken (p .0) (p .1) (p .2) (includes-each (innersOf head w s) (innersOf head w t) e)))
-        (λ e. (2, usedOf head w t, second-taken (p .0) (p .1) (p .2) (other e (p .3)) (none e))),
+        (λ e. (2, usedOf head w t, second-taken (p .0) (p .1) (p .2) (other e (p .3)) (not-includes head w s t e))),
   )
     where
       either : {k u : ℕ} → Taken k u → Includes head w s t ⊎ Includes head w t s
       either (the-first a b h) = inl h
       either (the-second a b h n) = inr h
 
-      none : includes (innersOf head w s) (innersOf head w t) ≡ false → Includes head w s t → ⊥
-      none e h = false≢true (sym e ∙ each-includes (innersOf head w s) (innersOf head w t) h)
-
       other : includes (innersOf head w s) (innersOf head w t) ≡ false → Includes head w s t ⊎ Includes head w t s → Includes head w t s
-      other e (inl h) = absurd (none e h)
+      other e (inl h) = absurd (not-includes head w s t e h)
       other e (inr h) = h

@@ -5,4 +5,5 @@ pub mod Read
 pub mod Chain
 -- What the promises are worth.
 pub mod Accepted
+pub mod Refused
 pub mod Parts
