@@ -1,5 +1,4 @@
 -- `batch::check_tables` meets its contract: each turn looks at the next table, with the rows and the room that are left. Assumes nothing.
-use mathlib.Core.List.{List}
 use mathlib.Core.Path.{ap, sym, _∙_, _≡_}
 use Prim.Native.Nat.{ℕ, _+_, _-_, _≤_}
 use native.Mathlib.Omega.{arith}
@@ -32,16 +31,9 @@ looked c = c .before .before
 abbrev turn : tie.After-check-from Inv-loop μ-loop → tie.In-loop Inv-loop μ-loop
 turn c = c .before .before .before
 
--- the far sides and the costs from the running place on
-abbrev sides : tie.In-loop Inv-loop μ-loop → List ℕ
-sides c = drop (c .before .loop .rows) (begun c .args .fars .now)
-
-abbrev doubled : tie.In-loop Inv-loop μ-loop → List ℕ
-doubled c = drop (c .before .loop .rows) (begun c .args .costs .now)
-
 -- the table passed
 passed : (c : tie.After-enum-told Inv-loop μ-loop)
-    → Next 0 21 limit (looked c .before .before .number-at .result) (looked c .before .number-at2 .result) (sides (turn (looked c))) (doubled (turn (looked c))) (begun (turn (looked c)) .args .room - turn (looked c) .before .loop .used)
+    → Next 0 21 limit (looked c .before .before .number-at .result) (looked c .before .number-at2 .result) (drop (turn (looked c) .before .loop .rows) (begun (turn (looked c)) .args .fars .now)) (drop (turn (looked c) .before .loop .rows) (begun (turn (looked c)) .args .costs .now)) (begun (turn (looked c)) .args .room - turn (looked c) .before .loop .used)
 passed c = next-passed 0 21 limit _ _ _ _ _ (sym (looked c .check-from .ensures) ∙ c .enum-told .given .1)
 
 loop-holds : tie.Need-loop-holds Inv-loop μ-loop

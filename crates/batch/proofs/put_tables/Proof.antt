@@ -1,17 +1,16 @@
 -- `batch::put_tables` meets its contract: each turn writes the next table into the rest of the lent bytes. Assumes nothing.
-use mathlib.Core.List.{List, _++_}
-use mathlib.Core.Path.{ap, refl, subst, sym, _∙_, _≡_}
+use mathlib.Core.Path.{refl, sym, _≡_}
 use Prim.Native.Nat.{ℕ, _+_, _-_, _≤_}
 use native.Mathlib.Omega.{arith}
-use lib.ListN.{drop, length, length-drop, take}
-use Rattle.ground.specs.Buffers.{front, rest-part, rest-put}
+use lib.ListN.{drop, length, length-drop}
+use Rattle.ground.specs.Buffers.{front, rest-part}
 use Rattle.theory.specs.Tables.{limit}
-use Rattle.stored_links.specs.Form.{linkBytes, linkUsed}
+use Rattle.stored_links.specs.Form.{linkUsed}
 use Rattle.batch.specs.Batch.{batchBytes}
 use Rattle.batch.specs.Fitting.{Fits, Next}
-use Rattle.batch.specs.Laws.Joined.{joined-end, joined-start, rest-more}
-use Rattle.batch.specs.Laws.Next.{length-next, next-length}
-use Rattle.batch.specs.Laws.Steps.{bytes-step, fits-start, fits-step}
+use Rattle.batch.specs.Laws.Joined.{joined-end, joined-more, joined-start, joinedAt}
+use Rattle.batch.specs.Laws.Next.{next-length}
+use Rattle.batch.specs.Laws.Steps.{fits-start, fits-step}
 use Rattle.batch.specs.Tables.{tables}
 use borrow.Author.Needs.{needs}
 use Rattle.batch.proofs.put_tables.Statement.{statement}
@@ -21,7 +20,7 @@ abbrev Inv-loop : tie.InvT-loop
 Inv-loop ns counts fars costs out₀ used₀ rows₀ i₀ out used rows i =
     (i ≤ length ns) × (length out ≡ length out₀) × (used ≤ length out₀) × (rows ≤ length fars)
     × Fits 0 21 limit (drop i (tables ns counts)) (drop rows fars) (drop rows costs) (length out₀ - used)
-    × (front (batchBytes 0 0 21 (tables ns counts) fars costs) out₀ ≡ take used out ++ front (batchBytes 0 0 21 (drop i (tables ns counts)) (drop rows fars) (drop rows costs)) (drop used out))
+    × (front (batchBytes 0 0 21 (tables ns counts) fars costs) out₀ ≡ joinedAt 0 0 21 ns counts fars costs out used rows i)
 
 abbrev μ-loop : tie.MeasureT-loop
 μ-loop ns counts fars costs out₀ used₀ rows₀ i₀ out used rows i = length ns - i
@@ -38,16 +37,9 @@ images c = c .before .number-at .result
 abbrev count : tie.After-number-at2 Inv-loop μ-loop → ℕ
 count c = c .number-at2 .result
 
--- the far sides and the costs from the running place on
-abbrev sides : tie.After-number-at2 Inv-loop μ-loop → List ℕ
-sides c = drop (turn c .before .loop .rows) (begun c .args .fars .now)
-
-abbrev doubled : tie.After-number-at2 Inv-loop μ-loop → List ℕ
-doubled c = drop (turn c .before .loop .rows) (begun c .args .costs .now)
-
 -- the table of this turn, and the tables after it
 next : (c : tie.After-number-at2 Inv-loop μ-loop)
-    → Next 0 21 limit (images c) (count c) (sides c) (doubled c) (length (begun c .args .out .now) - turn c .before .loop .used)
+    → Next 0 21 limit (images c) (count c) (drop (turn c .before .loop .rows) (begun c .args .fars .now)) (drop (turn c .before .loop .rows) (begun c .args .costs .now)) (length (begun c .args .out .now) - turn c .before .loop .used)
     × Fits 0 21 limit (drop (turn c .before .loop .table + 1) (tables (begun c .args .ns .now) (begun c .args .counts .now))) (drop (turn c .before .loop .rows + count c) (begun c .args .fars .now)) (drop (turn c .before .loop .rows + count c) (begun c .args .costs .now)) (length (begun c .args .out .now) - (turn c .before .loop .used + linkUsed 0 21 (images c) (count c)))
 next c =
     let a = begun c .args in
@@ -71,7 +63,7 @@ loop-holds c =
       search needs,
       search needs,
       fits-start 0 21 limit (a .ns .now) (a .counts .now) (a .fars .now) (a .costs .now) (length (a .out .now)) (s .pre .1),
-      joined-start (batchBytes 0 0 21 (tables (a .ns .now) (a .counts .now)) (a .fars .now) (a .costs .now)) (a .out .now),
+      joined-start 0 0 21 (a .ns .now) (a .counts .now) (a .fars .now) (a .costs .now) (a .out .now),
     )
 
 number-at-requires : tie.Need-number-at-requires Inv-loop μ-loop
@@ -114,28 +106,15 @@ loop-again : tie.Need-loop-again Inv-loop μ-loop
 loop-again c =
     let k = c .before .before in
     let t = k .before .before in
-    let s = begun t in
-    let a = s .args in
+    let a = begun t .args in
     let l = turn t .before .loop in
-    let w = k .put-next .ensures in
-    let last = k .put-next .last .1 .1 .1 .1 .1 .0 in
-    let m = linkBytes 0 0 21 (images t) (take (count t) (sides t)) (take (count t) (doubled t)) in
-    let r = batchBytes 0 0 21 (drop (l .table + 1) (tables (a .ns .now) (a .counts .now))) (drop (l .rows + count t) (a .fars .now)) (drop (l .rows + count t) (a .costs .now)) in
-    let f = front (batchBytes 0 0 21 (tables (a .ns .now) (a .counts .now)) (a .fars .now) (a .costs .now)) (a .out .now) in
-    let e = take (l .used) (l .out) ++ (last ++ drop (length (l .out) - l .used) (drop (l .used) (l .out))) in
-    let q : e ≡ take (l .used) (l .out) ++ front m (drop (l .used) (l .out)) =
-    rest-put (l .out) last (l .used) ∙ ap (λ (x : List ℕ). take (l .used) (l .out) ++ x) (w .1 ∙ ap (front m) (rest-part (l .out) (l .used))) in
-    let p : f ≡ take (l .used) (l .out) ++ front (m ++ r) (drop (l .used) (l .out)) =
-    l .inv .5 ∙ ap (λ (x : List ℕ). take (l .used) (l .out) ++ front x (drop (l .used) (l .out)))
-    (bytes-step 0 21 limit (a .ns .now) (a .counts .now) (a .fars .now) (a .costs .now) (length (a .out .now)) (l .used) (l .rows) (l .table) (images t) (count t) (s .pre .0) (turn t .loop-test .taken) (sym (t .before .number-at .ensures)) (sym (t .number-at2 .ensures)) 0) in
-    let z : length m ≡ k .put-next .result = length-next 0 21 limit _ _ _ _ _ 0 (next t .0) ∙ sym (w .0) in (
+    let w = k .put-next .ensures in (
       search needs,
       search needs,
       omega (arith, w .0, within t),
       rows-there t,
       rw (w .0) (next t .1),
-      subst (λ (x : ℕ). f ≡ take (l .used + x) e ++ front r (drop (l .used + x) e)) z
-          (rest-more f (l .out) e m r (l .used) (omega (arith, l .inv .1, l .inv .2)) p q),
+      joined-more 0 0 21 limit (a .ns .now) (a .counts .now) (a .fars .now) (a .costs .now) (length (a .out .now)) (l .used) (l .rows) (l .table) (images t) (count t) (begun t .pre .0) (turn t .loop-test .taken) (sym (t .before .number-at .ensures)) (sym (t .number-at2 .ensures)) (next t .0) _ (l .out) _ _ (omega (arith, l .inv .1, l .inv .2)) (w .0) (w .1) (l .inv .5),
     )
 
 same-length : tie.Need-same-length Inv-loop μ-loop
