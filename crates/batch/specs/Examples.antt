@@ -1,12 +1,11 @@
 -- Small batches, computed. Assumes nothing.
-use mathlib.Core.List.{List, [], _++_, _∷_}
+use mathlib.Core.List.{[], _++_, _∷_}
 use mathlib.Core.Path.{refl, _≡_}
-use Prim.Native.Nat.{ℕ}
 use lib.Count.{ones, onesIn}
 use Rattle.ground.specs.First.{first}
 use Rattle.ground.specs.Refusals.{refusal}
 use Rattle.theory.specs.Tables.{limit}
-use Rattle.bits.specs.Bits.{bits, bitsOf, part, valueOf}
+use Rattle.bits.specs.Bits.{bitsOf, part, valueOf}
 use Rattle.bits.specs.Forms.{bytesOf, filled, formBits, formBytes, packed}
 use Rattle.links.specs.BadRows.{badRow, missing}
 use Rattle.stored_links.specs.Examples.{costsA, farsA, storedA}

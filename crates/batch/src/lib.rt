@@ -2,13 +2,15 @@
 use ground::Check;
 use ground::Refusal;
 ghost use mathlib.Core.Path.{_≡_};
-ghost use lib.ListN.{length};
+ghost use Prim.Native.Nat.{_≤_, _<_};
+ghost use lib.ListN.{drop, getD, length, take};
 ghost use Rattle.ground.specs.Buffers.{front};
 ghost use Rattle.ground.specs.Outcomes.{Left};
 ghost use Rattle.theory.specs.Tables.{limit};
+ghost use Rattle.stored_links.specs.Form.{linkBytes, linkUsed};
 ghost use Rattle.batch.specs.Tables.{leftOverChecks, nextChecks, runOutChecks, tables};
 ghost use Rattle.batch.specs.Batch.{batchAnswer, batchBytes, batchFrom, batchOutcome, numbered};
-ghost use Rattle.batch.specs.Fitting.{Fits};
+ghost use Rattle.batch.specs.Fitting.{Fits, Next};
 ghost use Rattle.batch.specs.declared.Batched.the-variants.{Bytes};
 
 // What the batch answers: the bytes used, or the first refusal with the table's number beside it.
@@ -54,14 +56,38 @@ fn check_next(n: usize, count: usize, fars: &[u64], costs: &[u32], room: usize) 
     link_writer::check_links(n, &fars[..count], &costs[..count], room)
 }
 
-// The answer once all i tables passed: nothing may be left over.
-fn check_end(i: usize, used: usize, fars: &[u64], costs: &[u32]) -> Batched
-    ensures { λ r. ⌜ r ≡ numbered i (leftOverChecks (now (fars .entry)) (now (costs .entry))) (Bytes used) ⌝ }
+// The same of the table whose rows begin at place `rows` of the joined slices.
+fn check_from(
+    n: usize,
+    count: usize,
+    rows: usize,
+    fars: &[u64],
+    costs: &[u32],
+    room: usize,
+) -> Check
+    requires { ⌜ (rows ≤ length (now fars)) × (rows ≤ length (now costs)) ⌝ }
+    ensures { λ r. ⌜ r ≡ nextChecks 0 21 limit n count (drop rows (now (fars .entry))) (drop rows (now (costs .entry))) room ⌝ }
 {
-    match check_left_over(fars, costs) {
+    check_next(n, count, &fars[rows..], &costs[rows..], room)
+}
+
+// The answer once all i tables passed: nothing may be left over from place `rows` on.
+fn check_end(i: usize, used: usize, rows: usize, fars: &[u64], costs: &[u32]) -> Batched
+    requires { ⌜ (rows ≤ length (now fars)) × (rows ≤ length (now costs)) ⌝ }
+    ensures { λ r. ⌜ r ≡ numbered i (leftOverChecks (drop rows (now (fars .entry))) (drop rows (now (costs .entry)))) (Bytes used) ⌝ }
+{
+    match check_left_over(&fars[rows..], &costs[rows..]) {
         Check::Refused(r) => Batched::Refused(i, r),
         Check::Passed => Batched::Bytes(used),
     }
+}
+
+// The number at place i of a list of n or of row counts.
+fn number_at(list: &[u32], i: usize) -> usize
+    requires { ⌜ i < length (now list) ⌝ }
+    ensures { λ r. ⌜ r ≡ getD (now (list .entry)) i 0 ⌝ }
+{
+    list[i] as usize
 }
 
 // The answer for two lists of one length: table by table, with the rows and the room that the tables before left.
@@ -73,9 +99,9 @@ fn check_tables(ns: &[u32], counts: &[u32], fars: &[u64], costs: &[u32], room: u
     let mut rows = 0;
     let mut i = 0;
     while i < ns.len() {
-        let n = ns[i] as usize;
-        let count = counts[i] as usize;
-        match check_next(n, count, &fars[rows..], &costs[rows..], room - used) {
+        let n = number_at(ns, i);
+        let count = number_at(counts, i);
+        match check_from(n, count, rows, fars, costs, room - used) {
             Check::Refused(r) => return Batched::Refused(i + 1, r),
             Check::Passed => {}
         }
@@ -83,7 +109,7 @@ fn check_tables(ns: &[u32], counts: &[u32], fars: &[u64], costs: &[u32], room: u
         rows += count;
         i += 1;
     }
-    check_end(i, used, &fars[rows..], &costs[rows..])
+    check_end(i, used, rows, fars, costs)
 }
 
 // The answer, and nothing written: 2 with table number 0 where the two lists differ in length.
@@ -96,6 +122,23 @@ fn check_batch(ns: &[u32], counts: &[u32], fars: &[u64], costs: &[u32], room: us
     }
 }
 
+// The stored form of the table whose rows begin at place `rows`, at the front of the bytes; the answer is the bytes used. The writer gets the
+// part of the joined slices that belongs to the table.
+fn put_next(
+    n: usize,
+    count: usize,
+    rows: usize,
+    fars: &[u64],
+    costs: &[u32],
+    out: &mut [u8],
+) -> usize
+    requires { ⌜ Next 0 21 limit n count (drop rows (now fars)) (drop rows (now costs)) (length (now out)) ⌝ }
+    ensures { λ r. ⌜ (r ≡ linkUsed 0 21 n count) × (now (out .exit) ≡ front (linkBytes 0 0 21 n (take count (drop rows (now (fars .entry)))) (take count (drop rows (now (costs .entry))))) (now (out .entry))) ⌝ }
+{
+    let end = rows + count;
+    link_writer::put_links(n, &fars[rows..end], &costs[rows..end], out)
+}
+
 // The tables' stored forms, joined, at the front of the lent bytes: each is written into the rest that the tables before left.
 fn put_tables(ns: &[u32], counts: &[u32], fars: &[u64], costs: &[u32], out: &mut [u8])
     requires { ⌜ (length (now ns) ≡ length (now counts)) × Fits 0 21 limit (tables (now ns) (now counts)) (now fars) (now costs) (length (now out)) ⌝ }
@@ -103,13 +146,13 @@ fn put_tables(ns: &[u32], counts: &[u32], fars: &[u64], costs: &[u32], out: &mut
 {
     let mut used = 0;
     let mut rows = 0;
-    let mut i = 0;
-    while i < ns.len() {
-        let n = ns[i] as usize;
-        let end = rows + counts[i] as usize;
-        used += link_writer::put_links(n, &fars[rows..end], &costs[rows..end], &mut out[used..]);
-        rows = end;
-        i += 1;
+    let mut table = 0;
+    while table < ns.len() {
+        let n = number_at(ns, table);
+        let count = number_at(counts, table);
+        used += put_next(n, count, rows, fars, costs, &mut out[used..]);
+        rows += count;
+        table += 1;
     }
 }
 

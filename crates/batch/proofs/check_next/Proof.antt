@@ -1,12 +1,10 @@
 -- `batch::check_next` meets its contract: the rows are looked at once they are there. Assumes nothing.
-use mathlib.Core.Path.{sym, _∙_, _≡_}
-use Prim.Native.Nat.{_≤_}
+use mathlib.Core.Path.{sym, _∙_}
 use native.Mathlib.Omega.{arith}
-use lib.ListN.{length, take}
-use lib.Seq.{length-take-le}
+use lib.ListN.{take}
 use Rattle.ground.specs.Refusals.{then-goes, then-stops}
 use Rattle.links.specs.LinkChecks.{Sized}
-use Rattle.batch.specs.Laws.Next.{next-sized, run-out-passed}
+use Rattle.batch.specs.Laws.Next.{next-sized}
 use borrow.Author.Needs.{needs}
 use Rattle.batch.proofs.check_next.Statement.{statement}
 use Rattle.batch.proofs.check_next.Tie as tie

@@ -1,16 +1,16 @@
 -- A batch is accepted exactly when every table passes and nothing is left over; refused, nothing is altered; and no second answer meets the promise.
 -- Assumes nothing.
 use mathlib.Core.Bool.{not}
-use mathlib.Core.List.{List, [], _++_, _∷_}
+use mathlib.Core.List.{List, [], _∷_}
 use mathlib.Core.Logic.{_↔_}
-use mathlib.Core.Path.{ap, refl, sym, _∙_, _≡_}
+use mathlib.Core.Path.{ap, refl, _∙_, _≡_}
 use Prim.Native.Nat.{ℕ, _+_, _-_}
 use native.Mathlib.Omega.{arith}
 use lib.Dec.{eqb}
 use lib.ListN.{drop, length, length-append, take}
 use borrow.Author.Tests.{eq-eqb, eqb-true, not-false}
 use Rattle.ground.specs.Buffers.{front}
-use Rattle.ground.specs.Outcomes.{Left, Outcome, left-once}
+use Rattle.ground.specs.Outcomes.{Left, left-once}
 use Rattle.ground.specs.Refusals.{refusal, refuseIf, refuseIf-passed}
 use Rattle.ground.specs.declared.Check.{Check}
 use Rattle.ground.specs.declared.Check.the-variants.{Passed, Refused}
