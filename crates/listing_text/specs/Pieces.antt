@@ -7,7 +7,7 @@ use native.Mathlib.Omega.{arith}
 use lib.ListN.{drop, drop-of-length-le, getD, length}
 use lib.Seq.{drop-cons}
 use Rattle.listing_text.specs.Lines.{field, fields, rowLine, rowLines}
-use Rattle.listing_text.specs.Putting.{Put, Rest, rest-end}
+use Rattle.listing_text.specs.Putting.{Rest}
 
 -- the next byte of a word, and those behind it
 pub word-turn : (w : List ℕ) (i : ℕ) → i < length w → drop i w ≡ (getD w i 0 ∷ []) ++ drop (i + 1) w
@@ -27,6 +27,14 @@ rows-turn l v u i h a b = rw (add-one i, drop-cons l i 0 h, drop-cons v i 0 (ome
 -- nothing is left behind the last
 pub drop-none : (l : List ℕ) (i : ℕ) → length l ≤ i → drop i l ≡ []
 drop-none l i h = drop-of-length-le l {i = i} h
+
+pub fields-end : (l : List ℕ) (i : ℕ) → length l ≤ i → fields (drop i l) ≡ []
+unfolding fields
+fields-end l i h = rw (drop-none l i h) refl
+
+pub rows-end : (l v u : List ℕ) (i : ℕ) → length l ≤ i → rowLines (drop i l) (drop i v) (drop i u) ≡ []
+unfolding rowLines
+rows-end l v u i h = rw (drop-none l i h) refl
 
 -- what is left to write, said otherwise
 pub rest-same : {m m′ : List ℕ} {p : ℕ} {o text : List ℕ} {p₀ : ℕ} {o₀ : List ℕ} → m ≡ m′ → Rest m p o text p₀ o₀ → Rest m′ p o text p₀ o₀

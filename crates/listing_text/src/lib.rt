@@ -60,6 +60,13 @@ fn put_field(out: &mut [u8], at: usize, x: u64) -> usize
     put_number(out, p, x)
 }
 
+// The same number in 64 bits.
+fn wide(x: u32) -> u64
+    ensures { λ r. ⌜ r ≡ x ⌝ }
+{
+    x as u64
+}
+
 // Each number behind one blank.
 fn put_fields(out: &mut [u8], at: usize, l: &[u32]) -> usize
     requires { ⌜ Fits (fields (now l)) at (now out) ⌝ }
@@ -68,7 +75,7 @@ fn put_fields(out: &mut [u8], at: usize, l: &[u32]) -> usize
     let mut place = at;
     let mut i = 0;
     while i < l.len() {
-        place = put_field(out, place, l[i] as u64);
+        place = put_field(out, place, wide(l[i]));
         i += 1;
     }
     place
