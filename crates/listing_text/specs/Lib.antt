@@ -6,7 +6,8 @@ pub mod Listing
 pub mod Numbers
 pub mod Putting
 pub mod Pieces
--- pub mod Lengths 
--- pub mod Accepted 
+pub mod Lengths
+pub mod Accepted
+pub mod Stored
 -- pub mod Promises 
 -- pub mod Examples 
