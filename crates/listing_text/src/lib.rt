@@ -158,3 +158,15 @@ fn put_reading(
     let q = put_rows(out, p, fars, costs, above);
     put_order(out, q, around)
 }
+
+// The listing of a link table and of the cost table that it reads, with its upper rows and the order from 1 with last n.
+fn write_links(out: &mut [u8], n: usize, t: &[u32], fars: &[u64], costs: &[u32]) -> usize
+    requires { ⌜ CostTable limit n (now t) × Links limit n (length (now fars)) (now fars) (now costs) × (room ≤ length (now out)) ⌝ }
+    ensures { λ r. ⌜ Put (readingText n (now (fars .entry)) (now (costs .entry)) (uppers (now (fars .entry))) (images n (now (t .entry)) 1 n)) 0 (now (out .entry)) r (now (out .exit)) ⌝ }
+{
+    let mut above = [0u32; 128];
+    routes::upper_rows(n, fars.len(), fars, costs, &mut above);
+    let mut around = [0u32; 64];
+    order::order(n, t, 1, n, &mut around);
+    put_reading(out, n, fars, costs, &above[..fars.len()], &around[..n])
+}
