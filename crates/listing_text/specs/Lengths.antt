@@ -8,6 +8,7 @@ use Rattle.ground.specs.declared.Refusal.{Refusal}
 use Rattle.listing_text.specs.Decimal.{decimal}
 use Rattle.listing_text.specs.Lines.{field, fields, header, imagesWord, orderLine, orderWord, refusedLine, refusedWord, rowLine, rowLines, rowsWord}
 use Rattle.listing_text.specs.Listing.{readingText, room}
+use Rattle.listing_text.specs.Putting.{Fits}
 use Rattle.listing_text.specs.Numbers.{decimal-most}
 
 field-most : (x : ℕ) → length (field x) ≤ 21
@@ -43,6 +44,9 @@ pub refused-most : (q : Refusal) → length (refusedLine q) ≤ room
 unfolding refusedLine refusedWord
 refused-most q =
     simp length-append (omega (arith, field-most (q .number), field-most (q .a), field-most (q .b), field-most (q .c), field-most (q .d)))
+
+pub refused-fits : (q : Refusal) (o : List ℕ) → room ≤ length o → Fits (refusedLine q) 0 o
+refused-fits q o h = omega (arith, refused-most q)
 
 -- a reading of at most 64 images, with at most 125 rows
 pub reading-most : (n : ℕ) (l v u o : List ℕ) → length l ≤ 125 → length o ≤ 64 → length (readingText n l v u o) ≤ room

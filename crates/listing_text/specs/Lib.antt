@@ -9,5 +9,5 @@ pub mod Pieces
 pub mod Lengths
 pub mod Accepted
 pub mod Stored
--- pub mod Promises 
--- pub mod Examples 
+pub mod Promises
+pub mod Examples

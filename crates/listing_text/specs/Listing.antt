@@ -1,7 +1,9 @@
 -- The listing of the stored cost table at the start of the bytes s, whatever follows it. Assumes nothing.
 use mathlib.Core.List.{List, _++_}
+use mathlib.Core.Path.{_≡_}
 use Prim.Native.Nat.{ℕ}
-use lib.ListN.{length}
+use lib.ListN.{length, replicate}
+use Rattle.ground.specs.Buffers.{front}
 use Rattle.ground.specs.Refusals.{_then_}
 use Rattle.ground.specs.declared.Check.{Check}
 use Rattle.ground.specs.declared.Check.the-variants.{Passed, Refused}
@@ -47,3 +49,8 @@ storedChecks s =
 -- the listing: what the stored table's checks refuse, or that of the table that the bytes say
 unfoldable pub listingText : List ℕ → List ℕ
 listingText s = textIf (storedChecks s) (tableText (imagesOf 0 s) (costsOf 0 20 (imagesOf 0 s) s))
+
+-- what the call answers: the listing's length, and the listing in front of an array that is otherwise 0
+pub record Listed (s : List ℕ) (size : ℕ) (text : List ℕ) : Type 0 where
+  pub sized : size ≡ length (listingText s)
+  pub listed : text ≡ front (listingText s) (replicate room 0)

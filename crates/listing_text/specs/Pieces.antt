@@ -7,7 +7,7 @@ use native.Mathlib.Omega.{arith}
 use lib.ListN.{drop, drop-of-length-le, getD, length}
 use lib.Seq.{drop-cons}
 use Rattle.listing_text.specs.Lines.{field, fields, rowLine, rowLines}
-use Rattle.listing_text.specs.Putting.{Rest}
+use Rattle.listing_text.specs.Putting.{Put, Rest}
 
 -- the next byte of a word, and those behind it
 pub word-turn : (w : List ℕ) (i : ℕ) → i < length w → drop i w ≡ (getD w i 0 ∷ []) ++ drop (i + 1) w
@@ -39,3 +39,7 @@ rows-end l v u i h = rw (drop-none l i h) refl
 -- what is left to write, said otherwise
 pub rest-same : {m m′ : List ℕ} {p : ℕ} {o text : List ℕ} {p₀ : ℕ} {o₀ : List ℕ} → m ≡ m′ → Rest m p o text p₀ o₀ → Rest m′ p o text p₀ o₀
 rest-same {p = p} {o} {text} {p₀} {o₀} e r = subst (λ (x : List ℕ). Rest x p o text p₀ o₀) e r
+
+-- and what was written
+pub put-same : {m m′ : List ℕ} {p : ℕ} {o : List ℕ} {p′ : ℕ} {o′ : List ℕ} → m ≡ m′ → Put m p o p′ o′ → Put m′ p o p′ o′
+put-same {p = p} {o} {p′} {o′} e t = subst (λ (x : List ℕ). Put x p o p′ o′) e t

@@ -13,7 +13,7 @@ ghost use Rattle.links.specs.LinkChecks.{Links};
 ghost use Rattle.order.specs.Outcome.{images};
 ghost use Rattle.listing_text.specs.Decimal.{decimal};
 ghost use Rattle.listing_text.specs.Lines.{field, fields, header, orderLine, refusedLine, rowLine, rowLines};
-ghost use Rattle.listing_text.specs.Listing.{listingText, readingText, room, tableText};
+ghost use Rattle.listing_text.specs.Listing.{Listed, listingText, readingText, room, tableText};
 ghost use Rattle.listing_text.specs.Putting.{Fits, Put};
 
 // One byte.
@@ -169,4 +169,47 @@ fn write_links(out: &mut [u8], n: usize, t: &[u32], fars: &[u64], costs: &[u32])
     let mut around = [0u32; 64];
     order::order(n, t, 1, n, &mut around);
     put_reading(out, n, fars, costs, &above[..fars.len()], &around[..n])
+}
+
+// The listing of a cost table: its exact reading, or refusal 7.
+fn write_table(out: &mut [u8], n: usize, t: &[u32]) -> usize
+    requires { ⌜ CostTable limit n (now t) × (room ≤ length (now out)) ⌝ }
+    ensures { λ r. ⌜ Put (tableText n (now (t .entry))) 0 (now (out .entry)) r (now (out .exit)) ⌝ }
+{
+    let mut fars = [0u64; 128];
+    let mut costs = [0u32; 128];
+    match tree::exact(n, t, &mut fars, &mut costs) {
+        Written::Refused(q) => put_refusal(out, 0, q),
+        Written::Places(count) => write_links(out, n, t, &fars[..count], &costs[..count]),
+    }
+}
+
+// The listing of the stored cost table at the start of the bytes.
+fn write_stored(out: &mut [u8], bytes: &[u8]) -> usize
+    requires { ⌜ room ≤ length (now out) ⌝ }
+    ensures { λ r. ⌜ Put (listingText (now (bytes .entry))) 0 (now (out .entry)) r (now (out .exit)) ⌝ }
+{
+    let mut t = [0u32; 4096];
+    match stored_costs::read_costs(bytes, 0, &mut t) {
+        StoredCosts::Refused(q) => put_refusal(out, 0, q),
+        StoredCosts::Table { n, used: _ } => write_table(out, n, &t[..n * n]),
+    }
+}
+
+// A text: how long it is, and its bytes in front of an array with room for every listing.
+pub struct Text {
+    pub length: usize,
+    pub bytes: [u8; 10240],
+}
+
+// The listing of the stored cost table at the start of the bytes, whatever follows it: the exact reading, or one line with the refusal.
+pub fn listing(bytes: &[u8]) -> Text
+    ensures { λ r. ⌜ Listed (now (bytes .entry)) (r .length) (r .bytes) ⌝ }
+{
+    let mut text = [0u8; 10240];
+    let length = write_stored(&mut text, bytes);
+    Text {
+        length,
+        bytes: text,
+    }
 }
