@@ -1,22 +1,21 @@
 -- What the promise of a listing says: which tables are listed, what a refusal prints, and that there is no other text. Assumes nothing.
-use mathlib.Core.List.{List, [], _++_}
+use mathlib.Core.List.{List}
 use mathlib.Core.Path.{ap, refl, sym, _∙_, _≡_}
 use Prim.Native.Nat.{ℕ, _≤_}
 use native.Mathlib.Omega.{arith}
-use lib.ListN.{length, take}
+use lib.ListN.{drop, length, length-append, replicate, take}
 use lib.Seq.{take-at}
 use Rattle.ground.specs.Refusals.{_then_}
 use Rattle.ground.specs.declared.Check.{Check}
 use Rattle.ground.specs.declared.Check.the-variants.{Passed, Refused}
 use Rattle.ground.specs.declared.Refusal.{Refusal}
-use Rattle.theory.specs.LinkTables.{Row}
 use Rattle.theory.specs.Readings.{measured}
 use Rattle.theory.specs.Tables.{cost, limit}
 use Rattle.wiring.specs.Check.{wiringCheck}
 use Rattle.order.specs.Outcome.{images}
 use Rattle.stored_costs.specs.Form.{costsOf, imagesOf}
 use Rattle.listing_text.specs.Lines.{refusedLine}
-use Rattle.listing_text.specs.Listing.{Listed, linksText, listingText, storedChecks, textIf}
+use Rattle.listing_text.specs.Listing.{Listed, linksText, listingText, room, storedChecks, textIf}
 
 -- the checks of a listing in their order: 9, 1, 9, 11, 4, 7
 abbrev pub listingChecks : List ℕ → Check
@@ -47,6 +46,10 @@ module _ (s : List ℕ) where
   -- what is printed is the listing
   pub listed-front : {size : ℕ} {text : List ℕ} → Listed s size text → take size text ≡ listingText s
   listed-front {size} p = ap (λ (t : List ℕ). take size t) (p .listed) ∙ take-at (listingText s) _ size (sym (p .sized))
+
+  -- it lies within the array
+  pub listed-within : {size : ℕ} {text : List ℕ} → Listed s size text → size ≤ length text
+  listed-within p = omega (arith, p .sized, ap length (p .listed), length-append (listingText s) (drop (length (listingText s)) (replicate room 0)))
 
   -- no second answer meets the promise
   pub listed-only : {a b : ℕ} {t u : List ℕ} → Listed s a t → Listed s b u → (a ≡ b) × (t ≡ u)
