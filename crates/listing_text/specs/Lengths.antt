@@ -20,22 +20,22 @@ unfolding fields
 fields-most [] = omega arith
 fields-most (x ∷ l) = simp length-append (omega (arith, field-most x, fields-most l))
 
-header-most : (n r : ℕ) → length (header n r) ≤ 54
+header-most : (n r : ℕ) → length (header n r) ≤ 60
 unfolding header imagesWord rowsWord
 header-most n r = simp length-append (omega (arith, field-most n, field-most r))
 
-row-most : (s c u : ℕ) → length (rowLine s c u) ≤ 63
+row-most : (s c u : ℕ) → length (rowLine s c u) ≤ 64
 unfolding rowLine
 row-most s c u = simp length-append (omega (arith, decimal-most s, field-most c, field-most u))
 
-rows-most : (l v u : List ℕ) → length (rowLines l v u) ≤ 63 * length l
+rows-most : (l v u : List ℕ) → length (rowLines l v u) ≤ 64 * length l
 unfolding rowLines
 rows-most [] v u = omega arith
 rows-most (s ∷ l) [] u = omega arith
 rows-most (s ∷ l) (c ∷ v) [] = omega arith
 rows-most (s ∷ l) (c ∷ v) (a ∷ u) = simp length-append (omega (arith, row-most s c a, rows-most l v u))
 
-order-most : (o : List ℕ) → length (orderLine o) ≤ 6 + 21 * length o
+order-most : (o : List ℕ) → length (orderLine o) ≤ 8 + 21 * length o
 unfolding orderLine orderWord
 order-most o = simp length-append (omega (arith, fields-most o))
 
