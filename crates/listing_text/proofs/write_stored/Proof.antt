@@ -1,0 +1,86 @@
+-- `listing_text::write_stored` meets its contract: the reader leaves a cost table, or its refusal. Assumes nothing.
+use mathlib.Core.Path.{ap, sym, _∙_, _≡_}
+use Prim.Native.Nat.{ℕ, _*_}
+use native.Mathlib.Omega.{arith}
+use lib.ListN.{length, length-replicate, replicate}
+use lib.Seq.{length-take-le}
+use borrow.Author.Needs.{needs}
+use Rattle.stored_costs.specs.Laws.Sizes.{square-le}
+use Rattle.listing_text.specs.Lengths.{refused-fits}
+use Rattle.listing_text.specs.Lines.{refusedLine}
+use Rattle.listing_text.specs.Listing.{listingText}
+use Rattle.listing_text.specs.Pieces.{put-same}
+use Rattle.listing_text.specs.Stored.{StoredTable, stored-refused, stored-table}
+use Rattle.listing_text.proofs.write_stored.Statement.{statement}
+use Rattle.listing_text.proofs.write_stored.Tie as tie
+
+slice-aggregate-read-costs : tie.Need-slice-aggregate-read-costs
+slice-aggregate-read-costs c = search needs
+
+read-costs-requires : tie.Need-read-costs-requires
+read-costs-requires c κs = search needs
+
+-- refused with 9, 1, 11 or 4
+refused-is : (c : tie.After-q) → listingText (c .before .before .before .before .before .before .before .args .bytes .now) ≡ refusedLine (c .q .given .0 .0)
+refused-is c =
+    let s = c .before .before .before .before .before .before .before in
+    let e = c .before .before .before .read-costs in
+    stored-refused (s .args .bytes .now) (replicate 4096 0) (e .last .1 .1 .0) (omega (arith, length-replicate {A = ℕ} 4096 0)) _ (rw (c .q .given .1) at (e .ensures))
+
+-- read
+table-is : (c : tie.After-n) → StoredTable (c .before .before .before .before .before .before .before .args .bytes .now) (replicate 4096 0) (c .before .before .before .read-costs .last .1 .1 .0) (omega (arith, length-replicate {A = ℕ} 4096 0)) (c .n .given .0 .0)
+table-is c =
+    let s = c .before .before .before .before .before .before .before in
+    let e = c .before .before .before .read-costs in
+    stored-table (s .args .bytes .now) (replicate 4096 0) (e .last .1 .1 .0) (omega (arith, length-replicate {A = ℕ} 4096 0)) _ _ (rw (c .n .given .1) at (e .ensures))
+
+enum-known-q : tie.Need-enum-known-q
+enum-known-q c = search needs
+
+put-refusal-requires : tie.Need-put-refusal-requires
+put-refusal-requires c κs = refused-fits (c .before .before .q .given .0 .0) (c .before .before .before .before .before .before .before .before .before .args .out .now) (c .before .before .before .before .before .before .before .before .before .pre)
+
+enum-known-n : tie.Need-enum-known-n
+enum-known-n c = search needs
+
+mul-t : tie.Need-mul-t
+mul-t c = omega (arith, square-le (table-is (c .before .before) .few))
+
+array-share-prefix-t : tie.Need-array-share-prefix-t
+array-share-prefix-t c = omega (arith, square-le (table-is (c .before .before) .few), c .before .before .before .before .before .read-costs .kept .1 .1 .0)
+
+slice-aggregate-write-table : tie.Need-slice-aggregate-write-table
+slice-aggregate-write-table c = sym (length-take-le _ _ (omega (arith, square-le (table-is (c .before .before .before) .few), c .before .before .before .before .before .before .read-costs .kept .1 .1 .0)))
+
+write-table-requires : tie.Need-write-table-requires
+write-table-requires c κs = (table-is (c .before .before .before) .table, c .before .before .before .before .before .before .before .before .before .before .pre)
+
+same-length : tie.Need-same-length
+same-length c = search needs
+
+returns : tie.Need-returns
+returns c = put-same (sym (refused-is (c .before .before .before .before .before))) (c .before .before .put-refusal .ensures)
+
+same-length-2 : tie.Need-same-length-2
+same-length-2 c = search needs
+
+returns-2 : tie.Need-returns-2
+returns-2 c = put-same (sym (table-is (c .before .before .before .before .before .before) .text)) (c .before .before .write-table .ensures)
+
+pub write-stored-spec : {M : Type 1} → statement M
+write-stored-spec =
+    tie.close
+    (tie.spec
+    slice-aggregate-read-costs
+    read-costs-requires
+    enum-known-q
+    put-refusal-requires
+    enum-known-n
+    mul-t
+    array-share-prefix-t
+    slice-aggregate-write-table
+    write-table-requires
+    same-length
+    returns
+    same-length-2
+    returns-2)

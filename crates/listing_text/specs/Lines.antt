@@ -1,0 +1,57 @@
+-- The lines of a listing, as bytes: fields stand one blank apart, and every line ends in a newline. Assumes nothing.
+use mathlib.Core.List.{List, [], _++_, _∷_}
+use Prim.Native.Nat.{ℕ}
+use Rattle.ground.specs.declared.Refusal.{Refusal}
+use Rattle.listing_text.specs.Decimal.{decimal}
+
+-- "images"
+unfoldable pub imagesWord : List ℕ
+imagesWord = 105 ∷ 109 ∷ 97 ∷ 103 ∷ 101 ∷ 115 ∷ []
+
+-- " rows", with the blank before it
+unfoldable pub rowsWord : List ℕ
+rowsWord = 32 ∷ 114 ∷ 111 ∷ 119 ∷ 115 ∷ []
+
+-- "order"
+unfoldable pub orderWord : List ℕ
+orderWord = 111 ∷ 114 ∷ 100 ∷ 101 ∷ 114 ∷ []
+
+-- "refused"
+unfoldable pub refusedWord : List ℕ
+refusedWord = 114 ∷ 101 ∷ 102 ∷ 117 ∷ 115 ∷ 101 ∷ 100 ∷ []
+
+-- the end of a line
+abbrev pub newline : List ℕ
+newline = 10 ∷ []
+
+-- one blank, and the number
+unfoldable pub field : ℕ → List ℕ
+field x = 32 ∷ decimal x
+
+-- each number behind one blank
+unfoldable pub fields : List ℕ → List ℕ
+fields [] = []
+fields (x ∷ l) = field x ++ fields l
+
+-- images N rows R
+unfoldable pub header : ℕ → ℕ → List ℕ
+header n r = imagesWord ++ (field n ++ (rowsWord ++ (field r ++ newline)))
+
+-- far side, doubled cost, upper row
+unfoldable pub rowLine : ℕ → ℕ → ℕ → List ℕ
+rowLine s c u = decimal s ++ (field c ++ (field u ++ newline))
+
+-- one line for each row, where far sides, doubled costs and upper rows stand in three lists
+unfoldable pub rowLines : List ℕ → List ℕ → List ℕ → List ℕ
+rowLines [] v u = []
+rowLines (s ∷ l) [] u = []
+rowLines (s ∷ l) (c ∷ v) [] = []
+rowLines (s ∷ l) (c ∷ v) (a ∷ u) = rowLine s c a ++ rowLines l v u
+
+-- order, and the images
+unfoldable pub orderLine : List ℕ → List ℕ
+orderLine o = orderWord ++ (fields o ++ newline)
+
+-- refused, the number and the four places
+unfoldable pub refusedLine : Refusal → List ℕ
+refusedLine q = refusedWord ++ (field (q .number) ++ (field (q .a) ++ (field (q .b) ++ (field (q .c) ++ (field (q .d) ++ newline)))))

@@ -1,0 +1,215 @@
+// The text of the listing program: the exact reading of one stored cost table, line by line. Every function that writes takes the
+// place where its text begins and answers the place behind it.
+use ground::Refusal;
+use ground::Written;
+use stored_costs::StoredCosts;
+ghost use mathlib.Core.List.{_∷_, []};
+ghost use mathlib.Core.Path.{_≡_};
+ghost use Prim.Native.Nat.{_<_, _≤_};
+ghost use lib.ListN.{length};
+ghost use Rattle.theory.specs.Routes.{uppers};
+ghost use Rattle.theory.specs.Tables.{CostTable, limit};
+ghost use Rattle.links.specs.LinkChecks.{Links};
+ghost use Rattle.order.specs.Outcome.{images};
+ghost use Rattle.listing_text.specs.Decimal.{decimal};
+ghost use Rattle.listing_text.specs.Lines.{field, fields, header, orderLine, refusedLine, rowLine, rowLines};
+ghost use Rattle.listing_text.specs.Listing.{Listed, listingText, readingText, room, tableText};
+ghost use Rattle.listing_text.specs.Putting.{Fits, Put};
+
+// One byte.
+fn put_byte(out: &mut [u8], at: usize, b: u8) -> usize
+    requires { ⌜ at < length (now out) ⌝ }
+    ensures { λ r. ⌜ Put (b ∷ []) at (now (out .entry)) r (now (out .exit)) ⌝ }
+{
+    out[at] = b;
+    at + 1
+}
+
+// The bytes of a word.
+fn put_word(out: &mut [u8], at: usize, word: &[u8]) -> usize
+    requires { ⌜ Fits (now word) at (now out) ⌝ }
+    ensures { λ r. ⌜ Put (now (word .entry)) at (now (out .entry)) r (now (out .exit)) ⌝ }
+{
+    let mut place = at;
+    let mut i = 0;
+    while i < word.len() {
+        place = put_byte(out, place, word[i]);
+        i += 1;
+    }
+    place
+}
+
+// The digits of x: those of a tenth of it, then the last.
+fn put_number(out: &mut [u8], at: usize, x: u64) -> usize
+    requires { ⌜ Fits (decimal x) at (now out) ⌝ }
+    ensures { λ r. ⌜ Put (decimal x) at (now (out .entry)) r (now (out .exit)) ⌝ }
+{
+    if x < 10 {
+        return put_byte(out, at, 48 + x as u8);
+    }
+    let last = put_number(out, at, x / 10);
+    put_byte(out, last, 48 + (x % 10) as u8)
+}
+
+// One blank, and the digits of x.
+fn put_field(out: &mut [u8], at: usize, x: u64) -> usize
+    requires { ⌜ Fits (field x) at (now out) ⌝ }
+    ensures { λ r. ⌜ Put (field x) at (now (out .entry)) r (now (out .exit)) ⌝ }
+{
+    let p = put_byte(out, at, 32);
+    put_number(out, p, x)
+}
+
+// The same number in 64 bits.
+fn wide(x: u32) -> u64
+    ensures { λ r. ⌜ r ≡ x ⌝ }
+{
+    x as u64
+}
+
+// Each number behind one blank.
+fn put_fields(out: &mut [u8], at: usize, l: &[u32]) -> usize
+    requires { ⌜ Fits (fields (now l)) at (now out) ⌝ }
+    ensures { λ r. ⌜ Put (fields (now (l .entry))) at (now (out .entry)) r (now (out .exit)) ⌝ }
+{
+    let mut place = at;
+    let mut i = 0;
+    while i < l.len() {
+        place = put_field(out, place, wide(l[i]));
+        i += 1;
+    }
+    place
+}
+
+// The first line: how many images, and how many rows.
+fn put_header(out: &mut [u8], at: usize, n: usize, rows: usize) -> usize
+    requires { ⌜ Fits (header n rows) at (now out) ⌝ }
+    ensures { λ r. ⌜ Put (header n rows) at (now (out .entry)) r (now (out .exit)) ⌝ }
+{
+    let p = put_word(out, at, b"images");
+    let q = put_field(out, p, n as u64);
+    let w = put_word(out, q, b" rows");
+    let e = put_field(out, w, rows as u64);
+    put_byte(out, e, 10)
+}
+
+// The line of a row: far side, doubled cost, upper row.
+fn put_row(out: &mut [u8], at: usize, far: u64, cost: u32, upper: u32) -> usize
+    requires { ⌜ Fits (rowLine far cost upper) at (now out) ⌝ }
+    ensures { λ r. ⌜ Put (rowLine far cost upper) at (now (out .entry)) r (now (out .exit)) ⌝ }
+{
+    let p = put_number(out, at, far);
+    let q = put_field(out, p, cost as u64);
+    let e = put_field(out, q, upper as u64);
+    put_byte(out, e, 10)
+}
+
+// The lines of all rows.
+fn put_rows(out: &mut [u8], at: usize, fars: &[u64], costs: &[u32], above: &[u32]) -> usize
+    requires { ⌜ (length (now fars) ≤ length (now costs)) × (length (now fars) ≤ length (now above)) × Fits (rowLines (now fars) (now costs) (now above)) at (now out) ⌝ }
+    ensures { λ r. ⌜ Put (rowLines (now (fars .entry)) (now (costs .entry)) (now (above .entry))) at (now (out .entry)) r (now (out .exit)) ⌝ }
+{
+    let mut place = at;
+    let mut i = 0;
+    while i < fars.len() {
+        place = put_row(out, place, fars[i], costs[i], above[i]);
+        i += 1;
+    }
+    place
+}
+
+// The last line: the images in their order.
+fn put_order(out: &mut [u8], at: usize, around: &[u32]) -> usize
+    requires { ⌜ Fits (orderLine (now around)) at (now out) ⌝ }
+    ensures { λ r. ⌜ Put (orderLine (now (around .entry))) at (now (out .entry)) r (now (out .exit)) ⌝ }
+{
+    let p = put_word(out, at, b"order");
+    let e = put_fields(out, p, around);
+    put_byte(out, e, 10)
+}
+
+// The line of a refusal: its number and its four places.
+fn put_refusal(out: &mut [u8], at: usize, q: Refusal) -> usize
+    requires { ⌜ Fits (refusedLine q) at (now out) ⌝ }
+    ensures { λ r. ⌜ Put (refusedLine q) at (now (out .entry)) r (now (out .exit)) ⌝ }
+{
+    let w = put_word(out, at, b"refused");
+    let number = put_field(out, w, q.number as u64);
+    let a = put_field(out, number, q.a as u64);
+    let b = put_field(out, a, q.b as u64);
+    let c = put_field(out, b, q.c as u64);
+    let d = put_field(out, c, q.d as u64);
+    put_byte(out, d, 10)
+}
+
+// Header, rows and order.
+fn put_reading(
+    out: &mut [u8],
+    n: usize,
+    fars: &[u64],
+    costs: &[u32],
+    above: &[u32],
+    around: &[u32],
+) -> usize
+    requires { ⌜ (length (now fars) ≤ length (now costs)) × (length (now fars) ≤ length (now above)) × Fits (readingText n (now fars) (now costs) (now above) (now around)) 0 (now out) ⌝ }
+    ensures { λ r. ⌜ Put (readingText n (now (fars .entry)) (now (costs .entry)) (now (above .entry)) (now (around .entry))) 0 (now (out .entry)) r (now (out .exit)) ⌝ }
+{
+    let p = put_header(out, 0, n, fars.len());
+    let q = put_rows(out, p, fars, costs, above);
+    put_order(out, q, around)
+}
+
+// The listing of a link table and of the cost table that it reads, with its upper rows and the order from 1 with last n.
+fn write_links(out: &mut [u8], n: usize, t: &[u32], fars: &[u64], costs: &[u32]) -> usize
+    requires { ⌜ CostTable limit n (now t) × Links limit n (length (now fars)) (now fars) (now costs) × (room ≤ length (now out)) ⌝ }
+    ensures { λ r. ⌜ Put (readingText n (now (fars .entry)) (now (costs .entry)) (uppers (now (fars .entry))) (images n (now (t .entry)) 1 n)) 0 (now (out .entry)) r (now (out .exit)) ⌝ }
+{
+    let mut above = [0u32; 128];
+    routes::upper_rows(n, fars.len(), fars, costs, &mut above);
+    let mut around = [0u32; 64];
+    order::order(n, t, 1, n, &mut around);
+    put_reading(out, n, fars, costs, &above[..fars.len()], &around[..n])
+}
+
+// The listing of a cost table: its exact reading, or refusal 7.
+fn write_table(out: &mut [u8], n: usize, t: &[u32]) -> usize
+    requires { ⌜ CostTable limit n (now t) × (room ≤ length (now out)) ⌝ }
+    ensures { λ r. ⌜ Put (tableText n (now (t .entry))) 0 (now (out .entry)) r (now (out .exit)) ⌝ }
+{
+    let mut fars = [0u64; 128];
+    let mut costs = [0u32; 128];
+    match tree::exact(n, t, &mut fars, &mut costs) {
+        Written::Refused(q) => put_refusal(out, 0, q),
+        Written::Places(count) => write_links(out, n, t, &fars[..count], &costs[..count]),
+    }
+}
+
+// The listing of the stored cost table at the start of the bytes.
+fn write_stored(out: &mut [u8], bytes: &[u8]) -> usize
+    requires { ⌜ room ≤ length (now out) ⌝ }
+    ensures { λ r. ⌜ Put (listingText (now (bytes .entry))) 0 (now (out .entry)) r (now (out .exit)) ⌝ }
+{
+    let mut t = [0u32; 4096];
+    match stored_costs::read_costs(bytes, 0, &mut t) {
+        StoredCosts::Refused(q) => put_refusal(out, 0, q),
+        StoredCosts::Table { n, used: _ } => write_table(out, n, &t[..n * n]),
+    }
+}
+
+// A text: how long it is, and its bytes in front of an array with room for every listing.
+pub struct Text {
+    pub length: usize,
+    pub bytes: [u8; 10240],
+}
+
+// The listing of the stored cost table at the start of the bytes, whatever follows it: the exact reading, or one line with the refusal.
+pub fn listing(bytes: &[u8]) -> Text
+    ensures { λ r. ⌜ Listed (now (bytes .entry)) (r .length) (r .bytes) ⌝ }
+{
+    let mut text = [0u8; 10240];
+    let length = write_stored(&mut text, bytes);
+    Text {
+        length,
+        bytes: text,
+    }
+}
