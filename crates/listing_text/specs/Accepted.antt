@@ -13,6 +13,7 @@ use Rattle.ground.specs.Refusals.{outside, outside-false, refuseIf-passed, _the
 use Rattle.ground.specs.declared.Check.{Check}
 use Rattle.ground.specs.declared.Check.the-variants.{Passed, Refused}
 use Rattle.ground.specs.declared.Refusal.{Refusal}
+use Rattle.ground.specs.Outcomes.{Left, Outcome}
 use Rattle.ground.specs.declared.Written.{Written}
 use Rattle.ground.specs.declared.Written.the-variants.{Places}
 use Rattle.ground.specs.declared.Written.the-variants as written
@@ -21,17 +22,15 @@ use Rattle.theory.specs.LinkTables.{costs, far, fars, rowsOf}
 use Rattle.theory.specs.Readings.{measured}
 use Rattle.theory.specs.Routes.{uppers}
 use Rattle.theory.specs.Tables.{CostTable, cost, limit}
-use Rattle.tables.specs.Checks.{imagesCheck}
+use Rattle.theory.specs.Checks.{imagesCheck}
 use Rattle.wiring.specs.Check.{wiringCheck}
 use Rattle.links.specs.LinkChecks.{Links, rows-length}
 use Rattle.routes.specs.Accepted.{UppersTaken}
 use Rattle.routes.specs.Outcomes.{upperOutcome}
-use Rattle.routes.specs.Outcomes as routes
 use Rattle.routes.specs.Promises.{upper-answer}
 use Rattle.routes.specs.UpperRows.{uppers-length}
 use Rattle.order.specs.Asked.{Asked}
 use Rattle.order.specs.Outcome.{images, orderOutcome}
-use Rattle.order.specs.Outcome as order
 use Rattle.order.specs.Promise.{order-accepted, order-wrote}
 use Rattle.tree.specs.Promises.{exact-answer, rowsLeft}
 use Rattle.tree.specs.Readings.{Leaves, exactCheck, exactOutcome, measuredCheck, outcome}
@@ -49,11 +48,11 @@ links-few n l v t =
     omega (arith, t .few, row-count limit n (rowsOf l v) (t .some) (t .table), rows-length l v e)
 
 -- the upper rows that were left
-pub uppers-left : (n : ℕ) (l v o e : List ℕ) (r : Written) → Links limit n (length l) l v → 125 ≤ length o → routes.Left (upperOutcome limit n (length l) l v o) r e
+pub uppers-left : (n : ℕ) (l v o e : List ℕ) (r : Written) → Links limit n (length l) l v → 125 ≤ length o → Left (upperOutcome limit n (length l) l v o) r e
     → take (length l) e ≡ uppers l
 uppers-left n l v o e r t h p =
     let k = upper-answer limit n (length l) l v o (record { table = t; spare = omega (arith, t .few) }) in
-    ap (take (length l)) (p .left ∙ ap (λ (w : routes.Outcome). w .places) k) ∙ take-at (uppers l) _ (length l) (uppers-length 1 l)
+    ap (take (length l)) (p .left ∙ ap (λ (w : Outcome Written). w .places) k) ∙ take-at (uppers l) _ (length l) (uppers-length 1 l)
 
 pub order-asked : (n : ℕ) (t o : List ℕ) → CostTable limit n t → 64 ≤ length o → Asked limit n t 1 n (length o)
 order-asked n t o c h = record {
@@ -67,7 +66,7 @@ order-asked n t o c h = record {
 }
 
 -- the order that was left
-pub order-left : (n : ℕ) (t o e : List ℕ) (r : Written) → CostTable limit n t → 64 ≤ length o → order.Left (orderOutcome limit n t 1 n o) r e
+pub order-left : (n : ℕ) (t o e : List ℕ) (r : Written) → CostTable limit n t → 64 ≤ length o → Left (orderOutcome limit n t 1 n o) r e
     → (take n e ≡ images n t 1 n) × (length (images n t 1 n) ≡ n)
 order-left n t o e r c h p =
     let a = order-accepted limit n t 1 n o r e p (order-asked n t o c h) in

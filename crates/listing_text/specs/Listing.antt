@@ -11,7 +11,7 @@ use Rattle.theory.specs.LinkTables.{Row, costs, fars}
 use Rattle.theory.specs.Readings.{measured}
 use Rattle.theory.specs.Routes.{uppers}
 use Rattle.theory.specs.Tables.{cost, limit}
-use Rattle.tables.specs.Checks.{imagesCheck}
+use Rattle.theory.specs.Checks.{imagesCheck}
 use Rattle.wiring.specs.Check.{wiringCheck}
 use Rattle.order.specs.Outcome.{images}
 use Rattle.bits.specs.Forms.{bytesFor}

@@ -7,20 +7,21 @@ use lib.Dec.{ltb}
 use lib.ListN.{drop, length, take}
 use lib.Seq.{take-at}
 use borrow.Author.Tests.{le-ltb}
-use Rattle.ground.specs.Refusals.{outside, outside-false, refuseIf-passed, _then_}
+use Rattle.ground.specs.Refusals.{outside, outside-false, refuseIf-passed, roomCheck, _then_}
 use Rattle.ground.specs.declared.Check.{Check}
 use Rattle.ground.specs.declared.Check.the-variants.{Passed, Refused}
 use Rattle.ground.specs.declared.Refusal.{Refusal}
+use Rattle.ground.specs.Outcomes.{Left}
 use Rattle.theory.specs.Tables.{CostTable, cost, limit}
-use Rattle.tables.specs.Checks.{imagesCheck}
+use Rattle.theory.specs.Checks.{imagesCheck}
 use Rattle.bits.specs.Forms.{bytesFor}
 use Rattle.stored_costs.specs.Entries.{costOf}
 use Rattle.stored_costs.specs.Form.{costsOf, entryOf, imagesOf}
 use Rattle.stored_costs.specs.Laws.Passed.{judged-refused, table-at}
 use Rattle.stored_costs.specs.Laws.Sizes.{square-le}
 use Rattle.stored_costs.specs.Laws.Tables.{length-table, table-formed}
-use Rattle.stored_costs.specs.Outcomes.{Left, readOutcome}
-use Rattle.stored_costs.specs.Reading.{bodyChecks, endCheck, readAtChecks, roomCheck, storedCheck}
+use Rattle.stored_costs.specs.Outcomes.{readOutcome}
+use Rattle.stored_costs.specs.Reading.{bodyChecks, endCheck, readAtChecks, storedCheck}
 use Rattle.stored_costs.specs.declared.StoredCosts.the-variants.{Table}
 use Rattle.stored_costs.specs.declared.StoredCosts.the-variants as stored
 use Rattle.listing_text.specs.Lines.{refusedLine}
