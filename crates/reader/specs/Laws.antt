@@ -22,6 +22,7 @@ use Rattle.stored_links.specs.Laws.Positions as links-laws
 use Rattle.stored_links.specs.Laws.ReadAt as links-places
 use Rattle.stored_links.specs.Laws.Sizes as links-sizes
 use Rattle.stored_links.specs.Outcomes as links-said
+use Rattle.stored_links.specs.Reading as links-checks
 use Rattle.stored_links.specs.declared.StoredLinks.{StoredLinks}
 use Rattle.stored_links.specs.declared.StoredLinks.the-variants as links
 use Rattle.reader.specs.Stands.{CostsLeft, LinksLeft, behind, costsTaken, linksTaken}
@@ -100,8 +101,11 @@ next-links head w L bytes position used f v h k =
     ap (λ (p : ℕ). links-said.readOutcome head w L bytes p f v) (stands-behind position used (omega arith)) ∙ sym (links-places.read-rest head w L bytes (position / 8 + used) f v h)
 
 -- at the largest position nothing is read, however many bytes are lent
-pub largest-refused : (head w L : ℕ) (bytes : List ℕ) (room : ℕ) → costs-checks.readAtChecks head w L bytes 18446744073709551615 room ≡ Refused (refusal 9 0 0 0 0)
-largest-refused head w L bytes room = cases (ltb (length bytes) (18446744073709551615 / 8)) (λ e. rw e) (λ e. rw e)
+pub largest-costs : (head w L : ℕ) (bytes : List ℕ) (room : ℕ) → costs-checks.readAtChecks head w L bytes 18446744073709551615 room ≡ Refused (refusal 9 0 0 0 0)
+largest-costs head w L bytes room = cases (ltb (length bytes) (18446744073709551615 / 8)) (λ e. rw e) (λ e. rw e)
+
+pub largest-links : (head w L : ℕ) (bytes : List ℕ) (room : ℕ) → links-checks.readAtChecks head w L bytes 18446744073709551615 room ≡ Refused (refusal 9 0 0 0 0)
+largest-links head w L bytes room = cases (ltb (length bytes) (18446744073709551615 / 8)) (λ e. rw e) (λ e. rw e)
 
 -- no second answer, and no second content of the lent places, meets a promise
 pub costs-only : {o : Outcome StoredCosts} {position : ℕ} {a b : CostsTaken} {l m : List ℕ} → CostsLeft o position a l → CostsLeft o position b m → (a ≡ b) × (l ≡ m)
