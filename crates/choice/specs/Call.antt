@@ -1,4 +1,5 @@
 -- What the choice between two stored link tables answers, in document 01's words: s and t are the lent bytes of the first and the second.
+-- Assumes nothing.
 use mathlib.Core.Bool.{cond, not, _||_}
 use mathlib.Core.List.{List, []}
 use Prim.Native.Nat.{ℕ}

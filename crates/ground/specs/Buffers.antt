@@ -5,7 +5,7 @@ use Prim.Native.Nat.{suc, zero, ℕ, _+_, _-_, _<_, _≤_}
 use native.Mathlib.Numerals.{add-one}
 use native.Mathlib.Omega.{arith}
 use lib.Dec.{eqb}
-use lib.ListN.{drop, drop-of-length-le, getD, length, length-append, length-drop, length-set, length-take, set, take}
+use lib.ListN.{drop, drop-of-length-le, getD, length, length-drop, length-set, set, take}
 use lib.Seq.{getD-set-other, getD-set-same, sets, sets-eq, take-all}
 use borrow.Author.Tests.{eqb-false, eqb-true}
 use borrow.Table.Steps.{cases}
@@ -36,10 +36,6 @@ over-more n s d e l h q = rw (q, add-one) (over-suc n s d l h)
 
 pub over-end : (i n : ℕ) (s d e : List ℕ) → i ≤ n → n ≤ i → e ≡ over i s d → e ≡ over n s d
 over-end i n s d e l g q = let p : i ≡ n = omega arith in rw (← p) q
-
-pub over-length : (n : ℕ) (s d : List ℕ) → n ≤ length s → n ≤ length d → length (over n s d) ≡ length d
-unfolding over
-over-length n s d l h = simp (length-append, length-take, length-drop) (omega arith)
 
 -- the front of s is m: then m stands at the front of d
 pub over-front : (n : ℕ) (s d m : List ℕ) → take n s ≡ m → length m ≡ n → over n s d ≡ front m d

@@ -11,12 +11,13 @@ use Rattle.ground.specs.declared.Check.the-variants.{Passed, Refused}
 use Rattle.ground.specs.declared.Refusal.{Refusal}
 use Rattle.ground.specs.declared.Written.{Written}
 use Rattle.ground.specs.declared.Written.the-variants.{Places}
+use Rattle.theory.specs.LinkTables.{LinkTable, rowsOf}
 use Rattle.link_writer.specs.Writing.{Left, Outcome, RoomFor, fitChecks, writeChecks}
 use Rattle.links.specs.Checks.{rowChecks, sizeChecks}
-use Rattle.links.specs.LinkChecks.{Links, link-checks, sizes-passed}
+use Rattle.links.specs.LinkChecks.{Links, link-checks, row-checks, sizes-passed}
 use Rattle.stored_links.specs.Form.{linkUsed}
+use Rattle.stored_links.specs.Kinds.{roomCheck}
 use Rattle.stored_links.specs.Laws.Passed.{room-passed}
-use Rattle.stored_links.specs.Reading.{roomCheck}
 use Rattle.ground.specs.declared.Written.the-variants as written
 
 pub places-stops : {x : Check} {r : Refusal} (y : Check) (used : ℕ) → x ≡ Refused r → x ≡ y → written.Refused r ≡ placesIf y used
@@ -28,6 +29,13 @@ places-goes y used e f g = rw (← f, e, g)
 -- the promise of the writer decides its answer and what it leaves
 pub left-once : {o : Outcome} {a b : Written} {l m : List ℕ} → Left o a l → Left o b m → (a ≡ b) × (l ≡ m)
 left-once p q = (p .answered ∙ sym (q .answered), p .left ∙ sym (q .left))
+
+-- what passes the last three checks, where the rows are as many as counted
+pub fit-passed : (head w L n : ℕ) (l v : List ℕ) (room : ℕ) → length l ≡ length v → fitChecks head w L n l v room ≡ Passed
+    → LinkTable L n (rowsOf l v) × (linkUsed head w n (length l) ≤ room)
+fit-passed head w L n l v room h e =
+    let q = then-passed (rowChecks L n l v) (roomCheck (linkUsed head w n (length l)) room) e in
+    (row-checks L n l v h .0 (q .0), room-passed (linkUsed head w n (length l)) room (q .1))
 
 module _ (head w L n N : ℕ) (l v : List ℕ) (room : ℕ) where
   pub write-passed : writeChecks head w L n N l v room ≡ Passed → Links L n N l v × (n ≤ N) × (N ≤ 2 * n - 3) × (linkUsed head w n (length l) ≤ room)

@@ -9,8 +9,8 @@ use Rattle.ground.specs.declared.Check.{Check}
 use Rattle.ground.specs.declared.Written.{Written}
 use Rattle.links.specs.Checks.{rowChecks, sizeChecks}
 use Rattle.stored_links.specs.Form.{linkBytes, linkUsed}
+use Rattle.stored_links.specs.Kinds.{roomCheck}
 use Rattle.stored_links.specs.Outcomes.{frontIf}
-use Rattle.stored_links.specs.Reading.{roomCheck}
 use Rattle.stored_links.specs.Sizes.{Small}
 
 -- 12, 13, 3: of rows as many as counted, room counting exact bytes

@@ -38,8 +38,7 @@ tableIf (Refused r) n N used = stored.Refused r
 abbrev pub saidIf : Check → ℕ → ℕ → List ℕ → StoredLinks
 saidIf c head w s = tableIf c (imagesOf head s) (countOf head s) (usedOf head w s)
 
--- what reading at the position answers, where so many places are lent in each output: n, the row count and the bytes used by this table alone,
--- or the first refusal
+-- what reading at the position answers, where so many places are lent in each output: the table's numbers, or the first refusal
 abbrev pub judged : ℕ → ℕ → ℕ → List ℕ → ℕ → ℕ → StoredLinks
 judged head w L bytes position room = saidIf (readAtChecks head w L bytes position room) head w (drop (position / 8) bytes)
 

@@ -3,7 +3,7 @@
 use ground::Check;
 use ground::Refusal;
 ghost use mathlib.Core.Path.{_≡_};
-ghost use Prim.Native.Nat.{min, _*_, _+_, _-_, _≤_, _<_};
+ghost use Prim.Native.Nat.{min, _*_, _+_, _-_, _≤_};
 ghost use lib.ListN.{length, take};
 ghost use Rattle.ground.specs.Buffers.{front};
 ghost use Rattle.ground.specs.declared.Check.the-variants.{Passed};
@@ -11,10 +11,11 @@ ghost use Rattle.theory.specs.Tables.{limit};
 ghost use Rattle.links.specs.Checks.{rowChecks};
 ghost use Rattle.bits.specs.Bits.{bits, part, valueOf};
 ghost use Rattle.bits.specs.Forms.{bytesFor};
-ghost use Rattle.stored_links.specs.Form.{linkUsed, rowAt};
-ghost use Rattle.stored_links.specs.Said.{costOf, costsOf, countOf, farOf, farsOf, imagesOf};
+ghost use Rattle.stored_links.specs.Form.{rowAt};
+ghost use Rattle.stored_links.specs.Said.{costsOf, countOf, farsOf, imagesOf};
 ghost use Rattle.stored_links.specs.Outcomes.{Left, judged, judgedTable, readOutcome, saidIf};
-ghost use Rattle.stored_links.specs.Reading.{bodyChecks, headChecks, misplaced, readAtChecks, readChecks};
+ghost use Rattle.stored_links.specs.Kinds.{misplaced};
+ghost use Rattle.stored_links.specs.Reading.{bodyChecks, headChecks, readAtChecks, readChecks};
 ghost use Rattle.stored_links.specs.Sizes.{Held, Small};
 
 // What the reader answers: n, the row count and the bytes used by this table alone, or the refusal.
@@ -94,7 +95,9 @@ fn check_head(head: usize, bytes: &[u8]) -> Check
     let Check::Passed = short else {
         return short;
     };
-    links::check_count(images(head, bytes), row_count(head, bytes))
+    let n = images(head, bytes);
+    let count = row_count(head, bytes);
+    links::check_count(n, count)
 }
 
 // Refusals 12 and 13 of the first rows of two slices.

@@ -7,10 +7,12 @@ use Prim.Native.Nat.{suc, zero, ℕ, _*_, _+_, _<_, _≤_}
 use native.Mathlib.Omega.{arith}
 use lib.ListN.{length}
 use Rattle.ground.specs.Bits.{bit}
+use Rattle.ground.specs.Filters.{filter}
 use Rattle.theory.specs.FarSides.{FarSide}
-use Rattle.theory.specs.FourPoint.{FourPoint, failing}
+use Rattle.theory.specs.FourPoint.{FourPoint, failing, fails, fours₁}
 use Rattle.theory.specs.Index.{AtLeast, clipped}
 use Rattle.theory.specs.Laws.ClosedSum.{closed-sum}
+use Rattle.theory.specs.Laws.ImageOne.{image-one}
 use Rattle.theory.specs.Laws.OneTree.{measured-tree}
 use Rattle.theory.specs.Laws.OnlyOne.{exact-exists, exact-is}
 use Rattle.theory.specs.Laws.Ring.{one-run}
@@ -40,7 +42,9 @@ one-tree L n T h t = let c = row-count L n T h t in record { tree = t; least = c
 pub record ExactReading (L : ℕ) (d : ℕ → ℕ → ℕ) (n : ℕ) : Type 0 where
   -- no four images in ascending order fail exactly when the four-point condition holds
   pub scanned : (failing d n ≡ []) ↔ FourPoint d n
-  -- which is exactly when some link table has path costs equal to twice the entries
+  -- the fours that begin with image 0 decide it already (Law G)
+  pub first-enough : filter (fails d) (fours₁ n 0) ≡ [] → FourPoint d n
+  -- the condition holds exactly when some link table has path costs equal to twice the entries
   pub accepted : FourPoint d n ↔ ((T : List Row) × Exact L d n T)
   -- the answer is that table: only one exists, and on an accepted table both readings agree
   pub answer : (T : List Row) → FourPoint d n → Exact L d n T ↔ (T ≡ measured L d n)
@@ -49,7 +53,12 @@ pub exact-reading : (L : ℕ) (d : ℕ → ℕ → ℕ) (n : ℕ) → 2 ≤ n �
 exact-reading L d zero h c = absurd (omega arith)
 exact-reading L d (suc zero) h c = absurd (omega arith)
 exact-reading L d (suc (suc k)) h c =
-    record { scanned = none-failing L d (suc (suc k)) c; accepted = exact-exists L d k c; answer = exact-is L d k c }
+    record {
+      scanned = none-failing L d (suc (suc k)) c;
+      first-enough = image-one L d (suc (suc k)) c;
+      accepted = exact-exists L d k c;
+      answer = exact-is L d k c;
+    }
 
 -- ## The measured reading, of every well-formed table
 

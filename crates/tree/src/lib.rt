@@ -19,10 +19,10 @@ ghost use Rattle.tree.specs.Readings.{short, roomCheck, measuredCheck, e
 ghost use Rattle.tree.specs.Writing.{Wrote};
 
 // The rows over the first images, ascending, in the first `count` places.
-pub struct Rows {
-    pub count: usize,
-    pub fars: [u64; 128],
-    pub costs: [u32; 128],
+struct Rows {
+    count: usize,
+    fars: [u64; 128],
+    costs: [u32; 128],
 }
 
 // The cost of the far side s once image k is there, from its cost c over the first k images.

@@ -15,7 +15,8 @@ use Rattle.bits.specs.Listed.{length-listed}
 use Rattle.links.specs.Checks.{countChecks, rowChecks}
 use Rattle.links.specs.LinkChecks.{count-passed, row-checks}
 use Rattle.stored_links.specs.Form.{linkUsed}
-use Rattle.stored_links.specs.Reading.{bodyChecks, endCheck, fillCheck, headChecks, readChecks, roomCheck, tableChecks}
+use Rattle.stored_links.specs.Kinds.{endCheck, fillCheck, roomCheck}
+use Rattle.stored_links.specs.Reading.{bodyChecks, headChecks, readChecks, tableChecks}
 use Rattle.stored_links.specs.Said.{costOf, costsOf, countOf, farOf, farsOf, fillOf, imagesOf}
 use Rattle.stored_links.specs.Sizes.{Held}
 use Rattle.stored_links.specs.declared.StoredLinks.the-variants as stored

@@ -12,10 +12,11 @@ use Rattle.ground.specs.declared.Check.{Check}
 use Rattle.ground.specs.declared.Check.the-variants.{Passed, Refused}
 use Rattle.ground.specs.declared.Refusal.{Refusal}
 use Rattle.stored_links.specs.Form.{linkUsed}
+use Rattle.stored_links.specs.Kinds.{misplaced, positionCheck}
 use Rattle.stored_links.specs.Laws.Outcomes.{table-passed, table-refused}
 use Rattle.stored_links.specs.Laws.Passed.{Stored, head-passed, passed-read, read-passed, room-goes}
-use Rattle.stored_links.specs.Outcomes.{judged}
-use Rattle.stored_links.specs.Reading.{misplaced, positionCheck, readAtChecks, readChecks, tableAtChecks}
+use Rattle.stored_links.specs.Outcomes.{judged, judgedTable, saidIf}
+use Rattle.stored_links.specs.Reading.{readAtChecks, readChecks, tableAtChecks}
 use Rattle.stored_links.specs.Said.{countOf, imagesOf, usedOf}
 use Rattle.stored_links.specs.declared.StoredLinks.the-variants.{Table}
 use Rattle.stored_links.specs.declared.StoredLinks.the-variants as stored
@@ -68,3 +69,6 @@ module _ (head w L : ℕ) (bytes : List ℕ) (position : ℕ) where
   enough-room room h =
       let s = drop (position / 8) bytes in
       ap (λ (c : Check). positionCheck bytes position then c) (room-goes head w L s room (λ e. omega (arith, head-passed head s e .2)))
+
+  pub judged-enough : (room : ℕ) → 125 ≤ room → judged head w L bytes position room ≡ judgedTable head w L bytes position
+  judged-enough room h = ap (λ (c : Check). saidIf c head w (drop (position / 8) bytes)) (enough-room room h)

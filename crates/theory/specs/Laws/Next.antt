@@ -5,7 +5,6 @@ use mathlib.Core.List.{List, _∷_}
 use mathlib.Core.Logic.{inl, inr, _⊎_}
 use mathlib.Core.Path.{ap, refl, sym, _∙_, _≡_}
 use Prim.Native.Nat.{suc, zero, ℕ, _+_, _<_, _≤_}
-use native.Mathlib.Numerals.{add-one}
 use native.Mathlib.Omega.{arith}
 use lib.Dec.{eqb, ltb}
 use borrow.Author.Tests.{eq-eqb, eqb-false, eqb-true, ltb-false, ltb-true}
@@ -66,9 +65,3 @@ module _ (d : ℕ → ℕ → ℕ) (f x : ℕ) (l : List ℕ) where
             least = λ u h q. cases (eqb u m) (λ z. let y = eqb-true u m z in omega (arith, ap (d x) y, ap (d f) y, ltb-false (d x m + d f b) (d x b + d f m) s)) (λ z. r .least u (omega (arith, eqb-false u m z)) q);
             lowest = r .lowest;
           }))))
-
--- one image more, as a loop's counter says it
-pub next-more : (d : ℕ → ℕ → ℕ) (f x : ℕ) (l : List ℕ) (m : ℕ)
-    → next d f x l (m + 1) ≡ cond (free f l m && better d f x m (next d f x l m)) m (next d f x l m)
-unfolding next
-next-more d f x l m = rw add-one

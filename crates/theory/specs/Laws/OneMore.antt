@@ -63,10 +63,9 @@ module _ (L : ℕ) (d : ℕ → ℕ → ℕ) (k : ℕ) (s : ℕ → ℕ) where
     shifted-fewer = le-shifted L d k s (shifted L d (suc k) s) (shifted-cap L d (suc k) s)
         (λ a a′ b b′ ha ha′ hb hb′. shifted-le L d (suc k) s (up ha) (up ha′) (up hb) (up hb′))
 
-    -- a quad with image k is one of ext's, in both pairings
-    quad-ext : {a a′ b b′ : ℕ} → On (suc k) s 0 a → On (suc k) s 0 a′ → On (suc k) s 1 b → On (suc k) s 1 b′
-        → (a ≡ k) ⊎ ((a′ ≡ k) ⊎ ((b ≡ k) ⊎ (b′ ≡ k))) → ext L d k s ≤ gain L d a a′ b b′
-    quad-ext {a} {a′} {b} {b′} ha ha′ hb hb′ (inl e) =
+    -- a quad with image k on the near side is one of ext's, in both pairings; and so with image k on the far side
+    near-ext : {a a′ b b′ : ℕ} → On (suc k) s 0 a → On (suc k) s 0 a′ → On (suc k) s 1 b → On (suc k) s 1 b′ → a ≡ k → ext L d k s ≤ gain L d a a′ b b′
+    near-ext {a} {a′} {b} {b′} ha ha′ hb hb′ e =
         let k0 : 0 ≡ s k = sym (ha .1) ∙ ap s e in
         let o : 1 ≡ 1 - s k = omega arith in
         let ob = down hb (λ t. omega (arith, ap s t, hb .1)) in
@@ -80,22 +79,9 @@ module _ (L : ℕ) (d : ℕ → ℕ → ℕ) (k : ℕ) (s : ℕ → ℕ) where
           ap (λ (x : ℕ). d x b′) e,
           ap (λ (x : ℕ). d x a′) e,
         )
-    quad-ext {a} {a′} {b} {b′} ha ha′ hb hb′ (inr (inl e)) =
-        let k0 : 0 ≡ s k = sym (ha′ .1) ∙ ap s e in
-        let o : 1 ≡ 1 - s k = omega arith in
-        let ob = down hb (λ t. omega (arith, ap s t, hb .1)) in
-        let ob′ = down hb′ (λ t. omega (arith, ap s t, hb′ .1)) in
-        omega (
-          arith,
-          ext-le {a = a} {b = b} {b′ = b′} (ha .0, ha .1 ∙ k0) (ob .0, ob .1 ∙ o) (ob′ .0, ob′ .1 ∙ o),
-          ext-le {a = a} {b = b′} {b′ = b} (ha .0, ha .1 ∙ k0) (ob′ .0, ob′ .1 ∙ o) (ob .0, ob .1 ∙ o),
-          c .same (hb .0) (hb′ .0),
-          c .same (ha .0) (ha′ .0),
-          ap (λ (x : ℕ). d x b) e,
-          ap (λ (x : ℕ). d x b′) e,
-          ap (λ (x : ℕ). d x a) e,
-        )
-    quad-ext {a} {a′} {b} {b′} ha ha′ hb hb′ (inr (inr (inl e))) =
+
+    far-ext : {a a′ b b′ : ℕ} → On (suc k) s 0 a → On (suc k) s 0 a′ → On (suc k) s 1 b → On (suc k) s 1 b′ → b ≡ k → ext L d k s ≤ gain L d a a′ b b′
+    far-ext {a} {a′} {b} {b′} ha ha′ hb hb′ e =
         let k1 : 1 ≡ s k = sym (hb .1) ∙ ap s e in
         let o : 0 ≡ 1 - s k = omega arith in
         let oa = down ha (λ t. omega (arith, ap s t, ha .1)) in
@@ -113,25 +99,20 @@ module _ (L : ℕ) (d : ℕ → ℕ → ℕ) (k : ℕ) (s : ℕ → ℕ) where
           ap (λ (x : ℕ). d x a′) e,
           ap (λ (x : ℕ). d x b′) e,
         )
-    quad-ext {a} {a′} {b} {b′} ha ha′ hb hb′ (inr (inr (inr e))) =
-        let k1 : 1 ≡ s k = sym (hb′ .1) ∙ ap s e in
-        let o : 0 ≡ 1 - s k = omega arith in
-        let oa = down ha (λ t. omega (arith, ap s t, ha .1)) in
-        let oa′ = down ha′ (λ t. omega (arith, ap s t, ha′ .1)) in
-        omega (
-          arith,
-          ext-le {a = b} {b = a} {b′ = a′} (hb .0, hb .1 ∙ k1) (oa .0, oa .1 ∙ o) (oa′ .0, oa′ .1 ∙ o),
-          ext-le {a = b} {b = a′} {b′ = a} (hb .0, hb .1 ∙ k1) (oa′ .0, oa′ .1 ∙ o) (oa .0, oa .1 ∙ o),
-          c .same (ha .0) (ha′ .0),
-          c .same (hb .0) (hb′ .0),
-          c .same (ha .0) (hb .0),
-          c .same (ha′ .0) (hb .0),
-          c .same (ha .0) (hb′ .0),
-          c .same (ha′ .0) (hb′ .0),
-          ap (λ (x : ℕ). d x a) e,
-          ap (λ (x : ℕ). d x a′) e,
-          ap (λ (x : ℕ). d x b) e,
-        )
+
+    -- a and a′ exchanged together with b and b′
+    gain-swap : {a a′ b b′ : ℕ} → On (suc k) s 0 a → On (suc k) s 0 a′ → On (suc k) s 1 b → On (suc k) s 1 b′ → gain L d a a′ b b′ ≡ gain L d a′ a b′ b
+    gain-swap {a} {a′} {b} {b′} ha ha′ hb hb′ =
+        let p : d a b + d a′ b′ ≡ d a′ b′ + d a b = omega arith in
+        let q : d a b′ + d a′ b ≡ d a′ b + d a b′ = omega arith in
+        rw (p, q, c .same (ha .0) (ha′ .0), c .same (hb .0) (hb′ .0))
+
+    quad-ext : {a a′ b b′ : ℕ} → On (suc k) s 0 a → On (suc k) s 0 a′ → On (suc k) s 1 b → On (suc k) s 1 b′
+        → (a ≡ k) ⊎ ((a′ ≡ k) ⊎ ((b ≡ k) ⊎ (b′ ≡ k))) → ext L d k s ≤ gain L d a a′ b b′
+    quad-ext ha ha′ hb hb′ (inl e) = near-ext ha ha′ hb hb′ e
+    quad-ext ha ha′ hb hb′ (inr (inl e)) = rw (gain-swap ha ha′ hb hb′) (near-ext ha′ ha hb′ hb e)
+    quad-ext ha ha′ hb hb′ (inr (inr (inl e))) = far-ext ha ha′ hb hb′ e
+    quad-ext ha ha′ hb hb′ (inr (inr (inr e))) = rw (gain-swap ha ha′ hb hb′) (far-ext ha′ ha hb′ hb e)
 
     ext-shifted : min (shifted L d k s) (ext L d k s) ≤ shifted L d (suc k) s
     ext-shifted =

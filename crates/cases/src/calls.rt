@@ -1,0 +1,29 @@
+// The calls by number. Those whose cases begin with a cost table come first, then those with a link table, then those with stored
+// bytes and a position, and the calls over several tables.
+pub const INDEX: u32 = 1;
+
+pub const ORDER: u32 = 2;
+
+pub const MEASURED: u32 = 3;
+
+pub const EXACT: u32 = 4;
+
+pub const COMPARE: u32 = 5;
+
+pub const WRITE_COSTS: u32 = 6;
+
+pub const PATH: u32 = 7;
+
+pub const UPPER_ROWS: u32 = 8;
+
+pub const ROUTE: u32 = 9;
+
+pub const WRITE_LINKS: u32 = 10;
+
+pub const READ_COSTS: u32 = 11;
+
+pub const READ_LINKS: u32 = 12;
+
+pub const WRITE_BATCH: u32 = 13;
+
+pub const CHOICE: u32 = 14;

@@ -1,0 +1,119 @@
+// Cases that begin with n and a cost table. Each function reads the other arguments, makes its call, prints what the call answers
+// and leaves, and gives the place behind the case.
+use crate::calls::COMPARE;
+use crate::calls::EXACT;
+use crate::calls::INDEX;
+use crate::calls::MEASURED;
+use crate::calls::ORDER;
+use case_text::number_at;
+use case_text::show_answer;
+use case_text::show_first;
+use case_text::show_next;
+use case_text::show_table_refusal;
+use case_text::show_written;
+use case_text::show8;
+use case_text::show32;
+use case_text::show64;
+use case_text::take8;
+use case_text::take32;
+use case_text::take64;
+use compare::Comparison;
+use counts::Difference;
+
+fn index_case(n: usize, t: &[u32], text: &[u8], at: usize) -> usize {
+    let s = number_at(text, at);
+    show_answer(index::index(n, t, s.value));
+    s.next
+}
+
+fn order_case(n: usize, t: &[u32], text: &[u8], at: usize) -> usize {
+    let first = number_at(text, at);
+    let last = number_at(text, first.next);
+    let mut places = [0u32; 4200];
+    let room = take32(text, last.next, &mut places);
+    let count = room.count;
+    let out = &mut places[..count];
+    show_written(order::order(n, t, first.value as usize, last.value as usize, out));
+    show32(out);
+    room.next
+}
+
+fn reading_case(call: u32, n: usize, t: &[u32], text: &[u8], at: usize) -> usize {
+    let mut sides = [0u64; 4200];
+    let side_room = take64(text, at, &mut sides);
+    let side_count = side_room.count;
+    let fars = &mut sides[..side_count];
+    let mut doubled = [0u32; 4200];
+    let cost_room = take32(text, side_room.next, &mut doubled);
+    let cost_count = cost_room.count;
+    let costs = &mut doubled[..cost_count];
+    if call == MEASURED {
+        show_written(tree::measured(n, t, fars, costs));
+    } else {
+        show_written(tree::exact(n, t, fars, costs));
+    }
+    show64(fars);
+    show32(costs);
+    cost_room.next
+}
+
+// Prints what the comparison counts.
+fn show_difference(d: Difference) {
+    show_first(0);
+    show_next(d.first as u64);
+    show_next(d.second as u64);
+    show_next(d.common as u64);
+    show_next(d.count as u64);
+    show_next(d.over as u64);
+}
+
+// Prints the answer of the comparison.
+fn show_comparison(answer: Comparison) {
+    match answer {
+        Comparison::Compared(d) => show_difference(d),
+        Comparison::Refused(table, r) => show_table_refusal(table, r),
+    }
+}
+
+fn compare_case(n: usize, t: &[u32], text: &[u8], at: usize) -> usize {
+    let mut entries = [0u32; 4200];
+    let second = take32(text, at, &mut entries);
+    let count = second.count;
+    show_comparison(compare::compare(n, t, &entries[..count]));
+    second.next
+}
+
+fn write_costs_case(n: usize, t: &[u32], text: &[u8], at: usize) -> usize {
+    let mut bytes = [0u8; 4200];
+    let room = take8(text, at, &mut bytes);
+    let count = room.count;
+    let out = &mut bytes[..count];
+    show_written(stored_costs::write_costs(n, t, out));
+    show8(out);
+    room.next
+}
+
+// A case of this call, behind its n and its cost table.
+fn case_of(call: u32, n: usize, t: &[u32], text: &[u8], at: usize) -> usize {
+    if call == INDEX {
+        return index_case(n, t, text, at);
+    }
+    if call == ORDER {
+        return order_case(n, t, text, at);
+    }
+    if call <= EXACT {
+        return reading_case(call, n, t, text, at);
+    }
+    if call == COMPARE {
+        return compare_case(n, t, text, at);
+    }
+    write_costs_case(n, t, text, at)
+}
+
+pub fn cost_case(call: u32, text: &[u8], at: usize) -> usize {
+    let n = number_at(text, at);
+    let mut entries = [0u32; 4200];
+    let table = take32(text, n.next, &mut entries);
+    let count = table.count;
+    case_of(call, n.value as usize, &entries[..count], text, table.next)
+}

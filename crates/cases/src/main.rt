@@ -1,0 +1,70 @@
+// Runs the cases of data/: for each call its name, and then a line for each case with the answer and what the call left in each
+// lent output. The independent program's text is the file stdout.
+mod batch_cases;
+mod byte_cases;
+mod calls;
+mod choice_cases;
+mod cost_cases;
+mod link_cases;
+
+use libc::STDOUT_FILENO;
+
+// Runs the case at a place of the text, and gives the place of the next one.
+fn one_case(call: u32, text: &[u8], at: usize) -> usize {
+    if call <= calls::WRITE_COSTS {
+        return cost_cases::cost_case(call, text, at);
+    }
+    if call <= calls::WRITE_LINKS {
+        return link_cases::link_case(call, text, at);
+    }
+    if call <= calls::READ_LINKS {
+        return byte_cases::byte_case(call, text, at);
+    }
+    if call == calls::WRITE_BATCH {
+        return batch_cases::batch_case(text, at);
+    }
+    choice_cases::choice_case(text, at)
+}
+
+// Runs every case of a text, which has fewer cases than bytes.
+fn every_case(call: u32, text: &[u8]) {
+    let mut left = text.len();
+    let mut at = 0;
+    while 0 < left && at < text.len() {
+        at = one_case(call, text, at);
+        case_text::show_end();
+        left -= 1;
+    }
+}
+
+// Runs the cases of one call, from its file.
+fn run(call: u32, name: &[u8], file: &[u8]) {
+    io::write_all(STDOUT_FILENO, name);
+    case_text::show_end();
+    let fd = os::open_read(file);
+    if fd < 0 {
+        os::fail(file);
+        return;
+    }
+    let mut buffer = [0u8; 400000];
+    let length = io::read_full(fd, &mut buffer);
+    libc::close(fd);
+    every_case(call, &buffer[..length]);
+}
+
+fn main() {
+    run(calls::INDEX, b"index", b"index.txt");
+    run(calls::ORDER, b"order", b"order.txt");
+    run(calls::MEASURED, b"measured", b"measured.txt");
+    run(calls::EXACT, b"exact", b"exact.txt");
+    run(calls::PATH, b"path", b"path.txt");
+    run(calls::UPPER_ROWS, b"upper_rows", b"upper_rows.txt");
+    run(calls::ROUTE, b"route", b"route.txt");
+    run(calls::COMPARE, b"compare", b"compare.txt");
+    run(calls::WRITE_COSTS, b"write_costs", b"write_costs.txt");
+    run(calls::READ_COSTS, b"read_costs", b"read_costs.txt");
+    run(calls::WRITE_LINKS, b"write_links", b"write_links.txt");
+    run(calls::READ_LINKS, b"read_links", b"read_links.txt");
+    run(calls::WRITE_BATCH, b"write_batch", b"write_batch.txt");
+    run(calls::CHOICE, b"choice", b"choice.txt");
+}
