@@ -12,8 +12,8 @@ use Rattle.ground.specs.Filters.{Each}
 use Rattle.ground.specs.Refusals.{refuseIf-passed}
 use Rattle.ground.specs.declared.Check.{Check}
 use Rattle.ground.specs.declared.Check.the-variants.{Passed, Refused}
-use Rattle.choice.specs.Call.{againstSecond, choiceOf, imagesAgree, includes, inclusion, innersOf, numbered, sidesOf, taken}
-use Rattle.choice.specs.Inclusion.{each-includes, includes-each}
+use Rattle.choice.specs.Call.{againstSecond, choiceOf, imagesAgree, inclusion, innersOf, numbered, sidesOf, taken}
+use Rattle.choice.specs.Inclusion.{each-includes, includes, includes-each}
 use Rattle.choice.specs.Read.{table-stored}
 use Rattle.choice.specs.declared.Chosen.{Chosen}
 use Rattle.choice.specs.declared.Chosen.the-variants.{Table}

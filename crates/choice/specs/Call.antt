@@ -1,16 +1,17 @@
 -- What the choice between two stored link tables answers, in document 01's words: s and t are the lent bytes of the first and the second.
-use mathlib.Core.Bool.{Bool, cond, false, not, true, _&&_, _||_}
-use mathlib.Core.List.{List, [], _∷_}
+-- Assumes nothing.
+use mathlib.Core.Bool.{cond, not, _||_}
+use mathlib.Core.List.{List, []}
 use Prim.Native.Nat.{ℕ}
 use lib.Dec.{eqb}
 use lib.ListN.{take}
-use Rattle.ground.specs.Members.{isIn}
 use Rattle.ground.specs.Refusals.{refusal, refuseIf}
 use Rattle.ground.specs.declared.Check.{Check}
 use Rattle.ground.specs.declared.Check.the-variants.{Passed, Refused}
 use Rattle.theory.specs.Comparison.{inners}
 use Rattle.stored_links.specs.Reading.{tableChecks}
 use Rattle.stored_links.specs.Said.{countOf, farsOf, imagesOf, usedOf}
+use Rattle.choice.specs.Inclusion.{includes}
 use Rattle.choice.specs.declared.Chosen.{Chosen}
 use Rattle.choice.specs.declared.Chosen.the-variants.{Table}
 use Rattle.choice.specs.declared.Chosen.the-variants as answer
@@ -22,11 +23,6 @@ sidesOf head w s = farsOf head w (imagesOf head s) (countOf head s) s
 -- the inner ones
 abbrev pub innersOf : ℕ → ℕ → List ℕ → List ℕ
 innersOf head w s = inners (imagesOf head s) (sidesOf head w s)
-
--- l includes all of r
-abbrev pub includes : List ℕ → List ℕ → Bool
-includes l [] = true
-includes l (S ∷ r) = isIn S l && includes l r
 
 -- a refusal with the table's number m beside the places, or what follows where the check passed
 abbrev pub numbered : ℕ → Check → Chosen → Chosen

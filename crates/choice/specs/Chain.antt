@@ -11,8 +11,8 @@ use Rattle.ground.specs.declared.Check.the-variants.{Passed, Refused}
 use Rattle.ground.specs.declared.Refusal.{Refusal}
 use Rattle.theory.specs.Comparison.{inners}
 use Rattle.theory.specs.FarSides.{inner}
-use Rattle.choice.specs.Call.{imagesAgree, includes, numbered, taken}
-use Rattle.choice.specs.Inclusion.{first-includes, second-includes}
+use Rattle.choice.specs.Call.{imagesAgree, numbered, taken}
+use Rattle.choice.specs.Inclusion.{first-includes, includes, second-includes}
 use Rattle.choice.specs.declared.Chosen.{Chosen}
 use Rattle.choice.specs.declared.Chosen.the-variants.{Table}
 use Rattle.counts.specs.Differ.{differ}

@@ -1,5 +1,5 @@
 -- One list includes another exactly when all of the other are common to both, so a count of the common ones decides. Assumes nothing.
-use mathlib.Core.Bool.{true}
+use mathlib.Core.Bool.{Bool, true, _&&_}
 use mathlib.Core.List.{List, List·Memᴰ, List·Memᴰ·head, List·Memᴰ·tail, [], _∷_}
 use mathlib.Core.Path.{ap, refl, sym, _∙_, _≡_}
 use Prim.Native.Nat.{ℕ}
@@ -14,8 +14,12 @@ use Rattle.ground.specs.Members.{isIn, isIn-mem, mem-isIn}
 use Rattle.ground.specs.Tests.{and-l, and-r}
 use Rattle.theory.specs.Comparison.{common}
 use Rattle.theory.specs.Laws.Comparison.{common-same}
-use Rattle.choice.specs.Call.{includes}
 use Rattle.counts.specs.Formula.{filter-le}
+
+-- l includes all of r
+abbrev pub includes : List ℕ → List ℕ → Bool
+includes l [] = true
+includes l (S ∷ r) = isIn S l && includes l r
 
 -- ## What it says
 

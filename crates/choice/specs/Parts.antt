@@ -10,8 +10,12 @@ use lib.ListN.{length, take}
 use lib.Seq.{length-take-le}
 use borrow.Author.Tests.{eq-eqb, ne-eqb}
 use Rattle.ground.specs.declared.Refusal.{Refusal}
+use Rattle.bits.specs.Bits.{AllBytes}
+use Rattle.stored_links.specs.Form.{linkBytes}
+use Rattle.stored_links.specs.Laws.WriteBack.{read-written}
+use Rattle.stored_links.specs.Said.{costsOf, countOf, imagesOf, markOf, usedOf}
 use Rattle.choice.specs.Accepted.{Begins, Taken, choice-accepted, the-first, the-second}
-use Rattle.choice.specs.Call.{choiceOf, partOf}
+use Rattle.choice.specs.Call.{choiceOf, partOf, sidesOf}
 use Rattle.choice.specs.declared.Chosen.{Chosen}
 use Rattle.choice.specs.declared.Chosen.the-variants.{Table}
 use Rattle.choice.specs.declared.Chosen.the-variants as answer
@@ -52,6 +56,27 @@ module _ (head w L : ℕ) (s t : List ℕ) where
       go : Begins head w L s → Begins head w L t → Taken head w L s t k u → (length (take u (cond (eqb k 1) s t)) ≡ u) × (1 ≤ u)
       go b c (the-first p q h) = rw (eq-eqb k 1 p) (length-take-le u s (omega (arith, q, b .whole)), omega (arith, q))
       go b c (the-second p q h n) = rw (ne-eqb k 1 (λ z. omega (arith, p, z))) (length-take-le u t (omega (arith, q, c .whole)), omega (arith, q))
+
+  -- the used bytes are the stored form of the chosen table
+  pub first-form : (u : ℕ) → AllBytes s → choiceOf head w L s t ≡ Table 1 u
+      → partOf (choiceOf head w L s t) s t ≡ linkBytes head (markOf head s) w (imagesOf head s) (sidesOf head w s) (costsOf head w (imagesOf head s) (countOf head s) s)
+  first-form u b e =
+      let a = choice-accepted head w L s t 1 u e in
+      part-first u e ∙ ap (λ x. take x s) (used (a .chosen)) ∙ sym (read-written head w L (imagesOf head s) (countOf head s) s (a .first) b)
+    where
+      used : Taken head w L s t 1 u → u ≡ usedOf head w s
+      used (the-first p q h) = q
+      used (the-second p q h n) = absurd (omega (arith, p))
+
+  pub second-form : (u : ℕ) → AllBytes t → choiceOf head w L s t ≡ Table 2 u
+      → partOf (choiceOf head w L s t) s t ≡ linkBytes head (markOf head t) w (imagesOf head t) (sidesOf head w t) (costsOf head w (imagesOf head t) (countOf head t) t)
+  second-form u b e =
+      let a = choice-accepted head w L s t 2 u e in
+      part-second 2 u e (λ z. omega (arith, z)) ∙ ap (λ x. take x t) (used (a .chosen)) ∙ sym (read-written head w L (imagesOf head t) (countOf head t) t (a .second) b)
+    where
+      used : Taken head w L s t 2 u → u ≡ usedOf head w t
+      used (the-first p q h) = absurd (omega (arith, p))
+      used (the-second p q h n) = q
 
   -- empty exactly when the choice is refused
   pub part-empty : (partOf (choiceOf head w L s t) s t ≡ []) ↔ ((m : ℕ) × (r : Refusal) × (choiceOf head w L s t ≡ answer.Refused m r))

@@ -13,7 +13,8 @@ use Rattle.ground.specs.declared.Refusal.{Refusal}
 use Rattle.stored_links.specs.Reading.{tableChecks}
 use Rattle.stored_links.specs.Said.{imagesOf, usedOf}
 use Rattle.choice.specs.Accepted.{Begins, Includes, not-includes}
-use Rattle.choice.specs.Call.{againstSecond, choiceOf, imagesAgree, includes, innersOf, numbered, sidesOf, taken}
+use Rattle.choice.specs.Call.{againstSecond, choiceOf, imagesAgree, innersOf, numbered, sidesOf, taken}
+use Rattle.choice.specs.Inclusion.{includes}
 use Rattle.choice.specs.Read.{table-stored}
 use Rattle.choice.specs.declared.Chosen.the-variants.{Table}
 use Rattle.choice.specs.declared.Chosen.the-variants as answer

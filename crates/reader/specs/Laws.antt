@@ -3,18 +3,26 @@ use mathlib.Core.List.{List}
 use mathlib.Core.Path.{ap, refl, sym, _∙_, _≡_}
 use Prim.Native.Nat.{min, ℕ, _%_, _*_, _+_, _/_, _<_, _≤_}
 use native.Mathlib.Omega.{arith}
+use lib.Dec.{ltb}
 use lib.ListN.{drop, length, length-drop}
+use borrow.Table.Steps.{cases}
 use Rattle.ground.specs.Outcomes.{Left, Outcome}
+use Rattle.ground.specs.Refusals.{refusal}
+use Rattle.ground.specs.declared.Check.the-variants.{Refused}
 use Rattle.ground.specs.declared.Refusal.{Refusal}
 use Rattle.stored_costs.specs.Laws.Passed as costs-laws
+use Rattle.stored_costs.specs.Laws.Positions as costs-places
 use Rattle.stored_costs.specs.Laws.Sizes as costs-sizes
 use Rattle.stored_costs.specs.Outcomes as costs-said
+use Rattle.stored_costs.specs.Reading as costs-checks
 use Rattle.stored_costs.specs.declared.StoredCosts.{StoredCosts}
 use Rattle.stored_costs.specs.declared.StoredCosts.the-variants as costs
 use Rattle.stored_links.specs.Laws.Passed as links-passed
 use Rattle.stored_links.specs.Laws.Positions as links-laws
+use Rattle.stored_links.specs.Laws.ReadAt as links-places
 use Rattle.stored_links.specs.Laws.Sizes as links-sizes
 use Rattle.stored_links.specs.Outcomes as links-said
+use Rattle.stored_links.specs.Reading as links-checks
 use Rattle.stored_links.specs.declared.StoredLinks.{StoredLinks}
 use Rattle.stored_links.specs.declared.StoredLinks.the-variants as links
 use Rattle.reader.specs.Stands.{CostsLeft, LinksLeft, behind, costsTaken, linksTaken}
@@ -80,6 +88,24 @@ links-short w L bytes position room n N used h e =
 -- in fewer than 2 ^ 61 bytes the reader stands 8 times the bytes up to the table's end, at the start of a byte
 pub stands-behind : (position used : ℕ) → position / 8 + used < 2305843009213693952 → behind position used ≡ 8 * (position / 8 + used)
 stands-behind position used h = sym (behind-fits position used (position / 8 + used) refl h)
+
+-- so what is read next is the part of the bytes behind the table
+pub next-costs : (head w L : ℕ) (bytes : List ℕ) (position used : ℕ) (out : List ℕ) → position / 8 + used ≤ length bytes → length bytes < 2305843009213693952
+    → costs-said.readOutcome head w L bytes (behind position used) out ≡ costs-said.readOutcome head w L (drop (position / 8 + used) bytes) 0 out
+next-costs head w L bytes position used out h k =
+    ap (λ (p : ℕ). costs-said.readOutcome head w L bytes p out) (stands-behind position used (omega arith)) ∙ sym (costs-places.read-rest head w L bytes (position / 8 + used) out h)
+
+pub next-links : (head w L : ℕ) (bytes : List ℕ) (position used : ℕ) (f v : List ℕ) → position / 8 + used ≤ length bytes → length bytes < 2305843009213693952
+    → links-said.readOutcome head w L bytes (behind position used) f v ≡ links-said.readOutcome head w L (drop (position / 8 + used) bytes) 0 f v
+next-links head w L bytes position used f v h k =
+    ap (λ (p : ℕ). links-said.readOutcome head w L bytes p f v) (stands-behind position used (omega arith)) ∙ sym (links-places.read-rest head w L bytes (position / 8 + used) f v h)
+
+-- at the largest position nothing is read, however many bytes are lent
+pub largest-costs : (head w L : ℕ) (bytes : List ℕ) (room : ℕ) → costs-checks.readAtChecks head w L bytes 18446744073709551615 room ≡ Refused (refusal 9 0 0 0 0)
+largest-costs head w L bytes room = cases (ltb (length bytes) (18446744073709551615 / 8)) (λ e. rw e) (λ e. rw e)
+
+pub largest-links : (head w L : ℕ) (bytes : List ℕ) (room : ℕ) → links-checks.readAtChecks head w L bytes 18446744073709551615 room ≡ Refused (refusal 9 0 0 0 0)
+largest-links head w L bytes room = cases (ltb (length bytes) (18446744073709551615 / 8)) (λ e. rw e) (λ e. rw e)
 
 -- no second answer, and no second content of the lent places, meets a promise
 pub costs-only : {o : Outcome StoredCosts} {position : ℕ} {a b : CostsTaken} {l m : List ℕ} → CostsLeft o position a l → CostsLeft o position b m → (a ≡ b) × (l ≡ m)

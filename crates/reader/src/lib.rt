@@ -31,6 +31,17 @@ pub struct LinksTaken {
     pub position: usize,
 }
 
+// What reading two cost tables one after the other answers: n of the first and of the second and the bytes used by both, or the
+// refusal with the table's number.
+pub enum TwoCosts {
+    Tables {
+        first: usize,
+        second: usize,
+        used: usize,
+    },
+    Refused(usize, Refusal),
+}
+
 // The bit at which the byte behind a table of so many bytes begins. Where that number has no room it is the last one that has,
 // which is inside a byte, so that nothing is read there.
 fn behind(position: usize, used: usize) -> usize
@@ -104,17 +115,6 @@ pub fn take_links<'a, 'b, 'c>(
     ensures { λ r. ⌜ LinksLeft (links.readOutcome 0 21 limit (now (reader .entry .bytes)) (reader .entry .position) (now (fars .entry)) (now (costs .entry))) (reader .entry .position) r (now (fars .exit)) (now (costs .exit)) ⌝ }
 {
     links_at(reader.bytes, reader.position, fars, costs)
-}
-
-// What reading two cost tables one after the other answers: n of the first and of the second and the bytes used by both, or the
-// refusal with the table's number.
-pub enum TwoCosts {
-    Tables {
-        first: usize,
-        second: usize,
-        used: usize,
-    },
-    Refused(usize, Refusal),
 }
 
 // The second table, and once it is accepted the first too. The part of the lent bytes behind the first table is handed to the same
