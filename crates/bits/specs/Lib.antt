@@ -4,3 +4,5 @@ pub mod Forms
 -- What is true of them.
 pub mod Listed
 pub mod Laws
+-- The checks of stored bytes that both stored tables begin and end with.
+pub mod Kinds

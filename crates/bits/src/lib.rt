@@ -2,6 +2,7 @@
 ghost use mathlib.Core.Path.{_≡_};
 ghost use Prim.Native.Nat.{_*_, _+_, _/_, _%_, _^_, _<_, _≤_};
 ghost use lib.ListN.{length};
+ghost use Rattle.bits.specs.Kinds.{misplaced};
 ghost use Rattle.bits.specs.Bits.{bits, bitsOf, FieldWithin, overAt, part, Turn, valueOf};
 
 // The byte as a number of 64 bits.
@@ -92,4 +93,14 @@ pub fn put(bytes: &mut [u8], position: usize, width: usize, value: u64)
         bytes[q] = byte_with(b, offset, s, v);
         done += s;
     }
+}
+
+// Whether the position is past the end of so many bytes, or not at the start of a byte.
+pub fn is_misplaced(bytes: usize, position: usize) -> bool
+    ensures { λ r. ⌜ r ≡ misplaced bytes position ⌝ }
+{
+    if bytes < position / 8 {
+        return true;
+    }
+    0 < position % 8
 }

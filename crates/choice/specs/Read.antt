@@ -10,13 +10,14 @@ use Rattle.ground.specs.Ascending.{Between}
 use Rattle.ground.specs.declared.Check.{Check}
 use Rattle.ground.specs.declared.Check.the-variants.{Passed, Refused}
 use Rattle.ground.specs.declared.Refusal.{Refusal}
+use Rattle.ground.specs.Outcomes.{frontIf}
 use Rattle.theory.specs.Laws.Paths.{rowsOf-fars}
 use Rattle.bits.specs.Listed.{length-listed}
 use Rattle.choice.specs.Call.{sidesOf}
 use Rattle.stored_links.specs.Laws.Outcomes.{front-taken, table-passed, table-refused}
 use Rattle.stored_links.specs.Laws.Passed.{Stored, head-passed, read-passed, room-goes}
 use Rattle.stored_links.specs.Laws.ReadAt.{read-enough}
-use Rattle.stored_links.specs.Outcomes.{Left, Outcome, frontIf, readOutcome, rowsIf, saidIf}
+use Rattle.stored_links.specs.Outcomes.{Left, Outcome, readOutcome, rowsIf, saidIf}
 use Rattle.stored_links.specs.Reading.{tableAtChecks, tableChecks}
 use Rattle.stored_links.specs.Said.{costOf, costsOf, countOf, farOf, farsOf, imagesOf, usedOf}
 use Rattle.stored_links.specs.declared.StoredLinks.{StoredLinks}

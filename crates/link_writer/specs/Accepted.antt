@@ -5,30 +5,20 @@ use Prim.Native.Nat.{ℕ, _*_, _-_, _≤_}
 use native.Mathlib.Omega.{arith}
 use lib.ListN.{length}
 use borrow.Author.Tests.{le-ltb}
-use Rattle.ground.specs.Refusals.{placesIf, then-passed}
+use Rattle.ground.specs.Refusals.{placesIf, roomCheck, then-passed}
 use Rattle.ground.specs.declared.Check.{Check}
 use Rattle.ground.specs.declared.Check.the-variants.{Passed, Refused}
 use Rattle.ground.specs.declared.Refusal.{Refusal}
 use Rattle.ground.specs.declared.Written.{Written}
 use Rattle.ground.specs.declared.Written.the-variants.{Places}
+use Rattle.ground.specs.Outcomes.{Left, Outcome}
 use Rattle.theory.specs.LinkTables.{LinkTable, rowsOf}
-use Rattle.link_writer.specs.Writing.{Left, Outcome, RoomFor, fitChecks, writeChecks}
+use Rattle.link_writer.specs.Writing.{RoomFor, fitChecks, writeChecks}
 use Rattle.links.specs.Checks.{rowChecks, sizeChecks}
 use Rattle.links.specs.LinkChecks.{Links, link-checks, row-checks, sizes-passed}
 use Rattle.stored_links.specs.Form.{linkUsed}
-use Rattle.stored_links.specs.Kinds.{roomCheck}
 use Rattle.stored_links.specs.Laws.Passed.{room-passed}
 use Rattle.ground.specs.declared.Written.the-variants as written
-
-pub places-stops : {x : Check} {r : Refusal} (y : Check) (used : ℕ) → x ≡ Refused r → x ≡ y → written.Refused r ≡ placesIf y used
-places-stops y used e f = rw (← f, e)
-
-pub places-goes : {x : Check} {m : ℕ} (y : Check) (used : ℕ) → x ≡ Passed → x ≡ y → m ≡ used → Places m ≡ placesIf y used
-places-goes y used e f g = rw (← f, e, g)
-
--- the promise of the writer decides its answer and what it leaves
-pub left-once : {o : Outcome} {a b : Written} {l m : List ℕ} → Left o a l → Left o b m → (a ≡ b) × (l ≡ m)
-left-once p q = (p .answered ∙ sym (q .answered), p .left ∙ sym (q .left))
 
 -- what passes the last three checks, where the rows are as many as counted
 pub fit-passed : (head w L n : ℕ) (l v : List ℕ) (room : ℕ) → length l ≡ length v → fitChecks head w L n l v room ≡ Passed

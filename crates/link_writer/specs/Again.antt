@@ -5,10 +5,12 @@ use Prim.Native.Nat.{ℕ, _/_, _≤_}
 use native.Mathlib.Omega.{arith}
 use lib.ListN.{drop, length, take}
 use Rattle.ground.specs.Buffers.{front}
+use Rattle.ground.specs.declared.Written.{Written}
 use Rattle.ground.specs.declared.Written.the-variants.{Places}
+use Rattle.ground.specs.Outcomes.{Outcome}
 use Rattle.bits.specs.Bits.{AllBytes}
 use Rattle.link_writer.specs.Accepted.{passed-write}
-use Rattle.link_writer.specs.Writing.{Outcome, writeOutcome}
+use Rattle.link_writer.specs.Writing.{writeOutcome}
 use Rattle.links.specs.LinkChecks.{Links}
 use Rattle.stored_links.specs.Form.{linkBytes, linkUsed}
 use Rattle.stored_links.specs.Laws.Positions.{TableAt}
@@ -17,8 +19,8 @@ use Rattle.stored_links.specs.Laws.WriteBack.{read-links}
 use Rattle.stored_links.specs.Said.{costsOf, farsOf, markOf}
 
 -- an accepted writing of the bytes m into the lent ones
-abbrev pub wroteInto : ℕ → List ℕ → List ℕ → Outcome
-wroteInto used m out = record { answer = Places used; bytes = front m out }
+abbrev pub wroteInto : ℕ → List ℕ → List ℕ → Outcome Written
+wroteInto used m out = record { answer = Places used; places = front m out }
 
 module _ (head w L : ℕ) where
   -- a link table is written where there is room for it

@@ -6,11 +6,13 @@ use native.Mathlib.Omega.{arith}
 use lib.ListN.{drop, length, length-append, take}
 use Rattle.ground.specs.declared.Check.the-variants.{Refused}
 use Rattle.ground.specs.declared.Refusal.{Refusal}
+use Rattle.ground.specs.declared.Written.{Written}
 use Rattle.ground.specs.declared.Written.the-variants.{Places}
+use Rattle.ground.specs.Outcomes.{Outcome}
 use Rattle.theory.specs.Tables.{limit}
 use Rattle.bits.specs.Bits.{AllBytes, part, valueOf}
 use Rattle.link_writer.specs.Again.{read-again, written-is, wroteInto}
-use Rattle.link_writer.specs.Writing.{Outcome, writeChecks, writeOutcome}
+use Rattle.link_writer.specs.Writing.{writeChecks, writeOutcome}
 use Rattle.links.specs.LinkChecks.{Links}
 use Rattle.stored_links.specs.Form.{linkBytes, linkUsed}
 use Rattle.stored_links.specs.Laws.Form.{length-links}
@@ -31,12 +33,12 @@ fits = omega arith
 -- Reading what was written gives the table back: the rows, their count, and the bytes used.
 pub reading-undoes-writing : (n N : ℕ) (l v out f u : List ℕ) → Links limit n N l v → linkUsed 0 21 n N ≤ length out → 2 * n - 3 ≤ length f → 2 * n - 3 ≤ length u
     → (writeOutcome 0 0 21 limit n N l v out .answer ≡ Places (linkUsed 0 21 n N))
-    × (readOutcome 0 21 limit (writeOutcome 0 0 21 limit n N l v out .bytes) 0 f u ≡ readInto n N (linkUsed 0 21 n N) l v f u)
+    × (readOutcome 0 21 limit (writeOutcome 0 0 21 limit n N l v out .places) 0 f u ≡ readInto n N (linkUsed 0 21 n N) l v f u)
 reading-undoes-writing n N l v out f u t h i j =
     let w = written-is 0 21 limit 0 n N l v out t h in
     let m = linkBytes 0 0 21 n l v in (
-      ap (λ (o : Outcome). o .answer) w,
-      ap (λ (o : Outcome). readOutcome 0 21 limit (o .bytes) 0 f u) w ∙ written-at 0 21 limit 0 n N l v [] (drop (length m) out) f u t fits i j,
+      ap (λ (o : Outcome Written). o .answer) w,
+      ap (λ (o : Outcome Written). readOutcome 0 21 limit (o .places) 0 f u) w ∙ written-at 0 21 limit 0 n N l v [] (drop (length m) out) f u t fits i j,
     )
 
 -- Writing what was read gives the same used bytes.
@@ -81,7 +83,7 @@ one-after-another m n M N k x l y behind f u s t h i g j =
 
 -- Refused, no lent place is altered.
 pub refused-writing : (n N : ℕ) (l v out : List ℕ) (r : Refusal) → writeChecks 0 21 limit n N l v (length out) ≡ Refused r
-    → writeOutcome 0 0 21 limit n N l v out ≡ record { answer = written.Refused r; bytes = out }
+    → writeOutcome 0 0 21 limit n N l v out ≡ record { answer = written.Refused r; places = out }
 refused-writing n N l v out r e = rw e
 
 pub refused-reading : (bytes : List ℕ) (position : ℕ) (f u : List ℕ) (r : Refusal) → readAtChecks 0 21 limit bytes position (min (length f) (length u)) ≡ Refused r

@@ -6,12 +6,13 @@ ghost use mathlib.Core.Path.{_≡_};
 ghost use Prim.Native.Nat.{_*_, _+_, _≤_};
 ghost use lib.ListN.{getD, length};
 ghost use Rattle.ground.specs.Buffers.{front};
+ghost use Rattle.ground.specs.Outcomes.{Left};
 ghost use Rattle.theory.specs.Tables.{limit};
 ghost use Rattle.bits.specs.Bits.{bits, overAt};
 ghost use Rattle.bits.specs.Forms.{formBits};
 ghost use Rattle.stored_links.specs.Form.{linkBytes, linkUsed, rowFields, rowsTo, rowWidth};
 ghost use Rattle.stored_links.specs.Sizes.{Held, Small};
-ghost use Rattle.link_writer.specs.Writing.{Left, RoomFor, fitChecks, writeChecks, writeOutcome};
+ghost use Rattle.link_writer.specs.Writing.{RoomFor, fitChecks, writeChecks, writeOutcome};
 
 // One row from the position on: images n down to 2 are half the far side, and the cost stands behind them.
 fn put_row(position: usize, w: usize, n: usize, s: u64, c: u32, out: &mut [u8])

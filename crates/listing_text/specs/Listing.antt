@@ -7,6 +7,7 @@ use Rattle.ground.specs.Buffers.{front}
 use Rattle.ground.specs.Refusals.{_then_}
 use Rattle.ground.specs.declared.Check.{Check}
 use Rattle.ground.specs.declared.Check.the-variants.{Passed, Refused}
+use Rattle.bits.specs.Kinds.{endCheck}
 use Rattle.theory.specs.LinkTables.{Row, costs, fars}
 use Rattle.theory.specs.Readings.{measured}
 use Rattle.theory.specs.Routes.{uppers}
@@ -17,7 +18,7 @@ use Rattle.order.specs.Outcome.{images}
 use Rattle.bits.specs.Forms.{bytesFor}
 use Rattle.stored_costs.specs.Entries.{costOf}
 use Rattle.stored_costs.specs.Form.{costsOf, entryOf, imagesOf}
-use Rattle.stored_costs.specs.Reading.{bodyChecks, endCheck, storedCheck}
+use Rattle.stored_costs.specs.Reading.{bodyChecks, storedCheck}
 use Rattle.listing_text.specs.Lines.{header, orderLine, refusedLine, rowLines}
 
 -- room for every listing

@@ -12,6 +12,7 @@ use Rattle.ground.specs.declared.Check.{Check}
 use Rattle.ground.specs.declared.Check.the-variants.{Passed, Refused}
 use Rattle.ground.specs.declared.Refusal.{Refusal}
 use Rattle.ground.specs.Outcomes.{Left}
+use Rattle.bits.specs.Kinds.{endCheck}
 use Rattle.theory.specs.Tables.{CostTable, cost, limit}
 use Rattle.theory.specs.Checks.{imagesCheck}
 use Rattle.bits.specs.Forms.{bytesFor}
@@ -21,7 +22,7 @@ use Rattle.stored_costs.specs.Laws.Passed.{judged-refused, table-at}
 use Rattle.stored_costs.specs.Laws.Sizes.{square-le}
 use Rattle.stored_costs.specs.Laws.Tables.{length-table, table-formed}
 use Rattle.stored_costs.specs.Outcomes.{readOutcome}
-use Rattle.stored_costs.specs.Reading.{bodyChecks, endCheck, readAtChecks, storedCheck}
+use Rattle.stored_costs.specs.Reading.{bodyChecks, readAtChecks, storedCheck}
 use Rattle.stored_costs.specs.declared.StoredCosts.the-variants.{Table}
 use Rattle.stored_costs.specs.declared.StoredCosts.the-variants as stored
 use Rattle.listing_text.specs.Lines.{refusedLine}

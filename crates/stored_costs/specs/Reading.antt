@@ -1,37 +1,20 @@
 -- Reading a stored cost table: the checks in document 01's order. Assumes nothing.
-use mathlib.Core.Bool.{Bool, _||_}
 use mathlib.Core.List.{List}
-use Prim.Native.Nat.{ℕ, _%_, _*_, _+_, _-_, _/_}
-use lib.Dec.{ltb}
-use lib.ListN.{drop, length}
+use Prim.Native.Nat.{ℕ, _*_, _+_, _-_, _/_}
+use lib.ListN.{drop}
 use Rattle.ground.specs.Lowest.{checkAll}
-use Rattle.ground.specs.Refusals.{refusal, refuseIf, roomCheck, _then_}
+use Rattle.ground.specs.Refusals.{roomCheck, _then_}
 use Rattle.ground.specs.declared.Check.{Check}
 use Rattle.theory.specs.Checks.{imagesCheck}
 use Rattle.tables.specs.Checks.{entryCheck}
 use Rattle.bits.specs.Forms.{bytesFor}
+use Rattle.bits.specs.Kinds.{endCheck, fillCheck, positionCheck}
 use Rattle.stored_costs.specs.Entries.{costOf}
 use Rattle.stored_costs.specs.Form.{costUsed, entryOf, fillOf, imagesOf}
-
--- 9: stored bytes end early, of which so many are needed
-abbrev pub endCheck : List ℕ → ℕ → Check
-endCheck s needed = refuseIf (ltb (length s) needed) (refusal 9 0 0 0 0)
-
--- 11: fill bits not zero
-abbrev pub fillCheck : ℕ → Check
-fillCheck fill = refuseIf (ltb 0 fill) (refusal 11 0 0 0 0)
 
 -- 4: an entry above the limit, at the lowest row and column with row below column
 abbrev pub storedCheck : ℕ → (ℕ → ℕ → ℕ) → ℕ → Check
 storedCheck L d n = checkAll (λ i. checkAll (entryCheck L d i) (i + 1) (n - (i + 1))) 0 n
-
--- 9: a position past the end of so many bytes, or not at the start of a byte
-abbrev pub misplaced : ℕ → ℕ → Bool
-misplaced bytes position = ltb bytes (position / 8) || ltb 0 (position % 8)
-
--- refused with 9 there
-abbrev pub positionCheck : List ℕ → ℕ → Check
-positionCheck bytes position = refuseIf (misplaced (length bytes) position) (refusal 9 0 0 0 0)
 
 -- ## In order
 

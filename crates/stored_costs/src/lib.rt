@@ -16,7 +16,7 @@ ghost use Rattle.bits.specs.Forms.{bytesFor, fieldsOf, formBits};
 ghost use Rattle.stored_costs.specs.Entries.{costOf, entries, entryCount, rowEntries, rowStart};
 ghost use Rattle.stored_costs.specs.Form.{costBytes, costEnd, costsOf, costUsed, entryOf, imagesOf};
 ghost use Rattle.stored_costs.specs.Outcomes.{judged, readOutcome};
-ghost use Rattle.stored_costs.specs.Reading.{bodyChecks, misplaced, readAtChecks, readChecks, startChecks, storedCheck};
+ghost use Rattle.stored_costs.specs.Reading.{bodyChecks, readAtChecks, readChecks, startChecks, storedCheck};
 ghost use Rattle.stored_costs.specs.Sizes.{Held, Small, Span};
 ghost use Rattle.stored_costs.specs.Writing.{writeChecks, writeOutcome};
 
@@ -173,22 +173,12 @@ fn check_stored(head: usize, w: usize, limit: u32, bytes: &[u8], room: usize) ->
     check_entries(head, w, limit, n, bytes)
 }
 
-// Whether the position is past the end of so many bytes, or not at the start of a byte.
-fn is_misplaced(bytes: usize, position: usize) -> bool
-    ensures { λ r. ⌜ r ≡ misplaced bytes position ⌝ }
-{
-    if bytes < position / 8 {
-        return true;
-    }
-    0 < position % 8
-}
-
 // All checks at a position: the rest of the bytes from there on is looked at as one begins.
 fn check_at(head: usize, w: usize, limit: u32, bytes: &[u8], position: usize, room: usize) -> Check
     requires { ⌜ (head ≤ 7) × (w ≤ 32) ⌝ }
     ensures { λ r. ⌜ r ≡ readAtChecks head w limit (now (bytes .entry)) position room ⌝ }
 {
-    let c = ground::refuse_if(is_misplaced(bytes.len(), position), 9, 0, 0);
+    let c = ground::refuse_if(bits::is_misplaced(bytes.len(), position), 9, 0, 0);
     let Check::Passed = c else {
         return c;
     };

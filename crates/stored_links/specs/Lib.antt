@@ -2,7 +2,6 @@
 pub mod Form
 pub mod Said
 pub mod Sizes
-pub mod Kinds
 pub mod Reading
 pub mod Outcomes
 -- What is true of them.

@@ -3,7 +3,7 @@ use mathlib.Core.List.{List}
 use mathlib.Core.Path.{_≡_}
 use Prim.Native.Nat.{min, ℕ, _/_}
 use lib.ListN.{drop, length}
-use Rattle.ground.specs.Buffers.{front}
+use Rattle.ground.specs.Outcomes.{frontIf}
 use Rattle.ground.specs.declared.Check.{Check}
 use Rattle.ground.specs.declared.Check.the-variants.{Passed, Refused}
 use Rattle.stored_links.specs.Reading.{readAtChecks, tableAtChecks}
@@ -23,11 +23,6 @@ pub record Left (o : Outcome) (r : StoredLinks) (f v : List ℕ) : Type 0 where
   pub answered : r ≡ o .answer
   pub far-sides : f ≡ o .far-list
   pub doubled : v ≡ o .cost-list
-
--- m at the front of the lent places d where the check passed; where it refused they are as they were
-abbrev pub frontIf : Check → List ℕ → List ℕ → List ℕ
-frontIf Passed m d = front m d
-frontIf (Refused r) m d = d
 
 -- n, the row count and the bytes used where the check passed
 abbrev pub tableIf : Check → ℕ → ℕ → ℕ → StoredLinks

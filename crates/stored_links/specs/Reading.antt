@@ -2,12 +2,12 @@
 use mathlib.Core.List.{List}
 use Prim.Native.Nat.{ℕ, _*_, _+_, _-_, _/_}
 use lib.ListN.{drop}
-use Rattle.ground.specs.Refusals.{_then_}
+use Rattle.ground.specs.Refusals.{roomCheck, _then_}
 use Rattle.ground.specs.declared.Check.{Check}
+use Rattle.bits.specs.Kinds.{endCheck, fillCheck, positionCheck}
 use Rattle.bits.specs.Forms.{bytesFor}
 use Rattle.links.specs.Checks.{countChecks, rowChecks}
 use Rattle.stored_links.specs.Form.{linkUsed}
-use Rattle.stored_links.specs.Kinds.{endCheck, fillCheck, positionCheck, roomCheck}
 use Rattle.stored_links.specs.Said.{costsOf, countOf, farsOf, fillOf, imagesOf}
 
 -- 9, 1, 10

@@ -14,7 +14,6 @@ ghost use Rattle.bits.specs.Forms.{bytesFor};
 ghost use Rattle.stored_links.specs.Form.{rowAt};
 ghost use Rattle.stored_links.specs.Said.{costsOf, countOf, farsOf, imagesOf};
 ghost use Rattle.stored_links.specs.Outcomes.{Left, judged, judgedTable, readOutcome, saidIf};
-ghost use Rattle.stored_links.specs.Kinds.{misplaced};
 ghost use Rattle.stored_links.specs.Reading.{bodyChecks, headChecks, readAtChecks, readChecks};
 ghost use Rattle.stored_links.specs.Sizes.{Held, Small};
 
@@ -154,22 +153,12 @@ fn check_stored(head: usize, w: usize, limit: u32, bytes: &[u8], room: usize) ->
     check_body(head, w, limit, n, row_count(head, bytes), bytes)
 }
 
-// Whether the position is past the end of so many bytes, or not at the start of a byte.
-fn is_misplaced(bytes: usize, position: usize) -> bool
-    ensures { λ r. ⌜ r ≡ misplaced bytes position ⌝ }
-{
-    if bytes < position / 8 {
-        return true;
-    }
-    0 < position % 8
-}
-
 // All checks at a position: the rest of the bytes from there on is looked at as one begins.
 fn check_at(head: usize, w: usize, limit: u32, bytes: &[u8], position: usize, room: usize) -> Check
     requires { ⌜ (head ≤ 7) × (w ≤ 32) ⌝ }
     ensures { λ r. ⌜ r ≡ readAtChecks head w limit (now (bytes .entry)) position room ⌝ }
 {
-    let c = ground::refuse_if(is_misplaced(bytes.len(), position), 9, 0, 0);
+    let c = ground::refuse_if(bits::is_misplaced(bytes.len(), position), 9, 0, 0);
     let Check::Passed = c else {
         return c;
     };

@@ -3,9 +3,9 @@ use mathlib.Core.Path.{sym, _∙_, _≡_}
 use native.Mathlib.Omega.{arith}
 use lib.ListN.{length}
 use Rattle.theory.specs.Tables.{limit}
-use Rattle.stored_links.specs.Laws.Outcomes.{front-goes, front-stops}
-use Rattle.link_writer.specs.Accepted.{passed-room, places-goes, places-stops}
+use Rattle.link_writer.specs.Accepted.{passed-room}
 use borrow.Author.Needs.{needs}
+use Rattle.ground.specs.Outcomes.{front-goes, front-stops, places-goes, places-stops}
 use Rattle.link_writer.proofs.write_links.Statement.{statement}
 use Rattle.link_writer.proofs.write_links.Tie as tie
 

@@ -12,6 +12,7 @@ use Rattle.ground.specs.Tests.{or-false}
 use Rattle.ground.specs.declared.Check.{Check}
 use Rattle.ground.specs.declared.Check.the-variants.{Passed, Refused}
 use Rattle.ground.specs.declared.Refusal.{Refusal}
+use Rattle.bits.specs.Kinds.{endCheck, fillCheck, misplaced, positionCheck}
 use Rattle.theory.specs.Checks.{images-passed, imagesCheck}
 use Rattle.tables.specs.Checks.{entryCheck}
 use Rattle.bits.specs.Forms.{bytesFor}
@@ -19,7 +20,7 @@ use Rattle.stored_costs.specs.Entries.{costOf, entryNumber}
 use Rattle.stored_costs.specs.Form.{costUsed, entryOf, fillOf, imagesOf}
 use Rattle.stored_costs.specs.Laws.Tables.{cost-of-up}
 use Rattle.stored_costs.specs.Outcomes.{judged, tableIf}
-use Rattle.stored_costs.specs.Reading.{bodyChecks, endCheck, fillCheck, misplaced, positionCheck, readAtChecks, readChecks, startChecks, storedCheck}
+use Rattle.stored_costs.specs.Reading.{bodyChecks, readAtChecks, readChecks, startChecks, storedCheck}
 use Rattle.stored_costs.specs.Sizes.{Held}
 use Rattle.stored_costs.specs.declared.StoredCosts.the-variants.{Table}
 use Rattle.stored_costs.specs.declared.StoredCosts.the-variants as stored

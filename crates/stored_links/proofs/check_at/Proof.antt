@@ -7,8 +7,8 @@ use borrow.Author.Tests.{ltb-false}
 use Rattle.ground.specs.Buffers.{rest-part}
 use Rattle.ground.specs.Refusals.{refuseIf-passed, then-goes, then-stops}
 use Rattle.ground.specs.Tests.{or-false}
-use Rattle.stored_links.specs.Kinds.{misplaced}
 use borrow.Author.Needs.{needs}
+use Rattle.bits.specs.Kinds.{misplaced}
 use Rattle.stored_links.proofs.check_at.Statement.{statement}
 use Rattle.stored_links.proofs.check_at.Tie as tie
 

@@ -9,7 +9,8 @@ use Rattle.ground.specs.Buffers.{front}
 use Rattle.ground.specs.declared.Check.{Check}
 use Rattle.ground.specs.declared.Check.the-variants.{Passed, Refused}
 use Rattle.ground.specs.declared.Refusal.{Refusal}
-use Rattle.stored_links.specs.Outcomes.{Left, Outcome, frontIf, rowsIf, tableIf}
+use Rattle.ground.specs.Outcomes.{frontIf}
+use Rattle.stored_links.specs.Outcomes.{Left, Outcome, rowsIf, tableIf}
 use Rattle.stored_links.specs.declared.StoredLinks.{StoredLinks}
 use Rattle.stored_links.specs.declared.StoredLinks.the-variants.{Table}
 use Rattle.stored_links.specs.declared.StoredLinks.the-variants as stored
@@ -20,13 +21,6 @@ table-stops y n N used e f = rw (← f, e)
 pub table-goes : {x : Check} {a : StoredLinks} (y : Check) (n N used : ℕ) → x ≡ Passed → x ≡ y → a ≡ Table n N used → a ≡ tableIf y n N used
 table-goes y n N used e f g = rw (← f, e) g
 
-pub front-stops : (y : Check) {r : Refusal} (m d : List ℕ) → y ≡ Refused r → d ≡ frontIf y m d
-front-stops y m d e = rw e
-
-pub front-goes : (y : Check) (m d e : List ℕ) → y ≡ Passed → e ≡ front m d → e ≡ frontIf y m d
-front-goes y m d e p q = rw p q
-
--- an answer that is a table says which, and that all checks passed
 pub table-passed : (c : Check) (m M v n N used : ℕ) → tableIf c m M v ≡ Table n N used → (c ≡ Passed) × (m ≡ n) × (M ≡ N) × (v ≡ used)
 table-passed Passed m M v n N used e = (refl, cc e, cc e, cc e)
 table-passed (Refused r) m M v n N used e = absurd (let q : _≡_ {A = ℕ} 0 1 = cc in omega arith)

@@ -11,8 +11,8 @@ use Rattle.ground.specs.Tests.{or-false}
 use Rattle.ground.specs.declared.Check.{Check}
 use Rattle.ground.specs.declared.Check.the-variants.{Passed, Refused}
 use Rattle.ground.specs.declared.Refusal.{Refusal}
+use Rattle.bits.specs.Kinds.{misplaced, positionCheck}
 use Rattle.stored_links.specs.Form.{linkUsed}
-use Rattle.stored_links.specs.Kinds.{misplaced, positionCheck}
 use Rattle.stored_links.specs.Laws.Outcomes.{table-passed, table-refused}
 use Rattle.stored_links.specs.Laws.Passed.{Stored, head-passed, passed-read, read-passed, room-goes}
 use Rattle.stored_links.specs.Outcomes.{judged, judgedTable, saidIf}

@@ -11,10 +11,6 @@ use Rattle.ground.specs.declared.Check.{Check}
 abbrev pub endCheck : List ℕ → ℕ → Check
 endCheck s needed = refuseIf (ltb (length s) needed) (refusal 9 0 0 0 0)
 
--- 3: too little room for so many places
-abbrev pub roomCheck : ℕ → ℕ → Check
-roomCheck needed room = refuseIf (ltb room needed) (refusal 3 0 0 0 0)
-
 -- 11: fill bits not zero
 abbrev pub fillCheck : ℕ → Check
 fillCheck fill = refuseIf (ltb 0 fill) (refusal 11 0 0 0 0)

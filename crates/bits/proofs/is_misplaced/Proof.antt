@@ -1,7 +1,7 @@
--- `stored_costs::is_misplaced` meets its contract: each return rewrites with the tests that led there. Assumes nothing.
+-- `bits::is_misplaced` meets its contract: each return rewrites with the tests that led there. Assumes nothing.
 use borrow.Author.Tests.{le-ltb, lt-ltb}
-use Rattle.stored_costs.proofs.is_misplaced.Statement.{statement}
-use Rattle.stored_costs.proofs.is_misplaced.Tie as tie
+use Rattle.bits.proofs.is_misplaced.Statement.{statement}
+use Rattle.bits.proofs.is_misplaced.Tie as tie
 
 returns : tie.Need-returns
 returns c = rw (lt-ltb _ _ (c .if1 .taken))
