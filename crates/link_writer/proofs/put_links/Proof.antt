@@ -1,0 +1,25 @@
+-- `link_writer::put_links` meets its contract: the form is put, and its bytes are counted. Assumes nothing.
+use borrow.Author.Needs.{needs}
+use Rattle.link_writer.proofs.put_links.Statement.{statement}
+use Rattle.link_writer.proofs.put_links.Tie as tie
+
+put-form-requires : tie.Need-put-form-requires
+put-form-requires c κs = search needs
+
+links-used-requires : tie.Need-links-used-requires
+links-used-requires c κs = search needs
+
+same-length : tie.Need-same-length
+same-length c = search needs
+
+returns : tie.Need-returns
+returns c = (c .links-used .ensures, c .before .before .before .put-form .ensures)
+
+pub put-links-spec : {M : Type 1} → statement M
+put-links-spec =
+    tie.close
+    (tie.spec
+    put-form-requires
+    links-used-requires
+    same-length
+    returns)

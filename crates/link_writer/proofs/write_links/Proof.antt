@@ -1,0 +1,56 @@
+-- `link_writer::write_links` meets its contract: the form is put once all checks passed. Assumes nothing.
+use mathlib.Core.Path.{sym, _∙_, _≡_}
+use native.Mathlib.Omega.{arith}
+use lib.ListN.{length}
+use Rattle.theory.specs.Tables.{limit}
+use Rattle.stored_links.specs.Laws.Outcomes.{front-goes, front-stops}
+use Rattle.link_writer.specs.Accepted.{passed-room, places-goes, places-stops}
+use borrow.Author.Needs.{needs}
+use Rattle.link_writer.proofs.write_links.Statement.{statement}
+use Rattle.link_writer.proofs.write_links.Tie as tie
+
+check-write-requires : tie.Need-check-write-requires
+check-write-requires c κs = search needs
+
+enum-known-r : tie.Need-enum-known-r
+enum-known-r c = search needs
+
+enum-told : tie.Need-enum-told
+enum-told c = search needs
+
+put-links-requires : tie.Need-put-links-requires
+put-links-requires c κs =
+    let d = c .before in
+    let k = d .before .before in
+    let a = k .before .before .before .before .args in
+    passed-room 0 21 limit (a .n) (a .count) (a .fars .now) (a .costs .now) (length (a .out .now)) (omega arith) (omega arith) (sym (k .check-write .ensures) ∙ d .enum-told .given .1)
+
+returns : tie.Need-returns
+returns c =
+    let k = c .before .before .before .check-write in
+    record { answered = places-stops _ _ (c .before .r .given .1) (k .ensures); left = front-stops _ _ _ (sym (k .ensures) ∙ c .before .r .given .1) }
+
+same-length : tie.Need-same-length
+same-length c = search needs
+
+returns-2 : tie.Need-returns-2
+returns-2 c =
+    let p = c .before .before in
+    let d = p .before .before in
+    let k = d .before .before .check-write in
+    record {
+      answered = places-goes _ _ (d .enum-told .given .1) (k .ensures) (p .put-links .ensures .0);
+      left = front-goes _ _ _ _ (sym (k .ensures) ∙ d .enum-told .given .1) (p .put-links .ensures .1);
+    }
+
+pub write-links-spec : {M : Type 1} → statement M
+write-links-spec =
+    tie.close
+    (tie.spec
+    check-write-requires
+    enum-known-r
+    enum-told
+    put-links-requires
+    returns
+    same-length
+    returns-2)

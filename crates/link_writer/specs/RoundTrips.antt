@@ -1,0 +1,90 @@
+-- What document 01 says of stored link tables, in the words of the calls, for its own form. Assumes nothing.
+use mathlib.Core.List.{List, [], _++_}
+use mathlib.Core.Path.{ap, refl, sym, _∙_, _≡_}
+use Prim.Native.Nat.{min, ℕ, _*_, _-_, _/_, _<_, _^_, _≤_}
+use native.Mathlib.Omega.{arith}
+use lib.ListN.{drop, length, length-append, take}
+use Rattle.ground.specs.declared.Check.the-variants.{Refused}
+use Rattle.ground.specs.declared.Refusal.{Refusal}
+use Rattle.ground.specs.declared.Written.the-variants.{Places}
+use Rattle.theory.specs.Tables.{limit}
+use Rattle.bits.specs.Bits.{AllBytes, part, valueOf}
+use Rattle.bits.specs.Laws.Written.{written}
+use Rattle.link_writer.specs.Again.{read-again, written-is, wroteInto}
+use Rattle.link_writer.specs.Writing.{Outcome, writeChecks, writeOutcome}
+use Rattle.links.specs.LinkChecks.{Links}
+use Rattle.stored_links.specs.Form.{linkBytes, linkUsed}
+use Rattle.stored_links.specs.Laws.Form.{length-links}
+use Rattle.stored_links.specs.Laws.Outcomes.{refused-alters-nothing}
+use Rattle.stored_links.specs.Laws.Positions.{table-at}
+use Rattle.stored_links.specs.Laws.ReadAt.{read-rest, readInto, same-bytes, written-at}
+use Rattle.stored_links.specs.Laws.WriteBack.{read-links}
+use Rattle.stored_links.specs.Outcomes.{judged, readOutcome}
+use Rattle.stored_links.specs.Reading.{readAtChecks}
+use Rattle.stored_links.specs.Said.{costsOf, farsOf}
+use Rattle.stored_links.specs.declared.StoredLinks.the-variants.{Table}
+use Rattle.ground.specs.declared.Written.the-variants as written
+use Rattle.stored_links.specs.declared.StoredLinks.the-variants as stored
+
+fits : 2 * limit < 2 ^ 21
+fits = omega arith
+
+-- Reading what was written gives the table back: the rows, their count, and the bytes used.
+pub reading-undoes-writing : (n N : ℕ) (l v out f u : List ℕ) → Links limit n N l v → linkUsed 0 21 n N ≤ length out → 2 * n - 3 ≤ length f → 2 * n - 3 ≤ length u
+    → (writeOutcome 0 0 21 limit n N l v out .answer ≡ Places (linkUsed 0 21 n N))
+    × (readOutcome 0 21 limit (writeOutcome 0 0 21 limit n N l v out .bytes) 0 f u ≡ readInto n N (linkUsed 0 21 n N) l v f u)
+reading-undoes-writing n N l v out f u t h i j =
+    let w = written-is 0 21 limit 0 n N l v out t h in
+    let m = linkBytes 0 0 21 n l v in (
+      ap (λ (o : Outcome). o .answer) w,
+      ap (λ (o : Outcome). readOutcome 0 21 limit (o .bytes) 0 f u) w ∙ written-at 0 21 limit 0 n N l v [] (drop (length m) out) f u t fits i j,
+    )
+
+-- Writing what was read gives the same used bytes.
+pub writing-undoes-reading : (bytes : List ℕ) (position room n N used : ℕ) (out : List ℕ) → AllBytes bytes → judged 0 21 limit bytes position room ≡ Table n N used → used ≤ length out
+    → writeOutcome 0 0 21 limit n N (farsOf 0 21 n N (drop (position / 8) bytes)) (costsOf 0 21 n N (drop (position / 8) bytes)) out
+    ≡ wroteInto used (take used (drop (position / 8) bytes)) out
+unfolding part valueOf
+writing-undoes-reading bytes position room n N used out b e h = read-again 0 21 limit bytes position n N used out b (table-at 0 21 limit bytes position room n N used e .1) h
+
+-- What is read is a link table over n images with so many rows.
+pub reading-is-a-table : (bytes : List ℕ) (position room n N used : ℕ) → judged 0 21 limit bytes position room ≡ Table n N used
+    → Links limit n N (farsOf 0 21 n N (drop (position / 8) bytes)) (costsOf 0 21 n N (drop (position / 8) bytes))
+reading-is-a-table bytes position room n N used e =
+    read-links 0 21 limit n N (drop (position / 8) bytes) (table-at 0 21 limit bytes position room n N used e .1 .stored)
+
+-- One table has one stored form: what is read as the same table stands in the same bytes.
+pub one-stored-form : (a b : List ℕ) (p q r s n N i j : ℕ) → AllBytes a → AllBytes b
+    → judged 0 21 limit a p r ≡ Table n N i → judged 0 21 limit b q s ≡ Table n N j
+    → farsOf 0 21 n N (drop (p / 8) a) ≡ farsOf 0 21 n N (drop (q / 8) b) → costsOf 0 21 n N (drop (p / 8) a) ≡ costsOf 0 21 n N (drop (q / 8) b)
+    → take i (drop (p / 8) a) ≡ take j (drop (q / 8) b)
+unfolding part valueOf
+one-stored-form a b p q r s n N i j ha hb e f g h =
+    same-bytes 0 21 limit a b p q n N i j ha hb (table-at 0 21 limit a p r n N i e .1) (table-at 0 21 limit b q s n N j f .1) refl g h
+
+-- Two tables written one after another are read one after the other, the second from the byte where the first ended: at that position,
+-- or as the part of the bytes from there on.
+pub one-after-another : (m n M N : ℕ) (k x l y behind f u : List ℕ) → Links limit m M k x → Links limit n N l y
+    → 2 * m - 3 ≤ length f → 2 * m - 3 ≤ length u → 2 * n - 3 ≤ length f → 2 * n - 3 ≤ length u
+    → (readOutcome 0 21 limit (linkBytes 0 0 21 m k x ++ (linkBytes 0 0 21 n l y ++ behind)) 0 f u ≡ readInto m M (linkUsed 0 21 m M) k x f u)
+    × (readOutcome 0 21 limit (linkBytes 0 0 21 m k x ++ (linkBytes 0 0 21 n l y ++ behind)) (8 * linkUsed 0 21 m M) f u ≡ readInto n N (linkUsed 0 21 n N) l y f u)
+    × (readOutcome 0 21 limit (drop (linkUsed 0 21 m M) (linkBytes 0 0 21 m k x ++ (linkBytes 0 0 21 n l y ++ behind))) 0 f u ≡ readInto n N (linkUsed 0 21 n N) l y f u)
+one-after-another m n M N k x l y behind f u s t h i g j =
+    let a = linkBytes 0 0 21 m k x in
+    let b = linkBytes 0 0 21 n l y ++ behind in
+    let e : length a ≡ linkUsed 0 21 m M = length-links 0 0 21 m k x ∙ ap (linkUsed 0 21 m) (s .counted) in
+    let second : readOutcome 0 21 limit (a ++ b) (8 * linkUsed 0 21 m M) f u ≡ readInto n N (linkUsed 0 21 n N) l y f u =
+    ap (λ (z : ℕ). readOutcome 0 21 limit (a ++ b) (8 * z) f u) (sym e) ∙ written-at 0 21 limit 0 n N l y a behind f u t fits g j in (
+      written-at 0 21 limit 0 m M k x [] b f u s fits h i,
+      second,
+      read-rest 0 21 limit (a ++ b) (linkUsed 0 21 m M) f u (omega (arith, e, length-append a b)) ∙ second,
+    )
+
+-- Refused, no lent place is altered.
+pub refused-writing : (n N : ℕ) (l v out : List ℕ) (r : Refusal) → writeChecks 0 21 limit n N l v (length out) ≡ Refused r
+    → writeOutcome 0 0 21 limit n N l v out ≡ record { answer = written.Refused r; bytes = out }
+refused-writing n N l v out r e = rw e
+
+pub refused-reading : (bytes : List ℕ) (position : ℕ) (f u : List ℕ) (r : Refusal) → readAtChecks 0 21 limit bytes position (min (length f) (length u)) ≡ Refused r
+    → readOutcome 0 21 limit bytes position f u ≡ record { answer = stored.Refused r; far-list = f; cost-list = u }
+refused-reading bytes position f u r e = refused-alters-nothing 0 21 (drop (position / 8) bytes) f u e

@@ -1,0 +1,10 @@
+-- The laws, from one row up to what is read and what was written.
+pub mod Sizes
+pub mod Rows
+pub mod Form
+pub mod Passed
+pub mod Outcomes
+pub mod Positions
+pub mod ReadBack
+pub mod WriteBack
+pub mod ReadAt

@@ -1,0 +1,49 @@
+-- How code that stops at the first refusal meets an outcome, and that no second answer does. Assumes nothing.
+use mathlib.Core.List.{List}
+use mathlib.Core.Path.{ap, refl, sym, _∙_, _≡_}
+use Prim.Native.Nat.{ℕ}
+use native.Mathlib.Omega.{arith}
+use lib.ListN.{drop, length, take}
+use lib.Seq.{take-at}
+use Rattle.ground.specs.Buffers.{front}
+use Rattle.ground.specs.declared.Check.{Check}
+use Rattle.ground.specs.declared.Check.the-variants.{Passed, Refused}
+use Rattle.ground.specs.declared.Refusal.{Refusal}
+use Rattle.stored_links.specs.Outcomes.{Left, Outcome, frontIf, rowsIf, tableIf}
+use Rattle.stored_links.specs.declared.StoredLinks.{StoredLinks}
+use Rattle.stored_links.specs.declared.StoredLinks.the-variants.{Table}
+use Rattle.stored_links.specs.declared.StoredLinks.the-variants as stored
+
+pub table-stops : {x : Check} {r : Refusal} (y : Check) (n N used : ℕ) → x ≡ Refused r → x ≡ y → stored.Refused r ≡ tableIf y n N used
+table-stops y n N used e f = rw (← f, e)
+
+pub table-goes : {x : Check} {a : StoredLinks} (y : Check) (n N used : ℕ) → x ≡ Passed → x ≡ y → a ≡ Table n N used → a ≡ tableIf y n N used
+table-goes y n N used e f g = rw (← f, e) g
+
+pub front-stops : (y : Check) {r : Refusal} (m d : List ℕ) → y ≡ Refused r → d ≡ frontIf y m d
+front-stops y m d e = rw e
+
+pub front-goes : (y : Check) (m d e : List ℕ) → y ≡ Passed → e ≡ front m d → e ≡ frontIf y m d
+front-goes y m d e p q = rw p q
+
+-- an answer that is a table says which, and that all checks passed
+pub table-passed : (c : Check) (m M v n N used : ℕ) → tableIf c m M v ≡ Table n N used → (c ≡ Passed) × (m ≡ n) × (M ≡ N) × (v ≡ used)
+table-passed Passed m M v n N used e = (refl, cc e, cc e, cc e)
+table-passed (Refused r) m M v n N used e = absurd (let q : _≡_ {A = ℕ} 0 1 = cc in omega arith)
+
+pub table-refused : (c : Check) (m M v : ℕ) (r : Refusal) → tableIf c m M v ≡ stored.Refused r → c ≡ Refused r
+table-refused Passed m M v r e = absurd (let q : _≡_ {A = ℕ} 0 1 = cc in omega arith)
+table-refused (Refused q) m M v r e = let z : q ≡ r = cc in ap Refused z
+
+-- the promise of the reader decides its answer and what it leaves
+pub left-once : {o : Outcome} {a b : StoredLinks} {f g v u : List ℕ} → Left o a f v → Left o b g u → (a ≡ b) × (f ≡ g) × (v ≡ u)
+left-once p q = (p .answered ∙ sym (q .answered), p .far-sides ∙ sym (q .far-sides), p .doubled ∙ sym (q .doubled))
+
+-- refused, nothing is altered
+pub refused-alters-nothing : {c : Check} {r : Refusal} (head w : ℕ) (s f v : List ℕ) → c ≡ Refused r
+    → rowsIf c head w s f v ≡ record { answer = stored.Refused r; far-list = f; cost-list = v }
+refused-alters-nothing head w s f v e = rw e
+
+-- the front that was written, taken again
+pub front-taken : (k : ℕ) (m d e : List ℕ) → length m ≡ k → e ≡ front m d → take k e ≡ m
+front-taken k m d e h q = rw q (take-at m (drop (length m) d) k h)

@@ -1,0 +1,80 @@
+-- Reading at the start of a byte: what stands there is read, whatever stands ahead and behind. Assumes nothing.
+use mathlib.Core.List.{List, _++_}
+use mathlib.Core.Path.{ap, ap₂, refl, sym, _∙_, _≡_}
+use Prim.Native.Nat.{min, ℕ, _%_, _*_, _-_, _/_, _<_, _^_, _≤_}
+use native.Mathlib.Omega.{arith}
+use lib.ListN.{drop, length, length-append, take}
+use lib.Seq.{drop-append-seam}
+use borrow.Author.Tests.{le-ltb}
+use Rattle.ground.specs.Buffers.{front}
+use Rattle.ground.specs.declared.Check.{Check}
+use Rattle.bits.specs.Bits.{AllBytes}
+use Rattle.bits.specs.Laws.Written.{all-bytes-drop}
+use Rattle.links.specs.LinkChecks.{Links}
+use Rattle.stored_links.specs.Form.{linkBytes, linkUsed}
+use Rattle.stored_links.specs.Laws.Passed.{Stored, passed-read}
+use Rattle.stored_links.specs.Laws.Positions.{TableAt, enough-room}
+use Rattle.stored_links.specs.Laws.ReadBack.{written-costs, written-fars, written-stored}
+use Rattle.stored_links.specs.Laws.WriteBack.{read-written}
+use Rattle.stored_links.specs.Outcomes.{Outcome, readOutcome, rowsIf}
+use Rattle.stored_links.specs.Reading.{readChecks, tableAtChecks}
+use Rattle.stored_links.specs.Said.{costsOf, farsOf, markOf}
+use Rattle.stored_links.specs.declared.StoredLinks.the-variants.{Table}
+
+-- an accepted reading of the rows l and v into the lent slices f and u
+abbrev pub readInto : ℕ → ℕ → ℕ → List ℕ → List ℕ → List ℕ → List ℕ → Outcome
+readInto n N used l v f u = record { answer = Table n N used; far-list = front l f; cost-list = front v u }
+
+module _ (head w L : ℕ) where
+  read-front : (bytes s : List ℕ) (k : ℕ) (f u : List ℕ) → k ≤ length bytes → drop k bytes ≡ s
+      → readOutcome head w L bytes (8 * k) f u ≡ rowsIf (readChecks head w L s (min (length f) (length u))) head w s f u
+  read-front bytes s k f u h e =
+      let q : 8 * k / 8 ≡ k = omega arith in
+      let z : 8 * k % 8 ≡ 0 = omega arith in
+      rw (q, z, e, le-ltb (length bytes) k h)
+
+  -- the table that s begins with is read, where there is room
+  read-stored : (n N : ℕ) (s f u : List ℕ) → Stored head w L n N s → 2 * n - 3 ≤ length f → 2 * n - 3 ≤ length u
+      → rowsIf (readChecks head w L s (min (length f) (length u))) head w s f u ≡ readInto n N (linkUsed head w n N) (farsOf head w n N s) (costsOf head w n N s) f u
+  read-stored n N s f u r h k =
+      let m : 2 * n - 3 ≤ min (length f) (length u) = omega arith in
+      ap (λ (c : Check). rowsIf c head w s f u) (passed-read head w L s n N (min (length f) (length u)) r m)
+      ∙ ap₂ (λ (x y : ℕ). readInto x y (linkUsed head w x y) (farsOf head w x y s) (costsOf head w x y s) f u) (r .images) (r .counted)
+
+  -- the rest of the bytes, from byte k on, reads as the whole does at that byte
+  pub read-rest : (bytes : List ℕ) (k : ℕ) (f u : List ℕ) → k ≤ length bytes → readOutcome head w L (drop k bytes) 0 f u ≡ readOutcome head w L bytes (8 * k) f u
+  read-rest bytes k f u h = read-front (drop k bytes) (drop k bytes) 0 f u (omega arith) refl ∙ sym (read-front bytes (drop k bytes) k f u h refl)
+
+  -- reading what was written gives the table back, whatever stands ahead and behind
+  pub written-at : (mark n N : ℕ) (l v ahead behind f u : List ℕ) → Links L n N l v → 2 * L < 2 ^ w → 2 * n - 3 ≤ length f → 2 * n - 3 ≤ length u
+      → readOutcome head w L (ahead ++ (linkBytes head mark w n l v ++ behind)) (8 * length ahead) f u ≡ readInto n N (linkUsed head w n N) l v f u
+  written-at mark n N l v ahead behind f u t g h k =
+      let s = linkBytes head mark w n l v ++ behind in
+      read-front (ahead ++ s) s (length ahead) f u (omega (arith, length-append ahead s)) (drop-append-seam ahead s)
+      ∙ read-stored n N s f u (written-stored head mark w L n N l v behind t g) h k
+      ∙ ap₂ (λ (x y : List ℕ). readInto n N (linkUsed head w n N) x y f u) (written-fars head mark w L n N l v behind t g) (written-costs head mark w L n N l v behind t g)
+
+  -- with 125 places in both outputs the answer is that of the checks without 3
+  pub read-enough : (bytes : List ℕ) (position : ℕ) (f u : List ℕ) → 125 ≤ length f → 125 ≤ length u
+      → readOutcome head w L bytes position f u ≡ rowsIf (tableAtChecks head w L bytes position) head w (drop (position / 8) bytes) f u
+  read-enough bytes position f u h k =
+      let m : 125 ≤ min (length f) (length u) = omega arith in
+      ap (λ (c : Check). rowsIf c head w (drop (position / 8) bytes) f u) (enough-room head w L bytes position (min (length f) (length u)) m)
+
+  -- the bytes used are the form of the table that was read
+  pub used-bytes : (bytes : List ℕ) (position n N used : ℕ) → AllBytes bytes → TableAt head w L bytes position n N used
+      → linkBytes head (markOf head (drop (position / 8) bytes)) w n (farsOf head w n N (drop (position / 8) bytes)) (costsOf head w n N (drop (position / 8) bytes))
+      ≡ take used (drop (position / 8) bytes)
+  used-bytes bytes position n N used b t =
+      read-written head w L n N (drop (position / 8) bytes) (t .stored) (all-bytes-drop (position / 8) bytes b) ∙ ap (λ (x : ℕ). take x (drop (position / 8) bytes)) (t .used-is)
+
+  -- one stored form for one table: bytes that are read as the same table are the same
+  pub same-bytes : (a b : List ℕ) (p q n N i j : ℕ) → AllBytes a → AllBytes b → TableAt head w L a p n N i → TableAt head w L b q n N j
+      → markOf head (drop (p / 8) a) ≡ markOf head (drop (q / 8) b)
+      → farsOf head w n N (drop (p / 8) a) ≡ farsOf head w n N (drop (q / 8) b) → costsOf head w n N (drop (p / 8) a) ≡ costsOf head w n N (drop (q / 8) b)
+      → take i (drop (p / 8) a) ≡ take j (drop (q / 8) b)
+  same-bytes a b p q n N i j ha hb s t g e f =
+      sym (used-bytes a p n N i ha s)
+      ∙ ap (λ (m : ℕ). linkBytes head m w n (farsOf head w n N (drop (p / 8) a)) (costsOf head w n N (drop (p / 8) a))) g
+      ∙ ap₂ (λ (x y : List ℕ). linkBytes head (markOf head (drop (q / 8) b)) w n x y) e f
+      ∙ used-bytes b q n N j hb t

@@ -1,0 +1,143 @@
+-- The bits of the rows: how many, one row more, one row found again, and rows read as the bits they stand in. Assumes nothing.
+use mathlib.Core.List.{List, append-assoc, append-nil, _++_}
+use mathlib.Core.Path.{ap, ap₂, refl, sym, _∙_, _≡_}
+use Prim.Native.Nat.{suc, zero, ℕ, _*_, _+_, _-_, _/_, _<_, _≤_}
+use native.Mathlib.Nat.{mul-suc, mul-zero}
+use native.Mathlib.Numerals.{add-one}
+use native.Mathlib.Omega.{arith}
+use lib.Dec.{ltb}
+use lib.ListN.{length, length-append}
+use borrow.Author.Tests.{ltb-false, ltb-true}
+use borrow.Table.Steps.{cases}
+use Rattle.bits.specs.Bits.{AllBits, bits, bitsOf, overAt, part, valueOf}
+use Rattle.bits.specs.Forms.{formBits}
+use Rattle.bits.specs.Laws.Forms.{form-append}
+use Rattle.bits.specs.Laws.Numbers.{all-bits-bytes, all-bits-part, bits-value, length-bitsOf}
+use Rattle.bits.specs.Laws.Parts.{length-part, over-at-none, over-at-twice, part-cut, part-more}
+use Rattle.stored_links.specs.Form.{rowAt, rowFields, rowWidth, rowsTo}
+use Rattle.stored_links.specs.Said.{costOf, farOf}
+
+-- bits read as a number are the bits of that number
+pub part-again : (l : List ℕ) (position w : ℕ) → AllBits l → position + w ≤ length l → bitsOf w (valueOf (part l position w)) ≡ part l position w
+part-again l position w b h =
+    ap (λ (k : ℕ). bitsOf k (valueOf (part l position w))) (sym (length-part l position w h)) ∙ bits-value (all-bits-part position w b)
+
+pub row-bits : (w n S c : ℕ) → formBits (rowFields w n S c) ≡ bitsOf (n - 1) (S / 2) ++ bitsOf w c
+unfolding formBits
+row-bits w n S c = ap (λ (x : List ℕ). bitsOf (n - 1) (S / 2) ++ x) (append-nil (bitsOf w c))
+
+pub length-row : (w n S c : ℕ) → length (formBits (rowFields w n S c)) ≡ rowWidth w n
+length-row w n S c =
+    ap length (row-bits w n S c) ∙ omega (arith, length-append (bitsOf (n - 1) (S / 2)) (bitsOf w c), length-bitsOf (n - 1) (S / 2), length-bitsOf w c)
+
+module _ (w n : ℕ) (f g : ℕ → ℕ) where
+  rows-suc : (k : ℕ) → formBits (rowsTo w n f g (suc k)) ≡ formBits (rowsTo w n f g k) ++ formBits (rowFields w n (f k) (g k))
+  unfolding rowsTo
+  rows-suc k = form-append (rowsTo w n f g k) (rowFields w n (f k) (g k))
+
+  pub rows-more : (k : ℕ) → formBits (rowsTo w n f g (k + 1)) ≡ formBits (rowsTo w n f g k) ++ formBits (rowFields w n (f k) (g k))
+  rows-more k = ap (λ (j : ℕ). formBits (rowsTo w n f g j)) (add-one k) ∙ rows-suc k
+
+  pub length-rows : (k : ℕ) → length (formBits (rowsTo w n f g k)) ≡ rowWidth w n * k
+  unfolding rowsTo formBits
+  length-rows zero = sym (mul-zero (rowWidth w n))
+  length-rows (suc k) =
+      ap length (rows-suc k)
+      ∙ omega (arith, length-append (formBits (rowsTo w n f g k)) (formBits (rowFields w n (f k) (g k))), length-rows k, length-row w n (f k) (g k), mul-suc (rowWidth w n) k)
+
+  -- ## Row after row, written over
+
+  pub rows-over-none : (l : List ℕ) (position : ℕ) → l ≡ overAt l position (formBits (rowsTo w n f g 0))
+  unfolding rowsTo formBits
+  rows-over-none l position = sym (over-at-none l position)
+
+  pub rows-over-more : (l x : List ℕ) (position p k : ℕ) → p ≡ position + rowWidth w n * k → p + rowWidth w n ≤ length l → x ≡ overAt l position (formBits (rowsTo w n f g k))
+      → overAt x p (formBits (rowFields w n (f k) (g k))) ≡ overAt l position (formBits (rowsTo w n f g (k + 1)))
+  rows-over-more l x position p k e h q =
+      ap (λ (y : List ℕ). overAt y p (formBits (rowFields w n (f k) (g k)))) q
+      ∙ over-at-twice l position (formBits (rowsTo w n f g k)) (formBits (rowFields w n (f k) (g k))) p (omega (arith, length-rows k)) (omega (arith, length-row w n (f k) (g k)))
+      ∙ ap (overAt l position) (sym (rows-more k))
+
+  -- ## Row k of m, found again
+
+  row-found : (k m : ℕ) → k < m → (r : List ℕ) → (t : List ℕ) × (formBits (rowsTo w n f g m) ++ r ≡ formBits (rowsTo w n f g k) ++ (formBits (rowFields w n (f k) (g k)) ++ t))
+  row-found k zero h r = absurd (omega arith)
+  row-found k (suc m) h r =
+      let x = formBits (rowFields w n (f m) (g m)) in
+      let e : formBits (rowsTo w n f g (suc m)) ++ r ≡ formBits (rowsTo w n f g m) ++ (x ++ r) =
+      ap (λ (y : List ℕ). y ++ r) (rows-suc m) ∙ append-assoc (formBits (rowsTo w n f g m)) x r in
+      cases (ltb k m)
+      (λ l. let i = row-found k m (ltb-true k m l) (x ++ r) in (i .0, e ∙ i .1))
+      (λ l. let q : k ≡ m = omega (arith, ltb-false k m l) in (r, rw q e))
+
+  module _ (a r : List ℕ) (position k m : ℕ) (e : length a ≡ position) (h : k < m) where
+    around : (t : List ℕ) × (a ++ (formBits (rowsTo w n f g m) ++ r) ≡ (a ++ formBits (rowsTo w n f g k)) ++ (bitsOf (n - 1) (f k / 2) ++ (bitsOf w (g k) ++ t)))
+    around =
+        let i = row-found k m h r in
+        let x = formBits (rowsTo w n f g k) in (
+          i .0,
+          ap (λ (y : List ℕ). a ++ y) (i .1 ∙ ap (λ (y : List ℕ). x ++ (y ++ i .0)) (row-bits w n (f k) (g k)) ∙ ap (λ (y : List ℕ). x ++ y) (append-assoc (bitsOf (n - 1) (f k / 2)) (bitsOf w (g k)) (i .0)))
+              ∙ sym (append-assoc a x (bitsOf (n - 1) (f k / 2) ++ (bitsOf w (g k) ++ i .0))),
+        )
+
+    length-before : length (a ++ formBits (rowsTo w n f g k)) ≡ position + rowWidth w n * k
+    length-before = omega (arith, length-append a (formBits (rowsTo w n f g k)), length-rows k)
+
+    pub far-found : part (a ++ (formBits (rowsTo w n f g m) ++ r)) (position + rowWidth w n * k) (n - 1) ≡ bitsOf (n - 1) (f k / 2)
+    far-found =
+        ap (λ (l : List ℕ). part l (position + rowWidth w n * k) (n - 1)) (around .1)
+        ∙ part-cut (a ++ formBits (rowsTo w n f g k)) (bitsOf (n - 1) (f k / 2)) (bitsOf w (g k) ++ around .0) (position + rowWidth w n * k) (n - 1) length-before (length-bitsOf (n - 1) (f k / 2))
+
+    pub cost-found : part (a ++ (formBits (rowsTo w n f g m) ++ r)) (position + rowWidth w n * k + (n - 1)) w ≡ bitsOf w (g k)
+    cost-found =
+        let b = a ++ formBits (rowsTo w n f g k) in
+        let x = bitsOf (n - 1) (f k / 2) in
+        ap (λ (l : List ℕ). part l (position + rowWidth w n * k + (n - 1)) w) (around .1 ∙ sym (append-assoc b x (bitsOf w (g k) ++ around .0)))
+        ∙ part-cut (b ++ x) (bitsOf w (g k)) (around .0) (position + rowWidth w n * k + (n - 1)) w (omega (arith, length-append b x, length-before, length-bitsOf (n - 1) (f k / 2))) (length-bitsOf w (g k))
+
+-- rows with the same far sides and costs
+pub rows-same : (w n : ℕ) (f g d e : ℕ → ℕ) (m : ℕ) → ((k : ℕ) → k < m → (f k ≡ d k) × (g k ≡ e k)) → rowsTo w n f g m ≡ rowsTo w n d e m
+unfolding rowsTo
+rows-same w n f g d e zero h = refl
+rows-same w n f g d e (suc m) h =
+    let ih = rows-same w n f g d e m (λ k l. h k (omega arith)) in
+    let q = h m (omega arith) in
+    rw (ih, q .0, q .1)
+
+-- row k read is the bits it stands in
+row-again : (head w n : ℕ) (s : List ℕ) (k : ℕ) → rowAt head w n k + rowWidth w n ≤ length (bits s)
+    → formBits (rowFields w n (farOf head w n s k) (costOf head w n s k)) ≡ part (bits s) (rowAt head w n k) (rowWidth w n)
+unfolding farOf costOf
+row-again head w n s k h =
+    let l = bits s in
+    let b = all-bits-bytes s in
+    let p = rowAt head w n k in
+    let x = valueOf (part l p (n - 1)) in
+    let q : 2 * x / 2 ≡ x = omega arith in
+    row-bits w n (2 * x) (valueOf (part l (p + (n - 1)) w))
+    ∙ ap₂ (λ (y z : List ℕ). y ++ z) (ap (bitsOf (n - 1)) q ∙ part-again l p (n - 1) b (omega arith)) (part-again l (p + (n - 1)) w b (omega arith))
+    ∙ sym (part-more l p (n - 1) w)
+
+-- the first m rows read are the bits they stand in
+pub rows-again : (head w n : ℕ) (s : List ℕ) (m : ℕ) → rowAt head w n m ≤ length (bits s)
+    → formBits (rowsTo w n (farOf head w n s) (costOf head w n s) m) ≡ part (bits s) (head + 14) (rowWidth w n * m)
+unfolding rowsTo formBits part
+rows-again head w n s zero h = rw mul-zero
+rows-again head w n s (suc m) h =
+    let l = bits s in
+    let ih = rows-again head w n s m (omega (arith, mul-suc (rowWidth w n) m)) in
+    rows-suc w n (farOf head w n s) (costOf head w n s) m
+    ∙ ap₂ (λ (x y : List ℕ). x ++ y) ih (row-again head w n s m (omega (arith, mul-suc (rowWidth w n) m)))
+    ∙ sym (ap (part l (head + 14)) (mul-suc (rowWidth w n) m) ∙ part-more l (head + 14) (rowWidth w n * m) (rowWidth w n))
+
+-- two writes, one behind the other, make a row
+pub row-over : (w n S c position : ℕ) (l x y : List ℕ) → position + rowWidth w n ≤ length l
+    → x ≡ overAt l position (bitsOf (n - 1) (S / 2)) → y ≡ overAt x (position + (n - 1)) (bitsOf w c) → y ≡ overAt l position (formBits (rowFields w n S c))
+row-over w n S c position l x y h e q =
+    let a = bitsOf (n - 1) (S / 2) in
+    let la = length-bitsOf (n - 1) (S / 2) in
+    let lc = length-bitsOf w c in
+    q
+    ∙ ap (λ (z : List ℕ). overAt z (position + (n - 1)) (bitsOf w c)) e
+    ∙ over-at-twice l position a (bitsOf w c) (position + (n - 1)) (omega arith) (omega arith)
+    ∙ ap (overAt l position) (sym (row-bits w n S c))

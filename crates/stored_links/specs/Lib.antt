@@ -1,0 +1,9 @@
+-- What is stored of a link table, and what the readers answer.
+pub mod Form
+pub mod Said
+pub mod Sizes
+pub mod Reading
+pub mod Outcomes
+-- What is true of them.
+pub mod Laws
+pub mod Examples
