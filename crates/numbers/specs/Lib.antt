@@ -1,1 +1,2 @@
+-- What the contracts of `numbers` cite: the numbers of each answer.
 pub mod Numbers
