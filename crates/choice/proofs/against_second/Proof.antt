@@ -1,0 +1,100 @@
+-- `choice::against_second` meets its contract: the refusal with number 2, then 15, then one of the two tables. Assumes nothing.
+use mathlib.Core.List.{List}
+use mathlib.Core.Path.{ap, ap₂, sym, _∙_, _≡_}
+use Prim.Native.Nat.{ℕ, _^_}
+use native.Mathlib.Omega.{arith}
+use lib.Seq.{length-take-le}
+use borrow.Author.Needs.{needs}
+use Rattle.ground.specs.Ascending.{Between}
+use Rattle.ground.specs.declared.Refusal.{Refusal}
+use Rattle.theory.specs.Comparison.{inners}
+use Rattle.theory.specs.Tables.{limit}
+use Rattle.stored_links.specs.Said.{imagesOf}
+use Rattle.choice.specs.Call.{sidesOf, taken}
+use Rattle.choice.specs.Chain.{images-differ, images-same, numbered-goes, numbered-stops}
+use Rattle.choice.specs.Read.{Listed, read-listed, read-refused}
+use Rattle.choice.specs.declared.Chosen.the-variants as answer
+use Rattle.choice.proofs.against_second.Statement.{statement}
+use Rattle.choice.proofs.against_second.Tie as tie
+
+abbrev begun : tie.After-m → tie.Start
+begun c = c .before .before .before .before .before .before .before
+
+slice-aggregate-read : tie.Need-slice-aggregate-read
+slice-aggregate-read c = search needs
+
+read-requires : tie.Need-read-requires
+read-requires c κs = search needs
+
+enum-known-r : tie.Need-enum-known-r
+enum-known-r c = search needs
+
+enum-known-m : tie.Need-enum-known-m
+enum-known-m c = search needs
+
+-- the far sides of the second table, where it was accepted
+listed : (c : tie.After-m)
+    → Listed 0 21 limit (begun c .args .second .now) (c .m .given .0 .0) (c .m .given .0 .1 .0) (c .m .given .0 .1 .1 .0) (c .before .before .before .read .last .1 .0)
+listed c = read-listed 0 21 limit (begun c .args .second .now) (c .before .before .before .read .ensures) (c .m .given .1)
+
+plain-requires : tie.Need-plain-requires
+plain-requires c κs = search needs
+
+returns : tie.Need-returns
+returns c =
+    let m = c .before .before .before in
+    let a = begun m .args in
+    let q = listed m in
+    ap (λ (r : Refusal). answer.Refused 0 r) (c .plain .ensures)
+    ∙ numbered-goes _ _ _ (q .passed) (images-differ (a .n) (imagesOf 0 (a .second .now)) _ (λ e. c .before .if1 .taken (e ∙ q .images)))
+
+array-share-prefix-fars : tie.Need-array-share-prefix-fars
+array-share-prefix-fars c =
+    let m = c .before .before in omega (arith, listed m .few, m .before .before .before .read .kept .1 .0)
+
+slice-aggregate-take-one : tie.Need-slice-aggregate-take-one
+slice-aggregate-take-one c =
+    let m = c .before .before .before in sym (length-take-le _ _ (omega (arith, listed m .few, m .before .before .before .read .kept .1 .0)))
+
+take-one-requires : tie.Need-take-one-requires
+take-one-requires c κs =
+    let m = c .before .before .before in
+    let s = begun m in
+    let q = listed m in
+    let h : s .args .n ≡ m .m .given .0 .0 = c .before .if1 .left in
+    (s .pre .0, s .pre .1, s .pre .2, rw h (q .ascending), s .pre .3, q .short)
+
+returns-2 : tie.Need-returns-2
+returns-2 c =
+    let e = c .before .before .before .before in
+    numbered-stops _ _ _ (read-refused 0 21 limit (e .before .before .before .before .args .second .now) (e .read .ensures) (c .before .r .given .1))
+
+returns-3 : tie.Need-returns-3
+returns-3 c =
+    let m = c .before .before .before .before in
+    let a = begun m .args in
+    let t = a .second .now in
+    let q = listed m in
+    let l = inners (a .n) (a .first .now) in
+    let h : a .n ≡ imagesOf 0 t = c .before .before .if1 .left ∙ sym (q .images) in
+    numbered-goes _ _ _ (q .passed)
+    (images-same (a .n) (imagesOf 0 t) _ h
+    (c .take-one .ensures
+    ∙ ap (λ (x : List ℕ). taken l (a .i) (inners (a .n) x) (m .m .given .0 .1 .1 .0)) (q .front)
+    ∙ ap₂ (λ (x u : ℕ). taken l (a .i) (inners x (sidesOf 0 21 t)) u) h (sym (q .ended))))
+
+pub against-second-spec : {M : Type 1} → statement M
+against-second-spec =
+    tie.close
+    (tie.spec
+    slice-aggregate-read
+    read-requires
+    enum-known-r
+    enum-known-m
+    plain-requires
+    returns
+    array-share-prefix-fars
+    slice-aggregate-take-one
+    take-one-requires
+    returns-2
+    returns-3)
