@@ -1,0 +1,53 @@
+-- What a batch answers and writes, by recursion over its tables. head and mark stand in front of each stored table, w is the width of a cost.
+-- Assumes nothing.
+use mathlib.Core.Bool.{not}
+use mathlib.Core.List.{List, [], _++_, _∷_}
+use Prim.Native.Nat.{ℕ, _+_, _-_}
+use lib.Dec.{eqb}
+use lib.ListN.{drop, length, take}
+use Rattle.ground.specs.Buffers.{front}
+use Rattle.ground.specs.Outcomes.{Outcome}
+use Rattle.ground.specs.Refusals.{refusal, refuseIf}
+use Rattle.ground.specs.declared.Check.{Check}
+use Rattle.ground.specs.declared.Check.the-variants.{Passed, Refused}
+use Rattle.stored_links.specs.Form.{linkBytes, linkUsed}
+use Rattle.batch.specs.Tables.{Table, leftOverChecks, nextChecks, tables}
+use Rattle.batch.specs.declared.Batched.{Batched}
+use Rattle.batch.specs.declared.Batched.the-variants.{Bytes}
+use Rattle.batch.specs.declared.Batched.the-variants as batched
+
+-- the answer b where the check passed, else its refusal with the table's number k beside it
+abbrev pub numbered : ℕ → Check → Batched → Batched
+numbered k Passed b = b
+numbered k (Refused r) b = batched.Refused k r
+
+-- the answer for the tables that follow the first k, which used so many bytes and left the rows l and v and so much room
+unfoldable pub batchFrom : ℕ → ℕ → ℕ → ℕ → ℕ → List Table → List ℕ → List ℕ → ℕ → Batched
+batchFrom head w L k used [] l v room = numbered k (leftOverChecks l v) (Bytes used)
+batchFrom head w L k used (t ∷ ts) l v room =
+    numbered (k + 1) (nextChecks head w L (t .0) (t .1) l v room)
+    (batchFrom head w L (k + 1) (used + linkUsed head w (t .0) (t .1)) ts (drop (t .1) l) (drop (t .1) v) (room - linkUsed head w (t .0) (t .1)))
+
+-- the answer for the whole batch: 2 with number 0 where the two lists differ in length
+abbrev pub batchAnswer : ℕ → ℕ → ℕ → List ℕ → List ℕ → List ℕ → List ℕ → ℕ → Batched
+batchAnswer head w L ns counts l v room =
+    numbered 0 (refuseIf (not (eqb (length ns) (length counts))) (refusal 2 0 0 0 0)) (batchFrom head w L 0 0 (tables ns counts) l v room)
+
+-- the tables' stored forms, joined
+unfoldable pub batchBytes : ℕ → ℕ → ℕ → List Table → List ℕ → List ℕ → List ℕ
+batchBytes head mark w [] l v = []
+batchBytes head mark w (t ∷ ts) l v =
+    linkBytes head mark w (t .0) (take (t .1) l) (take (t .1) v) ++ batchBytes head mark w ts (drop (t .1) l) (drop (t .1) v)
+
+-- m at the front of the lent bytes d where the answer is a count of bytes; where it is a refusal they are as they were
+abbrev pub frontBy : Batched → List ℕ → List ℕ → List ℕ
+frontBy (Bytes used) m d = front m d
+frontBy (batched.Refused k r) m d = d
+
+-- the answer, and the lent bytes as they are left
+abbrev pub batchOutcome : ℕ → ℕ → ℕ → ℕ → List ℕ → List ℕ → List ℕ → List ℕ → List ℕ → Outcome Batched
+batchOutcome head mark w L ns counts l v out =
+    record {
+      answer = batchAnswer head w L ns counts l v (length out);
+      places = frontBy (batchAnswer head w L ns counts l v (length out)) (batchBytes head mark w (tables ns counts) l v) out;
+    }

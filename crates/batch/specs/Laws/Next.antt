@@ -1,0 +1,73 @@
+-- The next table of a batch passes its checks exactly when it is a link table that has its rows and room. Assumes nothing.
+use mathlib.Core.List.{List}
+use mathlib.Core.Path.{ap, subst, sym, _∙_, _≡_}
+use Prim.Native.Nat.{ℕ, _*_, _-_, _≤_}
+use native.Mathlib.Omega.{arith}
+use lib.Dec.{ltb}
+use lib.ListN.{length, length-take, take}
+use lib.Seq.{length-take-le}
+use borrow.Author.Tests.{le-ltb, ltb-false}
+use Rattle.ground.specs.Refusals.{refusal, refuseIf, refuseIf-passed, then-passed, _then_}
+use Rattle.ground.specs.declared.Check.the-variants.{Passed}
+use Rattle.links.specs.Checks.{countChecks, lengthChecks, sizeChecks}
+use Rattle.links.specs.LinkChecks.{Sized, count-passed, passed-sizes}
+use Rattle.stored_links.specs.Form.{linkBytes, linkUsed}
+use Rattle.stored_links.specs.Laws.Form.{length-links}
+use Rattle.link_writer.specs.Accepted.{passed-write, write-passed}
+use Rattle.link_writer.specs.Writing.{RoomFor, fitChecks}
+use Rattle.batch.specs.Fitting.{Next}
+use Rattle.batch.specs.Tables.{leftOverChecks, nextChecks, runOutChecks}
+
+pub run-out-passed : (N : ℕ) (l v : List ℕ) → runOutChecks N l v ≡ Passed → (N ≤ length l) × (N ≤ length v)
+run-out-passed N l v e =
+    let p = then-passed (refuseIf (ltb (length l) N) (refusal 2 0 0 0 0)) (refuseIf (ltb (length v) N) (refusal 2 0 0 0 0)) e in
+    (ltb-false (length l) N (refuseIf-passed (ltb (length l) N) _ (p .0)), ltb-false (length v) N (refuseIf-passed (ltb (length v) N) _ (p .1)))
+
+pub left-over-passed : (l v : List ℕ) → leftOverChecks l v ≡ Passed → (length l ≡ 0) × (length v ≡ 0)
+left-over-passed l v e =
+    let p = then-passed (refuseIf (ltb 0 (length l)) (refusal 2 0 0 0 0)) (refuseIf (ltb 0 (length v)) (refusal 2 0 0 0 0)) e in
+    let a = ltb-false 0 (length l) (refuseIf-passed (ltb 0 (length l)) _ (p .0)) in
+    let b = ltb-false 0 (length v) (refuseIf-passed (ltb 0 (length v)) _ (p .1)) in
+    (omega (arith, a), omega (arith, b))
+
+pub next-sized : (n N : ℕ) (l v : List ℕ) → countChecks n N ≡ Passed → runOutChecks N l v ≡ Passed → Sized n N (take N l) (take N v)
+next-sized n N l v e f =
+    let c = count-passed n N e in
+    let r = run-out-passed N l v f in
+    record { some = c .0; few = c .1; least = c .2; most = c .3; counted = length-take-le N l (r .0); costed = length-take-le N v (r .1) }
+
+module _ (head w L n N : ℕ) (l v : List ℕ) (room : ℕ) where
+  pub next-passed : nextChecks head w L n N l v room ≡ Passed → Next head w L n N l v room
+  next-passed e =
+      let f = fitChecks head w L n (take N l) (take N v) room in
+      let p = then-passed (countChecks n N) (runOutChecks N l v then f) e in
+      let q = then-passed (runOutChecks N l v) f (p .1) in
+      let s = next-sized n N l v (p .0) (q .0) in
+      let r = write-passed head w L n N (take N l) (take N v) room (rw (passed-sizes n N (take N l) (take N v) s) (q .1)) in
+      record { links = r .0; fits = subst (λ (x : ℕ). linkUsed head w n x ≤ room) (s .counted) (r .3) }
+
+  -- its rows are there
+  pub next-length : Next head w L n N l v room → (N ≤ length l) × (N ≤ length v)
+  next-length t = (omega (arith, t .links .counted, length-take N l), omega (arith, t .links .costed, length-take N v))
+
+  pub passed-next : Next head w L n N l v room → nextChecks head w L n N l v room ≡ Passed
+  passed-next t =
+      let f = fitChecks head w L n (take N l) (take N v) room in
+      let e = passed-write head w L n N (take N l) (take N v) room (t .links) (subst (λ (x : ℕ). linkUsed head w n x ≤ room) (sym (t .links .counted)) (t .fits)) in
+      let p = then-passed (sizeChecks n N (take N l) (take N v)) f e in
+      let q = then-passed (countChecks n N) (lengthChecks N (take N l) (take N v)) (p .0) in
+      let b = next-length t in
+      rw (q .0, le-ltb (length l) N (b .0), le-ltb (length v) N (b .1)) (p .1)
+
+  pub next-count : Next head w L n N l v room → (3 ≤ n) × (n ≤ 64) × (n ≤ N) × (N ≤ 2 * n - 3)
+  next-count t =
+      count-passed n N (then-passed (countChecks n N) (runOutChecks N l v then fitChecks head w L n (take N l) (take N v) room) (passed-next t) .0)
+
+  -- so the raw writer may be called
+  pub next-room : head ≤ 7 → w ≤ 32 → Next head w L n N l v room → RoomFor head w n N room
+  next-room h k t =
+      let c = next-count t in
+      record { small = record { short = h; narrow = k; some = c .0; few = c .1; rows = omega (arith, c .1, c .3) }; fits = t .fits }
+
+  pub length-next : (mark : ℕ) → Next head w L n N l v room → length (linkBytes head mark w n (take N l) (take N v)) ≡ linkUsed head w n N
+  length-next mark t = length-links head mark w n (take N l) (take N v) ∙ ap (λ (x : ℕ). linkUsed head w n x) (t .links .counted)
