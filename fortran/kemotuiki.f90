@@ -21,7 +21,7 @@ module kemotuiki
     end type
 
     public :: index_of, order_around, measured_reading, exact_reading, path_cost, upper_rows, route_of
-    public :: compare_tables, write_costs, read_costs, write_links, read_links
+    public :: compare_tables, write_costs, read_costs, write_links, read_links, write_batch, choose_table
     public :: accepted, refusal_text
 
     interface
@@ -116,6 +116,22 @@ module kemotuiki
             integer(c_int8_t), intent(in) :: bytes(*)
             integer(c_int64_t), intent(inout) :: fars(*)
             integer(c_int32_t), intent(inout) :: costs(*)
+            type(kemotuiki_answer) :: r
+        end function
+        function c_write_batch(ns, ns_count, counts, counts_count, fars, fars_count, costs, costs_count, out, out_count) &
+            result(r) bind(c, name='kemotuiki_write_batch')
+            import
+            integer(c_size_t), value :: ns_count, counts_count, fars_count, costs_count, out_count
+            integer(c_int32_t), intent(in) :: ns(*), counts(*)
+            integer(c_int64_t), intent(in) :: fars(*)
+            integer(c_int32_t), intent(in) :: costs(*)
+            integer(c_int8_t), intent(inout) :: out(*)
+            type(kemotuiki_answer) :: r
+        end function
+        function c_choice(first, first_count, second, second_count) result(r) bind(c, name='kemotuiki_choice')
+            import
+            integer(c_size_t), value :: first_count, second_count
+            integer(c_int8_t), intent(in) :: first(*), second(*)
             type(kemotuiki_answer) :: r
         end function
     end interface
@@ -236,6 +252,24 @@ contains
         type(kemotuiki_answer) :: r
         r = c_read_links(bytes, size(bytes, kind=c_size_t), position, fars, size(fars, kind=c_size_t), &
                          costs, size(costs, kind=c_size_t))
+    end function
+
+    ! The stored forms of tables over ns images with counts rows, all rows joined, into out: value bytes.
+    function write_batch(ns, counts, fars, costs, out) result(r)
+        integer(c_int32_t), intent(in), contiguous :: ns(:), counts(:)
+        integer(c_int64_t), intent(in), contiguous :: fars(:)
+        integer(c_int32_t), intent(in), contiguous :: costs(:)
+        integer(c_int8_t), intent(inout), contiguous :: out(:)
+        type(kemotuiki_answer) :: r
+        r = c_write_batch(ns, size(ns, kind=c_size_t), counts, size(counts, kind=c_size_t), fars, size(fars, kind=c_size_t), &
+                          costs, size(costs, kind=c_size_t), out, size(out, kind=c_size_t))
+    end function
+
+    ! The stored link table that includes the other: value is 1 or 2, second its used bytes.
+    function choose_table(first, second) result(r)
+        integer(c_int8_t), intent(in), contiguous :: first(:), second(:)
+        type(kemotuiki_answer) :: r
+        r = c_choice(first, size(first, kind=c_size_t), second, size(second, kind=c_size_t))
     end function
 
     ! Whether the call was accepted.

@@ -145,6 +145,25 @@ KemotuikiAnswer kemotuiki_write_links(size_t n, size_t count, const uint64_t *fa
 KemotuikiAnswer kemotuiki_read_links(const uint8_t *bytes, size_t bytes_count, size_t position,
                                      uint64_t *fars, size_t fars_count, uint32_t *costs, size_t costs_count);
 
+/*
+ * Link tables stored one after another. ns and counts say, table by table, the number of images and the row count; fars and
+ * costs are the rows of all tables joined.
+ * value: the bytes written to out. Room: the bytes of all tables. Refusals 2 with table 0 where ns and counts differ in
+ * length; then table by table, with its number, those of kemotuiki_write_links, 2 where either joined slice runs out; 2 with
+ * the last table's number where rows are left over.
+ */
+KemotuikiAnswer kemotuiki_write_batch(const uint32_t *ns, size_t ns_count, const uint32_t *counts, size_t counts_count,
+                                      const uint64_t *fars, size_t fars_count, const uint32_t *costs, size_t costs_count,
+                                      uint8_t *out, size_t out_count);
+
+/*
+ * Of two stored link tables over the same images, the one whose inner far sides include all of the other's; the first if
+ * both do. Each stands at the front of its buffer.
+ * value: 1 or 2, the chosen table; second: its used bytes, from the front of its own buffer. Refusals 9, 1, 10, 9, 11, 12,
+ * 13 of the first table and then of the second, with the table's number; 15; 14, both with table 0.
+ */
+KemotuikiAnswer kemotuiki_choice(const uint8_t *first, size_t first_count, const uint8_t *second, size_t second_count);
+
 #ifdef __cplusplus
 }
 #endif

@@ -280,6 +280,32 @@ static void do_read_links(void) {
     settle(&lc, places(r, r.second, 4));
 }
 
+static void do_write_batch(void) {
+    Lent ln, lm, lf, lc, lo;
+    uint32_t *ns = read32(&ln), *counts = read32(&lm);
+    uint64_t *fars = read64(&lf);
+    uint32_t *costs = read32(&lc);
+    uint8_t *out = read8(&lo);
+    KemotuikiAnswer r = kemotuiki_write_batch(ns, ln.count, counts, lm.count, fars, lf.count, costs, lc.count, out, lo.count);
+    answer(r, 1, 1);
+    show8(out, lo.count);
+    settle(&ln, 0);
+    settle(&lm, 0);
+    settle(&lf, 0);
+    settle(&lc, 0);
+    settle(&lo, places(r, r.value, 1));
+}
+
+static void do_choice(void) {
+    Lent la, lb;
+    uint8_t *first = read8(&la), *second = read8(&lb);
+    KemotuikiAnswer r = kemotuiki_choice(first, la.count, second, lb.count);
+    answer(r, 2, 1);
+    show8(r.value == 1 ? first : second, r.second);
+    settle(&la, 0);
+    settle(&lb, 0);
+}
+
 static const struct {
     const char *name;
     void (*run)(void);
@@ -288,6 +314,7 @@ static const struct {
     {"exact", do_exact},           {"path", do_path},             {"upper_rows", do_upper_rows},
     {"route", do_route},           {"compare", do_compare},       {"write_costs", do_write_costs},
     {"read_costs", do_read_costs}, {"write_links", do_write_links}, {"read_links", do_read_links},
+    {"write_batch", do_write_batch}, {"choice", do_choice},
 };
 
 static int cases(const char *folder) {
@@ -354,6 +381,12 @@ static int edges(void) {
         call_name = "compare";
         if (r.number != 2 || r.table != 1) fault("not refusal 2 of the first table");
     }
+    KemotuikiAnswer none = kemotuiki_write_batch(NULL, 0, NULL, 0, NULL, 0, NULL, 0, NULL, 0);
+    call_name = "write_batch";
+    if (none.number || none.value) fault("an empty batch does not write 0 bytes");
+    none = kemotuiki_choice(NULL, 0, NULL, 0);
+    call_name = "choice";
+    if (none.number != 9 || none.table != 1) fault("not refusal 9 of the first table");
     expect("read_costs", kemotuiki_read_costs(NULL, 0, 0, NULL, 0), 9, 0);
     expect("read_links", kemotuiki_read_links(NULL, 0, 0, NULL, 0, NULL, 0), 9, 0);
     for (size_t k = 0; k < sizeof places / sizeof *places; k++) {

@@ -96,5 +96,18 @@ int main(void) {
     printf("read back: %s\n", r.number == 0 && !memcmp(back, tables[0], sizeof back) ? "the same costs" : "not the same");
     r = kemotuiki_read_links(bytes, first.value + second.value, 8 * r.second, fars, 2 * N - 3, costs, 2 * N - 3);
     printf("read back: %zu images, %zu rows, %zu bytes\n", r.value, r.second, r.third);
+
+    /* image 1's tree and the measured one, stored in two buffers: which includes the other? */
+    uint8_t mine[256], theirs[256];
+    first = kemotuiki_write_links(N, r.second, fars, r.second, costs, r.second, mine, sizeof mine);
+    r = kemotuiki_measured(N, tables[8], N * N, fars, 2 * N - 3, costs, 2 * N - 3);
+    second = kemotuiki_write_links(N, r.value, fars, r.value, costs, r.value, theirs, sizeof theirs);
+    r = kemotuiki_choice(mine, first.value, theirs, second.value);
+    printf("image 1's tree and the measured one: table %zu, %zu bytes\n", r.value, r.second);
+    r = kemotuiki_exact(N, tables[6], N * N, fars, 2 * N - 3, costs, 2 * N - 3);
+    second = kemotuiki_write_links(N, r.value, fars, r.value, costs, r.value, theirs, sizeof theirs);
+    r = kemotuiki_choice(mine, first.value, theirs, second.value);
+    printf("image 1's tree and image 7's: ");
+    refusal(r);
     return 0;
 }

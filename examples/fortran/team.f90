@@ -7,7 +7,7 @@ program team
     integer, parameter :: n = 9, room = 2 * n - 3
     integer(c_int32_t) :: tables(n, n, n), costs(room), out(room), back(n * n)
     integer(c_int64_t) :: fars(room)
-    integer(c_int8_t) :: bytes(512)
+    integer(c_int8_t) :: bytes(512), mine(256), theirs(256)
     type(kemotuiki_answer) :: r, first, second
     integer :: k, count
 
@@ -64,6 +64,17 @@ program team
     end if
     r = read_links(bytes(:first%value + second%value), 8 * r%second, fars, costs)
     print '(a, i0, a, i0, a, i0, a)', 'read back: ', r%value, ' images, ', r%second, ' rows, ', r%third, ' bytes'
+
+    ! image 1's tree and the measured one, stored in two buffers: which includes the other?
+    first = write_links(n, fars(:r%second), costs(:r%second), mine)
+    r = measured_reading(tables(:, :, 9), fars, costs)
+    second = write_links(n, fars(:r%value), costs(:r%value), theirs)
+    r = choose_table(mine(:first%value), theirs(:second%value))
+    print '(a, i0, a, i0, a)', "image 1's tree and the measured one: table ", r%value, ', ', r%second, ' bytes'
+    r = exact_reading(tables(:, :, 7), fars, costs)
+    second = write_links(n, fars(:r%value), costs(:r%value), theirs)
+    r = choose_table(mine(:first%value), theirs(:second%value))
+    print '(a, a)', "image 1's tree and image 7's: ", refusal_text(r)
 
 contains
 

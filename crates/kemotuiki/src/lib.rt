@@ -13,7 +13,9 @@ ghost use Rattle.stored_costs.specs.Writing as costs-writing;
 ghost use Rattle.stored_costs.specs.Outcomes as costs-reading;
 ghost use Rattle.link_writer.specs.Writing as links-writing;
 ghost use Rattle.stored_links.specs.Outcomes as links-reading;
-ghost use Rattle.numbers.specs.Numbers.{ofAnswer, ofWritten, ofComparison, ofStoredCosts, ofStoredLinks};
+ghost use Rattle.batch.specs.Batch.{batchOutcome};
+ghost use Rattle.choice.specs.Call.{choiceOf};
+ghost use Rattle.numbers.specs.Numbers.{ofAnswer, ofWritten, ofComparison, ofStoredCosts, ofStoredLinks, ofBatched, ofChosen};
 ghost use Rattle.kemotuiki.specs.Crossing.{LeftRows, crossed, crossedBytes, crossedRows, crossedLinks};
 
 // The index of the division with the far side s.
@@ -161,4 +163,26 @@ pub extern "C" fn kemotuiki_read_links(
     ensures { λ r. ⌜ LeftRows (crossedLinks (links-reading.readOutcome 0 21 limit (now (bytes .entry)) position (now (fars .entry)) (now (costs .entry)))) r (now (fars .exit)) (now (costs .exit)) ⌝ }
 {
     numbers::of_stored_links(stored_links::read_links(bytes, position, fars, costs))
+}
+
+// Link tables stored one after another.
+#[no_mangle]
+pub extern "C" fn kemotuiki_write_batch(
+    ns: &[u32],
+    counts: &[u32],
+    fars: &[u64],
+    costs: &[u32],
+    out: &mut [u8],
+) -> KemotuikiAnswer
+    ensures { λ r. ⌜ Left (crossed ofBatched (batchOutcome 0 0 21 limit (now (ns .entry)) (now (counts .entry)) (now (fars .entry)) (now (costs .entry)) (now (out .entry)))) r (now (out .exit)) ⌝ }
+{
+    numbers::of_batched(batch::write_batch(ns, counts, fars, costs, out))
+}
+
+// Which of two stored link tables includes the other. A part of a buffer cannot cross, but its number and its used bytes say it.
+#[no_mangle]
+pub extern "C" fn kemotuiki_choice(first: &[u8], second: &[u8]) -> KemotuikiAnswer
+    ensures { λ r. ⌜ r ≡ ofChosen (choiceOf 0 21 limit (now (first .entry)) (now (second .entry))) ⌝ }
+{
+    numbers::of_chosen(choice::choice(first, second))
 }

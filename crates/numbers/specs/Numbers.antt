@@ -9,12 +9,16 @@ use Rattle.compare.specs.declared.Comparison.{Comparison}
 use Rattle.compare.specs.declared.Comparison.the-variants.{Compared}
 use Rattle.stored_costs.specs.declared.StoredCosts.{StoredCosts}
 use Rattle.stored_links.specs.declared.StoredLinks.{StoredLinks}
+use Rattle.batch.specs.declared.Batched.{Batched}
+use Rattle.choice.specs.declared.Chosen.{Chosen}
 use Rattle.numbers.specs.declared.KemotuikiAnswer.{KemotuikiAnswer}
 use Rattle.ground.specs.declared.Answer.the-variants as answer
 use Rattle.ground.specs.declared.Written.the-variants as written
 use Rattle.compare.specs.declared.Comparison.the-variants as compared
 use Rattle.stored_costs.specs.declared.StoredCosts.the-variants as costs
 use Rattle.stored_links.specs.declared.StoredLinks.the-variants as links
+use Rattle.batch.specs.declared.Batched.the-variants as batch
+use Rattle.choice.specs.declared.Chosen.the-variants as choice
 
 -- accepted is number 0, with up to five values, unused ones 0
 abbrev pub accepted : ℕ → ℕ → ℕ → ℕ → ℕ → KemotuikiAnswer
@@ -50,3 +54,13 @@ ofStoredCosts (costs.Refused r) = refused 0 r
 abbrev pub ofStoredLinks : StoredLinks → KemotuikiAnswer
 ofStoredLinks (links.Table n N used) = accepted n N used 0 0
 ofStoredLinks (links.Refused r) = refused 0 r
+
+-- the bytes written
+abbrev pub ofBatched : Batched → KemotuikiAnswer
+ofBatched (batch.Bytes used) = accepted used 0 0 0 0
+ofBatched (batch.Refused m r) = refused m r
+
+-- the chosen table's number and its bytes used
+abbrev pub ofChosen : Chosen → KemotuikiAnswer
+ofChosen (choice.Table m used) = accepted m used 0 0 0
+ofChosen (choice.Refused m r) = refused m r

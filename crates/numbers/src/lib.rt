@@ -1,4 +1,6 @@
 // Every answer of a public call as one struct of numbers, so that it can cross to C and Fortran.
+use batch::Batched;
+use choice::Chosen;
 use compare::Comparison;
 use counts::Difference;
 use ground::Answer;
@@ -7,7 +9,7 @@ use ground::Written;
 use stored_costs::StoredCosts;
 use stored_links::StoredLinks;
 ghost use mathlib.Core.Path.{_≡_};
-ghost use Rattle.numbers.specs.Numbers.{accepted, refused, ofAnswer, ofWritten, ofComparison, ofStoredCosts, ofStoredLinks};
+ghost use Rattle.numbers.specs.Numbers.{accepted, refused, ofAnswer, ofWritten, ofComparison, ofStoredCosts, ofStoredLinks, ofBatched, ofChosen};
 
 // An answer: the refusal's number, 0 where the call was accepted; the table that was refused, where a call takes more than one; the
 // refusal's places; and the values of an accepted call. Unused fields are 0.
@@ -130,5 +132,25 @@ pub fn of_stored_links(x: StoredLinks) -> KemotuikiAnswer
     match x {
         StoredLinks::Table { n, count, used } => accept(n, count, used),
         StoredLinks::Refused(r) => refuse(0, r),
+    }
+}
+
+// The numbers of a batch: the bytes written.
+pub fn of_batched(x: Batched) -> KemotuikiAnswer
+    ensures { λ r. ⌜ r ≡ ofBatched x ⌝ }
+{
+    match x {
+        Batched::Bytes(used) => accept(used, 0, 0),
+        Batched::Refused(table, r) => refuse(table, r),
+    }
+}
+
+// The numbers of a choice: the chosen table and its bytes used.
+pub fn of_chosen(x: Chosen) -> KemotuikiAnswer
+    ensures { λ r. ⌜ r ≡ ofChosen x ⌝ }
+{
+    match x {
+        Chosen::Table(table, used) => accept(table, used, 0),
+        Chosen::Refused(table, r) => refuse(table, r),
     }
 }
