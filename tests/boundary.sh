@@ -10,6 +10,7 @@ if [ -z "$CC" ] || [ "$RUN" = none ]; then
     exit 0
 fi
 archive=target/staticlib/libkemotuiki.a
+mkdir -p target
 rt staticlib kemotuiki >target/boundary.log 2>&1 || { tail -5 target/boundary.log; echo "boundary: the archive was not built"; exit 1; }
 work=$(mktemp -d)
 trap 'rm -rf "$work"' EXIT
@@ -33,7 +34,13 @@ else
     status=1
 fi
 
-# The header is also C++, and its struct has the size that the archive writes.
+# The struct has the size that the archive writes, and the header is also C++.
 printf '#include "kemotuiki.h"\nint main(void) { return sizeof(KemotuikiAnswer) == 88 ? 0 : 1; }\n' >"$work/size.c"
-"$CC" -Iinclude "$work/size.c" -o "$work/size" && { $RUN "$work/size" || { echo "boundary: the struct is not 88 bytes"; status=1; }; }
+"$CC" -Iinclude "$work/size.c" -o "$work/size"
+$RUN "$work/size" || { echo "boundary: the struct is not 88 bytes"; status=1; }
+if have g++; then
+    g++ -x c++ -Wall -Wextra -Werror -Iinclude -fsyntax-only "$work/size.c" || { echo "boundary: the header is not C++"; status=1; }
+else
+    echo "boundary: SKIPPED, no C++ compiler for the header"
+fi
 exit $status
