@@ -82,6 +82,9 @@ int main(void) {
     r = kemotuiki_route(N, count, fars, count, costs, count, 3, out, 2 * N - 3);
     printf("route of 3:");
     for (size_t i = 0; i < r.value; i++) printf(" %u", out[i]);
+    r = kemotuiki_upper_rows(N, count, fars, count, costs, count, out, 2 * N - 3);
+    printf("\nupper rows:");
+    for (size_t i = 0; i < r.value; i++) printf(" %u", out[i]);
     r = kemotuiki_order(N, tables[0], N * N, 1, 9, out, 2 * N - 3);
     printf("\norder from 1 to 9:");
     for (size_t i = 0; i < r.value; i++) printf(" %u", out[i]);
@@ -109,5 +112,16 @@ int main(void) {
     r = kemotuiki_choice(mine, first.value, theirs, second.value);
     printf("image 1's tree and image 7's: ");
     refusal(r);
+
+    /* both in one batch: the rows of image 7's tree stand behind those of image 1's */
+    uint64_t all_fars[4 * N - 6];
+    uint32_t all_costs[4 * N - 6], counts[2], images[2] = {N, N};
+    r = kemotuiki_exact(N, tables[0], N * N, all_fars, 2 * N - 3, all_costs, 2 * N - 3);
+    counts[0] = (uint32_t)r.value;
+    r = kemotuiki_exact(N, tables[6], N * N, all_fars + counts[0], 2 * N - 3, all_costs + counts[0], 2 * N - 3);
+    counts[1] = (uint32_t)r.value;
+    size_t both = counts[0] + counts[1];
+    r = kemotuiki_write_batch(images, 2, counts, 2, all_fars, both, all_costs, both, bytes, sizeof bytes);
+    printf("both in one batch: %zu bytes\n", r.value);
     return 0;
 }

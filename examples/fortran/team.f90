@@ -6,7 +6,8 @@ program team
     implicit none
     integer, parameter :: n = 9, room = 2 * n - 3
     integer(c_int32_t) :: tables(n, n, n), costs(room), out(room), back(n * n)
-    integer(c_int64_t) :: fars(room)
+    integer(c_int32_t) :: all_costs(2 * room), counts(2)
+    integer(c_int64_t) :: fars(room), all_fars(2 * room)
     integer(c_int8_t) :: bytes(512), mine(256), theirs(256)
     type(kemotuiki_answer) :: r, first, second
     integer :: k, count
@@ -47,6 +48,8 @@ program team
     print '(a, i0)', 'path cost of 3 and 8: ', r%value
     r = route_of(n, fars(:count), costs(:count), 3, out)
     print '(a, *(1x, i0))', 'route of 3:', out(:r%value)
+    r = upper_rows(n, fars(:count), costs(:count), out)
+    print '(a, *(1x, i0))', 'upper rows:', out(:r%value)
     r = order_around(tables(:, :, 1), 1, 9, out)
     print '(a, *(1x, i0))', 'order from 1 to 9:', out(:r%value)
     r = index_of(tables(:, :, 1), 12_c_int64_t)
@@ -75,6 +78,14 @@ program team
     second = write_links(n, fars(:r%value), costs(:r%value), theirs)
     r = choose_table(mine(:first%value), theirs(:second%value))
     print '(a, a)', "image 1's tree and image 7's: ", refusal_text(r)
+
+    ! both in one batch: the rows of image 7's tree stand behind those of image 1's
+    r = exact_reading(tables(:, :, 1), all_fars, all_costs)
+    counts(1) = int(r%value, c_int32_t)
+    r = exact_reading(tables(:, :, 7), all_fars(counts(1) + 1:), all_costs(counts(1) + 1:))
+    counts(2) = int(r%value, c_int32_t)
+    r = write_batch([int(n, c_int32_t), int(n, c_int32_t)], counts, all_fars(:sum(counts)), all_costs(:sum(counts)), bytes)
+    print '(a, i0, a)', 'both in one batch: ', r%value, ' bytes'
 
 contains
 
