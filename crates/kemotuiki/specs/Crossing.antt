@@ -4,7 +4,8 @@ use mathlib.Core.Path.{ap, sym, _∙_, _≡_}
 use Prim.Native.Nat.{ℕ}
 use Rattle.ground.specs.Outcomes.{Left, Outcome}
 use Rattle.ground.specs.declared.Written.{Written}
-use Rattle.numbers.specs.Numbers.{ofStoredLinks, ofWritten}
+use Rattle.numbers.specs.Numbers.{ofWritten}
+use Rattle.numbers.specs.Stored.{ofStoredLinks}
 use Rattle.numbers.specs.declared.KemotuikiAnswer.{KemotuikiAnswer}
 use Rattle.stored_links.specs.declared.StoredLinks.{StoredLinks}
 use Rattle.tree.specs.Readings as tree

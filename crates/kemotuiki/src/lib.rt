@@ -15,7 +15,8 @@ ghost use Rattle.link_writer.specs.Writing as links-writing;
 ghost use Rattle.stored_links.specs.Outcomes as links-reading;
 ghost use Rattle.batch.specs.Batch.{batchOutcome};
 ghost use Rattle.choice.specs.Call.{choiceOf};
-ghost use Rattle.numbers.specs.Numbers.{ofAnswer, ofWritten, ofComparison, ofStoredCosts, ofStoredLinks, ofBatched, ofChosen};
+ghost use Rattle.numbers.specs.Numbers.{ofAnswer, ofWritten, ofComparison};
+ghost use Rattle.numbers.specs.Stored.{ofStoredCosts, ofStoredLinks, ofBatched, ofChosen};
 ghost use Rattle.kemotuiki.specs.Crossing.{LeftRows, crossed, crossedBytes, crossedRows, crossedLinks};
 
 // The index of the division with the far side s.

@@ -1,4 +1,4 @@
--- Document 01's number and values for each case of each answer, as the fields of one struct. Assumes nothing.
+-- Document 01's number and values for each case of an answer, as the fields of one struct; those about stored tables are in Stored.antt. Assumes nothing.
 use Prim.Native.Nat.{ℕ}
 use Rattle.ground.specs.declared.Answer.{Answer}
 use Rattle.ground.specs.declared.Answer.the-variants.{Value}
@@ -7,18 +7,10 @@ use Rattle.ground.specs.declared.Written.{Written}
 use Rattle.ground.specs.declared.Written.the-variants.{Places}
 use Rattle.compare.specs.declared.Comparison.{Comparison}
 use Rattle.compare.specs.declared.Comparison.the-variants.{Compared}
-use Rattle.stored_costs.specs.declared.StoredCosts.{StoredCosts}
-use Rattle.stored_links.specs.declared.StoredLinks.{StoredLinks}
-use Rattle.batch.specs.declared.Batched.{Batched}
-use Rattle.choice.specs.declared.Chosen.{Chosen}
 use Rattle.numbers.specs.declared.KemotuikiAnswer.{KemotuikiAnswer}
 use Rattle.ground.specs.declared.Answer.the-variants as answer
 use Rattle.ground.specs.declared.Written.the-variants as written
 use Rattle.compare.specs.declared.Comparison.the-variants as compared
-use Rattle.stored_costs.specs.declared.StoredCosts.the-variants as costs
-use Rattle.stored_links.specs.declared.StoredLinks.the-variants as links
-use Rattle.batch.specs.declared.Batched.the-variants as batch
-use Rattle.choice.specs.declared.Chosen.the-variants as choice
 
 -- accepted is number 0, with up to five values, unused ones 0
 abbrev pub accepted : ℕ → ℕ → ℕ → ℕ → ℕ → KemotuikiAnswer
@@ -44,23 +36,3 @@ ofWritten (written.Refused r) = refused 0 r
 abbrev pub ofComparison : Comparison → KemotuikiAnswer
 ofComparison (Compared w) = accepted (w .first) (w .second) (w .common) (w .count) (w .over)
 ofComparison (compared.Refused m r) = refused m r
-
--- n and the bytes used
-abbrev pub ofStoredCosts : StoredCosts → KemotuikiAnswer
-ofStoredCosts (costs.Table n used) = accepted n used 0 0 0
-ofStoredCosts (costs.Refused r) = refused 0 r
-
--- n, the row count and the bytes used
-abbrev pub ofStoredLinks : StoredLinks → KemotuikiAnswer
-ofStoredLinks (links.Table n N used) = accepted n N used 0 0
-ofStoredLinks (links.Refused r) = refused 0 r
-
--- the bytes written
-abbrev pub ofBatched : Batched → KemotuikiAnswer
-ofBatched (batch.Bytes used) = accepted used 0 0 0 0
-ofBatched (batch.Refused m r) = refused m r
-
--- the chosen table's number and its bytes used
-abbrev pub ofChosen : Chosen → KemotuikiAnswer
-ofChosen (choice.Table m used) = accepted m used 0 0 0
-ofChosen (choice.Refused m r) = refused m r

@@ -9,7 +9,8 @@ use ground::Written;
 use stored_costs::StoredCosts;
 use stored_links::StoredLinks;
 ghost use mathlib.Core.Path.{_≡_};
-ghost use Rattle.numbers.specs.Numbers.{accepted, refused, ofAnswer, ofWritten, ofComparison, ofStoredCosts, ofStoredLinks, ofBatched, ofChosen};
+ghost use Rattle.numbers.specs.Numbers.{accepted, refused, ofAnswer, ofWritten, ofComparison};
+ghost use Rattle.numbers.specs.Stored.{ofStoredCosts, ofStoredLinks, ofBatched, ofChosen};
 
 // An answer: the refusal's number, 0 where the call was accepted; the table that was refused, where a call takes more than one; the
 // refusal's places; and the values of an accepted call. Unused fields are 0.

@@ -1,7 +1,7 @@
 -- `kemotuiki::kemotuiki_choice` meets its contract: the numbers of what the call promises. Assumes nothing.
 use mathlib.Core.Path.{ap, _∙_}
 use borrow.Author.Needs.{needs}
-use Rattle.numbers.specs.Numbers.{ofChosen}
+use Rattle.numbers.specs.Stored.{ofChosen}
 use Rattle.kemotuiki.proofs.kemotuiki_choice.Statement.{statement}
 use Rattle.kemotuiki.proofs.kemotuiki_choice.Tie as tie
 

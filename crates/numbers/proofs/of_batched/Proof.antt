@@ -1,7 +1,7 @@
 -- `numbers::of_batched` meets its contract: the bytes written, or the refusal with its table. Assumes nothing.
 use mathlib.Core.Path.{ap, sym, _∙_}
 use borrow.Author.Needs.{needs}
-use Rattle.numbers.specs.Numbers.{ofBatched}
+use Rattle.numbers.specs.Stored.{ofBatched}
 use Rattle.numbers.proofs.of_batched.Statement.{statement}
 use Rattle.numbers.proofs.of_batched.Tie as tie
 

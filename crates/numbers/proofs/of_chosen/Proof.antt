@@ -1,7 +1,7 @@
 -- `numbers::of_chosen` meets its contract: the chosen table and its bytes used, or the refusal with its table. Assumes nothing.
 use mathlib.Core.Path.{ap, sym, _∙_}
 use borrow.Author.Needs.{needs}
-use Rattle.numbers.specs.Numbers.{ofChosen}
+use Rattle.numbers.specs.Stored.{ofChosen}
 use Rattle.numbers.proofs.of_chosen.Statement.{statement}
 use Rattle.numbers.proofs.of_chosen.Tie as tie
 

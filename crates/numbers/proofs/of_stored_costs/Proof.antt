@@ -1,7 +1,7 @@
 -- `numbers::of_stored_costs` meets its contract: n and the bytes used, or the refusal. Assumes nothing.
 use mathlib.Core.Path.{ap, sym, _∙_}
 use borrow.Author.Needs.{needs}
-use Rattle.numbers.specs.Numbers.{ofStoredCosts}
+use Rattle.numbers.specs.Stored.{ofStoredCosts}
 use Rattle.numbers.proofs.of_stored_costs.Statement.{statement}
 use Rattle.numbers.proofs.of_stored_costs.Tie as tie
 

@@ -1,7 +1,7 @@
 -- `numbers::of_stored_links` meets its contract: n, the row count and the bytes used, or the refusal. Assumes nothing.
 use mathlib.Core.Path.{ap, sym, _∙_}
 use borrow.Author.Needs.{needs}
-use Rattle.numbers.specs.Numbers.{ofStoredLinks}
+use Rattle.numbers.specs.Stored.{ofStoredLinks}
 use Rattle.numbers.proofs.of_stored_links.Statement.{statement}
 use Rattle.numbers.proofs.of_stored_links.Tie as tie
 
