@@ -1,0 +1,15 @@
+/* The same calls in plain C. Each answers 0, or the number of a refusal, and its count or value through the pointer. */
+#include <stddef.h>
+#include <stdint.h>
+
+int plain_index(size_t n, const uint32_t *t, size_t t_count, uint64_t s, size_t *value);
+int plain_order(size_t n, const uint32_t *t, size_t t_count, size_t first, size_t last, uint32_t *out, size_t room);
+int plain_measured(size_t n, const uint32_t *t, size_t t_count, uint64_t *fars, uint32_t *costs, size_t room, size_t *rows);
+int plain_exact(size_t n, const uint32_t *t, size_t t_count, uint64_t *fars, uint32_t *costs, size_t room, size_t *rows);
+int plain_exact_all_fours(size_t n, const uint32_t *t, size_t t_count, uint64_t *fars, uint32_t *costs, size_t room, size_t *rows);
+int plain_compare(size_t n, const uint32_t *first, size_t first_count, const uint32_t *second, size_t second_count, size_t v[5]);
+int plain_write_costs(size_t n, const uint32_t *t, size_t t_count, uint8_t *out, size_t room, size_t *used);
+int plain_read_costs(const uint8_t *bytes, size_t count, size_t position, uint32_t *out, size_t room, size_t *n, size_t *used);
+int plain_write_links(size_t n, size_t count, const uint64_t *fars, const uint32_t *costs, uint8_t *out, size_t room, size_t *used);
+int plain_read_links(const uint8_t *bytes, size_t count, size_t position, uint64_t *fars, uint32_t *costs, size_t room, size_t *n,
+                     size_t *rows, size_t *used);

@@ -1,0 +1,24 @@
+-- `kemotuiki::kemotuiki_exact` meets its contract: the numbers of what the call promises, and the lent slices as it leaves them. Assumes nothing.
+use borrow.Author.Needs.{needs}
+use Rattle.kemotuiki.specs.Crossing.{left-rows}
+use Rattle.kemotuiki.proofs.kemotuiki_exact.Statement.{statement}
+use Rattle.kemotuiki.proofs.kemotuiki_exact.Tie as tie
+
+exact-requires : tie.Need-exact-requires
+exact-requires c κs = search needs
+
+of-written-requires : tie.Need-of-written-requires
+of-written-requires c κs = search needs
+
+same-length : tie.Need-same-length
+same-length c = search needs
+
+same-length-2 : tie.Need-same-length-2
+same-length-2 c = search needs
+
+returns : tie.Need-returns
+returns c = left-rows _ (c .before .before .before .before .before .exact .ensures) (c .of-written .ensures)
+
+pub kemotuiki-exact-spec : {M : Type 1} → statement M
+kemotuiki-exact-spec =
+    tie.close (tie.spec exact-requires of-written-requires same-length same-length-2 returns)

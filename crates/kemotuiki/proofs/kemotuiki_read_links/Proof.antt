@@ -1,0 +1,25 @@
+-- `kemotuiki::kemotuiki_read_links` meets its contract: the numbers of what the call promises, and the lent slices as it leaves them. Assumes nothing.
+use borrow.Author.Needs.{needs}
+use Rattle.kemotuiki.specs.Crossing.{left-links}
+use Rattle.kemotuiki.proofs.kemotuiki_read_links.Statement.{statement}
+use Rattle.kemotuiki.proofs.kemotuiki_read_links.Tie as tie
+
+read-links-requires : tie.Need-read-links-requires
+read-links-requires c κs = search needs
+
+of-stored-links-requires : tie.Need-of-stored-links-requires
+of-stored-links-requires c κs = search needs
+
+same-length : tie.Need-same-length
+same-length c = search needs
+
+same-length-2 : tie.Need-same-length-2
+same-length-2 c = search needs
+
+returns : tie.Need-returns
+returns c = left-links _ (c .before .before .before .before .before .read-links .ensures) (c .of-stored-links .ensures)
+
+pub kemotuiki-read-links-spec : {M : Type 1} → statement M
+kemotuiki-read-links-spec =
+    tie.close
+    (tie.spec read-links-requires of-stored-links-requires same-length same-length-2 returns)

@@ -1,0 +1,2 @@
+-- What the contracts of `kemotuiki` cite: an outcome with its answer in numbers.
+pub mod Crossing

@@ -1,0 +1,39 @@
+-- `numbers::of_answer` meets its contract: the value, or the refusal. Assumes nothing.
+use mathlib.Core.Path.{ap, sym, _∙_}
+use borrow.Author.Needs.{needs}
+use Rattle.numbers.specs.Numbers.{ofAnswer}
+use Rattle.numbers.proofs.of_answer.Statement.{statement}
+use Rattle.numbers.proofs.of_answer.Tie as tie
+
+enum-known-x : tie.Need-enum-known-x
+enum-known-x c = search needs
+
+cast-accept : tie.Need-cast-accept
+cast-accept c = search needs
+
+accept-requires : tie.Need-accept-requires
+accept-requires c κs = search needs
+
+enum-known-x-2 : tie.Need-enum-known-x-2
+enum-known-x-2 c = search needs
+
+refuse-requires : tie.Need-refuse-requires
+refuse-requires c κs = search needs
+
+returns : tie.Need-returns
+returns c = c .accept .ensures ∙ sym (ap ofAnswer (c .before .before .x .given .1))
+
+returns-2 : tie.Need-returns-2
+returns-2 c = c .refuse .ensures ∙ sym (ap ofAnswer (c .before .before .x2 .given .1))
+
+pub of-answer-spec : {M : Type 1} → statement M
+of-answer-spec =
+    tie.close
+    (tie.spec
+    enum-known-x
+    cast-accept
+    accept-requires
+    enum-known-x-2
+    refuse-requires
+    returns
+    returns-2)

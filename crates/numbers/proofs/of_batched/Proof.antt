@@ -1,0 +1,29 @@
+-- `numbers::of_batched` meets its contract: the bytes written, or the refusal with its table. Assumes nothing.
+use mathlib.Core.Path.{ap, sym, _∙_}
+use borrow.Author.Needs.{needs}
+use Rattle.numbers.specs.Stored.{ofBatched}
+use Rattle.numbers.proofs.of_batched.Statement.{statement}
+use Rattle.numbers.proofs.of_batched.Tie as tie
+
+enum-known-x : tie.Need-enum-known-x
+enum-known-x c = search needs
+
+accept-requires : tie.Need-accept-requires
+accept-requires c κs = search needs
+
+enum-known-x-2 : tie.Need-enum-known-x-2
+enum-known-x-2 c = search needs
+
+refuse-requires : tie.Need-refuse-requires
+refuse-requires c κs = search needs
+
+returns : tie.Need-returns
+returns c = c .accept .ensures ∙ sym (ap ofBatched (c .before .before .x .given .1))
+
+returns-2 : tie.Need-returns-2
+returns-2 c = c .refuse .ensures ∙ sym (ap ofBatched (c .before .before .x2 .given .1))
+
+pub of-batched-spec : {M : Type 1} → statement M
+of-batched-spec =
+    tie.close
+    (tie.spec enum-known-x accept-requires enum-known-x-2 refuse-requires returns returns-2)

@@ -1,0 +1,3 @@
+-- What the contracts of `numbers` cite: the numbers of each answer.
+pub mod Numbers
+pub mod Stored

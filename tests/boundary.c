@@ -1,0 +1,404 @@
+/*
+ * The cases of crates/cases/data through the archive: boundary DATA prints what crates/cases/stdout has for the calls that are
+ * exported. Every lent buffer stands between guard bytes, which are compared after the call, and every input is compared with
+ * a copy. boundary --edges tries null pointers with count 0, and numbers too large for anything.
+ */
+#include <errno.h>
+#include <stdio.h>
+#include <stdlib.h>
+#include <string.h>
+
+#include "kemotuiki.h"
+
+#define GUARD 64
+#define LINE 70000
+
+static int faults;
+static const char *call_name = "";
+
+/* One lent buffer: its elements between two rows of guard bytes, and a copy from before the call. */
+typedef struct {
+    unsigned char *block;
+    unsigned char *copy;
+    size_t count, bytes;
+} Lent;
+
+static void *lend(Lent *l, size_t count, size_t width) {
+    l->count = count;
+    l->bytes = count * width;
+    l->block = malloc(l->bytes + 2 * GUARD);
+    l->copy = malloc(l->bytes + 1);
+    if (!l->block || !l->copy) {
+        fprintf(stderr, "no memory\n");
+        exit(2);
+    }
+    memset(l->block, 0xA5, l->bytes + 2 * GUARD);
+    return l->block + GUARD;
+}
+
+static void keep(Lent *l) { memcpy(l->copy, l->block + GUARD, l->bytes); }
+
+static void fault(const char *what) {
+    fprintf(stderr, "%s: %s\n", call_name, what);
+    faults++;
+}
+
+/* The guards are whole; an input, and an output that was refused or lies behind the answer, is as it was. */
+static void settle(Lent *l, size_t written_bytes) {
+    for (size_t i = 0; i < GUARD; i++)
+        if (l->block[i] != 0xA5 || l->block[GUARD + l->bytes + i] != 0xA5) {
+            fault("a byte outside a lent buffer was altered");
+            break;
+        }
+    if (written_bytes > l->bytes)
+        fault("more places answered than were lent");
+    else if (memcmp(l->copy + written_bytes, l->block + GUARD + written_bytes, l->bytes - written_bytes))
+        fault("a place that the answer does not name was altered");
+    free(l->block);
+    free(l->copy);
+}
+
+/* ---- reading one line of numbers ---- */
+
+static char line[LINE];
+static char *at;
+
+static unsigned long long number(void) {
+    char *end;
+    errno = 0;
+    unsigned long long v = strtoull(at, &end, 10);
+    if (end == at || errno) {
+        fprintf(stderr, "%s: a bad line\n", call_name);
+        exit(2);
+    }
+    at = end;
+    return v;
+}
+
+static uint32_t *read32(Lent *l) {
+    size_t count = number();
+    uint32_t *p = lend(l, count, 4);
+    for (size_t i = 0; i < count; i++) p[i] = (uint32_t)number();
+    keep(l);
+    return p;
+}
+
+static uint64_t *read64(Lent *l) {
+    size_t count = number();
+    uint64_t *p = lend(l, count, 8);
+    for (size_t i = 0; i < count; i++) p[i] = number();
+    keep(l);
+    return p;
+}
+
+static uint8_t *read8(Lent *l) {
+    size_t count = number();
+    uint8_t *p = lend(l, count, 1);
+    for (size_t i = 0; i < count; i++) p[i] = (uint8_t)number();
+    keep(l);
+    return p;
+}
+
+/* ---- printing an answer and the lent outputs ---- */
+
+static void answer(KemotuikiAnswer r, int values, int tables) {
+    size_t v[5] = {r.value, r.second, r.third, r.fourth, r.fifth};
+    printf("%u", r.number);
+    if (r.number) {
+        if (tables) printf(" %zu", r.table);
+        else if (r.table) fault("a table's number from a call with one table");
+        printf(" %zu %zu %zu %zu", r.a, r.b, r.c, r.d);
+        for (int i = 0; i < 5; i++)
+            if (v[i]) fault("a value beside a refusal");
+    } else {
+        for (int i = 0; i < values; i++) printf(" %zu", v[i]);
+        for (int i = values; i < 5; i++)
+            if (v[i]) fault("an unused value is not 0");
+        if (r.table || r.a || r.b || r.c || r.d) fault("places beside an accepted answer");
+    }
+}
+
+static void show32(const uint32_t *p, size_t count) {
+    printf(" %zu", count);
+    for (size_t i = 0; i < count; i++) printf(" %u", p[i]);
+}
+
+static void show64(const uint64_t *p, size_t count) {
+    printf(" %zu", count);
+    for (size_t i = 0; i < count; i++) printf(" %llu", (unsigned long long)p[i]);
+}
+
+static void show8(const uint8_t *p, size_t count) {
+    printf(" %zu", count);
+    for (size_t i = 0; i < count; i++) printf(" %u", p[i]);
+}
+
+static size_t places(KemotuikiAnswer r, size_t count, size_t width) { return r.number ? 0 : count * width; }
+
+/* ---- the calls ---- */
+
+static void do_index(void) {
+    Lent lt;
+    size_t n = number();
+    uint32_t *t = read32(&lt);
+    uint64_t s = number();
+    answer(kemotuiki_index(n, t, lt.count, s), 1, 0);
+    settle(&lt, 0);
+}
+
+static void do_order(void) {
+    Lent lt, lo;
+    size_t n = number();
+    uint32_t *t = read32(&lt);
+    size_t first = number(), last = number();
+    uint32_t *out = read32(&lo);
+    KemotuikiAnswer r = kemotuiki_order(n, t, lt.count, first, last, out, lo.count);
+    answer(r, 1, 0);
+    show32(out, lo.count);
+    settle(&lt, 0);
+    settle(&lo, places(r, r.value, 4));
+}
+
+typedef KemotuikiAnswer Reading(size_t, const uint32_t *, size_t, uint64_t *, size_t, uint32_t *, size_t);
+
+static void reading(Reading *call) {
+    Lent lt, lf, lc;
+    size_t n = number();
+    uint32_t *t = read32(&lt);
+    uint64_t *fars = read64(&lf);
+    uint32_t *costs = read32(&lc);
+    KemotuikiAnswer r = call(n, t, lt.count, fars, lf.count, costs, lc.count);
+    answer(r, 1, 0);
+    show64(fars, lf.count);
+    show32(costs, lc.count);
+    settle(&lt, 0);
+    settle(&lf, places(r, r.value, 8));
+    settle(&lc, places(r, r.value, 4));
+}
+
+static void do_measured(void) { reading(kemotuiki_measured); }
+static void do_exact(void) { reading(kemotuiki_exact); }
+
+static void do_path(void) {
+    Lent lf, lc;
+    size_t n = number(), count = number();
+    uint64_t *fars = read64(&lf);
+    uint32_t *costs = read32(&lc);
+    size_t i = number(), j = number();
+    answer(kemotuiki_path(n, count, fars, lf.count, costs, lc.count, i, j), 1, 0);
+    settle(&lf, 0);
+    settle(&lc, 0);
+}
+
+static void do_upper_rows(void) {
+    Lent lf, lc, lo;
+    size_t n = number(), count = number();
+    uint64_t *fars = read64(&lf);
+    uint32_t *costs = read32(&lc), *out = read32(&lo);
+    KemotuikiAnswer r = kemotuiki_upper_rows(n, count, fars, lf.count, costs, lc.count, out, lo.count);
+    answer(r, 1, 0);
+    show32(out, lo.count);
+    settle(&lf, 0);
+    settle(&lc, 0);
+    settle(&lo, places(r, r.value, 4));
+}
+
+static void do_route(void) {
+    Lent lf, lc, lo;
+    size_t n = number(), count = number();
+    uint64_t *fars = read64(&lf);
+    uint32_t *costs = read32(&lc);
+    size_t i = number();
+    uint32_t *out = read32(&lo);
+    KemotuikiAnswer r = kemotuiki_route(n, count, fars, lf.count, costs, lc.count, i, out, lo.count);
+    answer(r, 1, 0);
+    show32(out, lo.count);
+    settle(&lf, 0);
+    settle(&lc, 0);
+    settle(&lo, places(r, r.value, 4));
+}
+
+static void do_compare(void) {
+    Lent la, lb;
+    size_t n = number();
+    uint32_t *first = read32(&la), *second = read32(&lb);
+    answer(kemotuiki_compare(n, first, la.count, second, lb.count), 5, 1);
+    settle(&la, 0);
+    settle(&lb, 0);
+}
+
+static void do_write_costs(void) {
+    Lent lt, lo;
+    size_t n = number();
+    uint32_t *t = read32(&lt);
+    uint8_t *out = read8(&lo);
+    KemotuikiAnswer r = kemotuiki_write_costs(n, t, lt.count, out, lo.count);
+    answer(r, 1, 0);
+    show8(out, lo.count);
+    settle(&lt, 0);
+    settle(&lo, places(r, r.value, 1));
+}
+
+static void do_read_costs(void) {
+    Lent lb, lo;
+    uint8_t *bytes = read8(&lb);
+    size_t position = number();
+    uint32_t *out = read32(&lo);
+    KemotuikiAnswer r = kemotuiki_read_costs(bytes, lb.count, position, out, lo.count);
+    answer(r, 2, 0);
+    show32(out, lo.count);
+    settle(&lb, 0);
+    settle(&lo, places(r, r.value * r.value, 4));
+}
+
+static void do_write_links(void) {
+    Lent lf, lc, lo;
+    size_t n = number(), count = number();
+    uint64_t *fars = read64(&lf);
+    uint32_t *costs = read32(&lc);
+    uint8_t *out = read8(&lo);
+    KemotuikiAnswer r = kemotuiki_write_links(n, count, fars, lf.count, costs, lc.count, out, lo.count);
+    answer(r, 1, 0);
+    show8(out, lo.count);
+    settle(&lf, 0);
+    settle(&lc, 0);
+    settle(&lo, places(r, r.value, 1));
+}
+
+static void do_read_links(void) {
+    Lent lb, lf, lc;
+    uint8_t *bytes = read8(&lb);
+    size_t position = number();
+    uint64_t *fars = read64(&lf);
+    uint32_t *costs = read32(&lc);
+    KemotuikiAnswer r = kemotuiki_read_links(bytes, lb.count, position, fars, lf.count, costs, lc.count);
+    answer(r, 3, 0);
+    show64(fars, lf.count);
+    show32(costs, lc.count);
+    settle(&lb, 0);
+    settle(&lf, places(r, r.second, 8));
+    settle(&lc, places(r, r.second, 4));
+}
+
+static void do_write_batch(void) {
+    Lent ln, lm, lf, lc, lo;
+    uint32_t *ns = read32(&ln), *counts = read32(&lm);
+    uint64_t *fars = read64(&lf);
+    uint32_t *costs = read32(&lc);
+    uint8_t *out = read8(&lo);
+    KemotuikiAnswer r = kemotuiki_write_batch(ns, ln.count, counts, lm.count, fars, lf.count, costs, lc.count, out, lo.count);
+    answer(r, 1, 1);
+    show8(out, lo.count);
+    settle(&ln, 0);
+    settle(&lm, 0);
+    settle(&lf, 0);
+    settle(&lc, 0);
+    settle(&lo, places(r, r.value, 1));
+}
+
+static void do_choice(void) {
+    Lent la, lb;
+    uint8_t *first = read8(&la), *second = read8(&lb);
+    KemotuikiAnswer r = kemotuiki_choice(first, la.count, second, lb.count);
+    answer(r, 2, 1);
+    show8(r.value == 1 ? first : second, r.second);
+    settle(&la, 0);
+    settle(&lb, 0);
+}
+
+static const struct {
+    const char *name;
+    void (*run)(void);
+} calls[] = {
+    {"index", do_index},           {"order", do_order},           {"measured", do_measured},
+    {"exact", do_exact},           {"path", do_path},             {"upper_rows", do_upper_rows},
+    {"route", do_route},           {"compare", do_compare},       {"write_costs", do_write_costs},
+    {"read_costs", do_read_costs}, {"write_links", do_write_links}, {"read_links", do_read_links},
+    {"write_batch", do_write_batch}, {"choice", do_choice},
+};
+
+static int cases(const char *folder) {
+    for (size_t k = 0; k < sizeof calls / sizeof *calls; k++) {
+        char path[4096];
+        call_name = calls[k].name;
+        snprintf(path, sizeof path, "%s/%s.txt", folder, call_name);
+        FILE *f = fopen(path, "r");
+        if (!f) {
+            fprintf(stderr, "cannot open %s\n", path);
+            return 2;
+        }
+        printf("%s\n", call_name);
+        while (fgets(line, sizeof line, f)) {
+            at = line;
+            calls[k].run();
+            printf("\n");
+        }
+        fclose(f);
+    }
+    return faults ? 1 : 0;
+}
+
+/* ---- null pointers with count 0, and numbers too large for anything ---- */
+
+static void expect(const char *name, KemotuikiAnswer r, uint32_t want, size_t place) {
+    call_name = name;
+    if (r.number != want || r.a != place || r.b || r.c || r.d || r.table || r.value || r.second || r.third || r.fourth || r.fifth) {
+        fprintf(stderr, "%s: refusal %u at %zu, not %u at %zu\n", name, r.number, r.a, want, place);
+        faults++;
+    }
+}
+
+static int edges(void) {
+    static const size_t few[] = {0, 1, 2, 65, 66, 4294967295u, (size_t)1 << 32, ((size_t)1 << 32) + 3, SIZE_MAX / 2, SIZE_MAX};
+    static const size_t fit[] = {3, 4, 33, 64};
+    static const size_t places[] = {1, 7, 8, 9, (size_t)1 << 61, (size_t)1 << 63, SIZE_MAX - 7, SIZE_MAX};
+    for (size_t k = 0; k < sizeof few / sizeof *few; k++) {
+        size_t n = few[k];
+        expect("index", kemotuiki_index(n, NULL, 0, 2), 1, n);
+        expect("order", kemotuiki_order(n, NULL, 0, 1, 2, NULL, 0), 1, n);
+        expect("measured", kemotuiki_measured(n, NULL, 0, NULL, 0, NULL, 0), 1, n);
+        expect("exact", kemotuiki_exact(n, NULL, 0, NULL, 0, NULL, 0), 1, n);
+        expect("path", kemotuiki_path(n, n, NULL, 0, NULL, 0, 1, 2), 1, n);
+        expect("upper_rows", kemotuiki_upper_rows(n, n, NULL, 0, NULL, 0, NULL, 0), 1, n);
+        expect("route", kemotuiki_route(n, n, NULL, 0, NULL, 0, 1, NULL, 0), 1, n);
+        expect("compare", kemotuiki_compare(n, NULL, 0, NULL, 0), 1, n);
+        expect("write_costs", kemotuiki_write_costs(n, NULL, 0, NULL, 0), 1, n);
+        expect("write_links", kemotuiki_write_links(n, n, NULL, 0, NULL, 0, NULL, 0), 1, n);
+    }
+    for (size_t k = 0; k < sizeof fit / sizeof *fit; k++) {
+        size_t n = fit[k];
+        expect("index", kemotuiki_index(n, NULL, 0, UINT64_MAX), 2, 0);
+        expect("order", kemotuiki_order(n, NULL, 0, SIZE_MAX, SIZE_MAX, NULL, 0), 2, 0);
+        expect("measured", kemotuiki_measured(n, NULL, 0, NULL, 0, NULL, 0), 2, 0);
+        expect("exact", kemotuiki_exact(n, NULL, 0, NULL, 0, NULL, 0), 2, 0);
+        expect("write_costs", kemotuiki_write_costs(n, NULL, 0, NULL, 0), 2, 0);
+        expect("path", kemotuiki_path(n, n, NULL, 0, NULL, 0, SIZE_MAX, SIZE_MAX), 2, 0);
+        expect("path", kemotuiki_path(n, SIZE_MAX, NULL, 0, NULL, 0, 1, 2), 10, SIZE_MAX);
+        expect("upper_rows", kemotuiki_upper_rows(n, SIZE_MAX, NULL, 0, NULL, 0, NULL, 0), 10, SIZE_MAX);
+        expect("route", kemotuiki_route(n, 2 * n - 2, NULL, 0, NULL, 0, 1, NULL, 0), 10, 2 * n - 2);
+        expect("write_links", kemotuiki_write_links(n, n - 1, NULL, 0, NULL, 0, NULL, 0), 10, n - 1);
+        KemotuikiAnswer r = kemotuiki_compare(n, NULL, 0, NULL, 0);
+        call_name = "compare";
+        if (r.number != 2 || r.table != 1) fault("not refusal 2 of the first table");
+    }
+    KemotuikiAnswer none = kemotuiki_write_batch(NULL, 0, NULL, 0, NULL, 0, NULL, 0, NULL, 0);
+    call_name = "write_batch";
+    if (none.number || none.value) fault("an empty batch does not write 0 bytes");
+    none = kemotuiki_choice(NULL, 0, NULL, 0);
+    call_name = "choice";
+    if (none.number != 9 || none.table != 1) fault("not refusal 9 of the first table");
+    expect("read_costs", kemotuiki_read_costs(NULL, 0, 0, NULL, 0), 9, 0);
+    expect("read_links", kemotuiki_read_links(NULL, 0, 0, NULL, 0, NULL, 0), 9, 0);
+    for (size_t k = 0; k < sizeof places / sizeof *places; k++) {
+        expect("read_costs", kemotuiki_read_costs(NULL, 0, places[k], NULL, 0), 9, 0);
+        expect("read_links", kemotuiki_read_links(NULL, 0, places[k], NULL, 0, NULL, 0), 9, 0);
+    }
+    return faults ? 1 : 0;
+}
+
+int main(int argc, char **argv) {
+    if (argc == 2 && !strcmp(argv[1], "--edges")) return edges();
+    if (argc == 2) return cases(argv[1]);
+    fprintf(stderr, "usage: boundary DATA | boundary --edges\n");
+    return 2;
+}
