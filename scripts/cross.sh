@@ -7,7 +7,7 @@ want() { # PROGRAM PACKAGE..
     have "$1" && return 0
     if [ "$(id -u)" = 0 ] && have apt-get; then
         shift
-        { apt-get update -qq && apt-get install -y -qq "$@"; } >/dev/null 2>&1 || true
+        { timeout 60 apt-get update -qq && timeout 240 apt-get install -y -qq "$@"; } </dev/null >/dev/null 2>&1 || true
     fi
 }
 
