@@ -1,7 +1,7 @@
 -- What the contracts of `index` cite, and the laws that its proofs use.
 pub mod Call
 pub mod Passed
-pub mod Outsiders
+pub mod Sides
 pub mod Grown
 -- What the promise is worth.
 pub mod Promises

@@ -5,41 +5,23 @@ ghost use mathlib.Core.Path.{_≡_};
 ghost use Prim.Native.Nat.{_+_, _-_, _*_, _<_, _≤_, min, max};
 ghost use lib.Dec.{eqb};
 ghost use Rattle.ground.specs.Bits.{bit};
-ghost use Rattle.ground.specs.Buffers.{Filled};
 ghost use Rattle.ground.specs.Least.{lowerIf};
 ghost use Rattle.theory.specs.FarSides.{FarSide};
 ghost use Rattle.theory.specs.Index.{shifted};
 ghost use Rattle.theory.specs.Laws.FewSteps.{extNear, extSide, extFast};
 ghost use Rattle.theory.specs.Tables.{limit, cost, CostTable};
 ghost use Rattle.index.specs.Call.{badFarSide, indexCheck, indexAnswer};
-ghost use Rattle.index.specs.Outsiders.{penalty};
+ghost use Rattle.index.specs.Sides.{counted};
 
 // What no value that counts exceeds: the start of every least value.
 const CAP: u32 = 4 * theory::LIMIT;
 
-// Added to the value of an image that is not on side g, it keeps that image out of a least value: 0, or the cap.
-fn keep_out(s: u64, g: u64, i: usize) -> u32
+// The value v of an image on side g; the cap, which lowers no least value, for every other. So the loops over images need no branch.
+fn counted(s: u64, g: u64, i: usize, v: u32) -> u32
     requires { ⌜ i < 64 ⌝ }
-    ensures { λ r. ⌜ r ≡ penalty limit (bit s) g i ⌝ }
+    ensures { λ r. ⌜ r ≡ counted limit (bit s) g i v ⌝ }
 {
-    if ground::side(s, i) == g {
-        return 0;
-    }
-    CAP
-}
-
-// The same for each of the images below n, so that the loops over them need no branch.
-fn outsiders(s: u64, g: u64, n: usize) -> [u32; 64]
-    requires { ⌜ n ≤ 64 ⌝ }
-    ensures { λ r. ⌜ Filled (penalty limit (bit s) g) n r ⌝ }
-{
-    let mut p = [0u32; 64];
-    let mut i = 0;
-    while i < n {
-        p[i] = keep_out(s, g, i);
-        i += 1;
-    }
-    p
+    if ground::side(s, i) == g { v } else { CAP }
 }
 
 // Image b takes its turn at the least of limit + d(k,b) - d(b,e) so far.
@@ -50,27 +32,26 @@ fn turn_near(
     g: u64,
     k: usize,
     e: usize,
-    p: &[u32],
     b: usize,
     best: u32,
 ) -> u32
-    requires { ⌜ CostTable limit n (now t) × Filled (penalty limit (bit s) g) n (now p) × (k < n) × (e < n) × (b < n) × (best ≤ 4 * limit) ⌝ }
+    requires { ⌜ CostTable limit n (now t) × (k < n) × (e < n) × (b < n) × (best ≤ 4 * limit) ⌝ }
     ensures { λ r. ⌜ r ≡ lowerIf (eqb (bit s b) g) (λ b. limit + cost (now (t .entry)) n k b - cost (now (t .entry)) n b e) b best ⌝ }
 {
     let x = tables::entry(t, n, k, b);
     let y = tables::entry(t, n, e, b);
-    ground::lower(best, theory::LIMIT + x - y + p[b])
+    ground::lower(best, counted(s, g, b, theory::LIMIT + x - y))
 }
 
 // The least of limit + d(k,b) - d(b,e) over the images b below k on the side g, which is not k's.
-fn near(t: &[u32], n: usize, s: u64, g: u64, k: usize, e: usize, p: &[u32]) -> u32
-    requires { ⌜ CostTable limit n (now t) × Filled (penalty limit (bit s) g) n (now p) × (k < n) × (e < n) × (g ≡ 1 - bit s k) ⌝ }
+fn near(t: &[u32], n: usize, s: u64, g: u64, k: usize, e: usize) -> u32
+    requires { ⌜ CostTable limit n (now t) × (k < n) × (e < n) × (g ≡ 1 - bit s k) ⌝ }
     ensures { λ r. ⌜ (r ≡ extNear limit (cost (now (t .entry)) n) k (bit s) e) × (r ≤ 4 * limit) ⌝ }
 {
     let mut best = CAP;
     let mut b = 0;
     while b < k {
-        best = turn_near(t, n, s, g, k, e, p, b, best);
+        best = turn_near(t, n, s, g, k, e, b, best);
         b += 1;
     }
     best
@@ -85,57 +66,47 @@ fn turn_side(
     k: usize,
     e: usize,
     low: u32,
-    p: &[u32],
     a: usize,
     best: u32,
 ) -> u32
-    requires { ⌜ CostTable limit n (now t) × Filled (penalty limit (bit s) h) n (now p) × (k < n) × (e < n) × (a < n) × (low ≤ 4 * limit) × (best ≤ 4 * limit) ⌝ }
+    requires { ⌜ CostTable limit n (now t) × (k < n) × (e < n) × (a < n) × (low ≤ 4 * limit) × (best ≤ 4 * limit) ⌝ }
     ensures { λ r. ⌜ r ≡ lowerIf (eqb (bit s a) h) (λ a. low + (limit + cost (now (t .entry)) n a e - cost (now (t .entry)) n k a)) a best ⌝ }
 {
     let x = tables::entry(t, n, e, a);
     let y = tables::entry(t, n, k, a);
-    ground::lower(best, low + (theory::LIMIT + x - y) + p[a])
+    ground::lower(best, counted(s, h, a, low + (theory::LIMIT + x - y)))
 }
 
 // The least value of the quads of image k with e on the other side: low is the least over b, and a goes over k's side h, k among it.
-fn least_side(t: &[u32], n: usize, s: u64, h: u64, k: usize, e: usize, low: u32, p: &[u32]) -> u32
-    requires { ⌜ CostTable limit n (now t) × Filled (penalty limit (bit s) h) n (now p) × (k < n) × (e < n) × (h ≡ bit s k) × (low ≤ 4 * limit) × (low ≡ extNear limit (cost (now t) n) k (bit s) e) ⌝ }
+fn least_side(t: &[u32], n: usize, s: u64, h: u64, k: usize, e: usize, low: u32) -> u32
+    requires { ⌜ CostTable limit n (now t) × (k < n) × (e < n) × (h ≡ bit s k) × (low ≤ 4 * limit) × (low ≡ extNear limit (cost (now t) n) k (bit s) e) ⌝ }
     ensures { λ r. ⌜ r ≡ extSide limit (cost (now (t .entry)) n) k (bit s) e ⌝ }
 {
     let mut best = CAP;
     let mut a = 0;
     while a <= k {
-        best = turn_side(t, n, s, h, k, e, low, p, a, best);
+        best = turn_side(t, n, s, h, k, e, low, a, best);
         a += 1;
     }
     best
 }
 
 // Image e takes its turn at the least value so far of the quads that image k brings.
-fn turn_more(
-    t: &[u32],
-    n: usize,
-    s: u64,
-    k: usize,
-    own: &[u32],
-    other: &[u32],
-    e: usize,
-    best: u32,
-) -> u32
-    requires { ⌜ CostTable limit n (now t) × Filled (penalty limit (bit s) (bit s k)) n (now own) × Filled (penalty limit (bit s) (1 - bit s k)) n (now other) × (k < n) × (e < n) ⌝ }
+fn turn_more(t: &[u32], n: usize, s: u64, k: usize, e: usize, best: u32) -> u32
+    requires { ⌜ CostTable limit n (now t) × (k < n) × (e < n) ⌝ }
     ensures { λ r. ⌜ r ≡ lowerIf (eqb (bit s e) (1 - bit s k)) (extSide limit (cost (now (t .entry)) n) k (bit s)) e best ⌝ }
 {
     let h = ground::side(s, k);
     if ground::side(s, e) == h {
         return best;
     }
-    let low = near(t, n, s, 1 - h, k, e, other);
-    ground::lower(best, least_side(t, n, s, h, k, e, low, own))
+    let low = near(t, n, s, 1 - h, k, e);
+    ground::lower(best, least_side(t, n, s, h, k, e, low))
 }
 
 // The least value of the quads that image k brings, from best on; once it is at most floor, nothing more is asked, and it is floor.
-fn least_more(t: &[u32], n: usize, s: u64, k: usize, own: &[u32], other: &[u32], floor: u32) -> u32
-    requires { ⌜ CostTable limit n (now t) × Filled (penalty limit (bit s) (bit s k)) n (now own) × Filled (penalty limit (bit s) (1 - bit s k)) n (now other) × (k < n) ⌝ }
+fn least_more(t: &[u32], n: usize, s: u64, k: usize, floor: u32) -> u32
+    requires { ⌜ CostTable limit n (now t) × (k < n) ⌝ }
     ensures { λ r. ⌜ max floor r ≡ max floor (extFast limit (cost (now (t .entry)) n) k (bit s)) ⌝ }
 {
     let mut best = CAP;
@@ -144,7 +115,7 @@ fn least_more(t: &[u32], n: usize, s: u64, k: usize, own: &[u32], other: &[u32],
         if best <= floor {
             return best;
         }
-        best = turn_more(t, n, s, k, own, other, e, best);
+        best = turn_more(t, n, s, k, e, best);
         e += 1;
     }
     best
@@ -156,10 +127,7 @@ pub fn one_more(t: &[u32], n: usize, s: u64, k: usize, v: u32, floor: u32) -> u3
     requires { ⌜ CostTable limit n (now t) × (k < n) ⌝ }
     ensures { λ r. ⌜ r ≡ max floor (min v (extFast limit (cost (now (t .entry)) n) k (bit s))) ⌝ }
 {
-    let h = ground::side(s, k);
-    let own = outsiders(s, h, n);
-    let other = outsiders(s, 1 - h, n);
-    let best = ground::lower(v, least_more(t, n, s, k, &own, &other, floor));
+    let best = ground::lower(v, least_more(t, n, s, k, floor));
     if best < floor { floor } else { best }
 }
 

@@ -7,15 +7,15 @@ use Rattle.ground.specs.Bits.{bit}
 use Rattle.ground.specs.Least.{leastOn, leastOn-end, leastOn-fewer, leastOn-none, leastOn-turn}
 use Rattle.theory.specs.Laws.FewSteps.{extFast, extSide}
 use Rattle.theory.specs.Tables.{cost, limit}
-use Rattle.index.specs.Outsiders.{floored}
+use Rattle.index.specs.Sides.{floored}
 use Rattle.index.proofs.least_more.Statement.{statement}
 use Rattle.index.proofs.least_more.Tie as tie
 
 abbrev Inv-loop : tie.InvT-loop
-Inv-loop t n s k own other floor best₀ e₀ best e = (e ≤ k) × (best ≡ leastOn e (bit s) (1 - bit s k) (4 * limit) (extSide limit (cost t n) k (bit s)))
+Inv-loop t n s k floor best₀ e₀ best e = (e ≤ k) × (best ≡ leastOn e (bit s) (1 - bit s k) (4 * limit) (extSide limit (cost t n) k (bit s)))
 
 abbrev μ-loop : tie.MeasureT-loop
-μ-loop t n s k own other floor best₀ e₀ best e = k - e
+μ-loop t n s k floor best₀ e₀ best e = k - e
 
 loop-holds : tie.Need-loop-holds Inv-loop μ-loop
 loop-holds c = (search needs, leastOn-none _ _ _ _)
@@ -25,8 +25,7 @@ unfolding extFast
 returns c = floored _ _ _ (rw (c .before .before .loop .inv .1) (leastOn-fewer _ _ _ _ _ _ (c .before .before .loop .inv .0))) (c .if1 .taken)
 
 turn-more-requires : tie.Need-turn-more-requires Inv-loop μ-loop
-turn-more-requires c κs =
-    let p = c .before .before .before .before .before .before .pre in (p .0, p .1, p .2, p .3, omega arith)
+turn-more-requires c κs = search needs
 
 add-e : tie.Need-add-e Inv-loop μ-loop
 add-e c = search needs

@@ -12,17 +12,17 @@ use Rattle.index.proofs.least_side.Statement.{statement}
 use Rattle.index.proofs.least_side.Tie as tie
 
 abbrev Inv-loop : tie.InvT-loop
-Inv-loop t n s h k e low p best₀ a₀ best a = (a ≤ suc k) × (best ≡ leastOn a (bit s) h (4 * limit) (λ a. low + (limit + cost t n a e - cost t n k a))) × (best ≤ 4 * limit)
+Inv-loop t n s h k e low best₀ a₀ best a = (a ≤ suc k) × (best ≡ leastOn a (bit s) h (4 * limit) (λ a. low + (limit + cost t n a e - cost t n k a))) × (best ≤ 4 * limit)
 
 abbrev μ-loop : tie.MeasureT-loop
-μ-loop t n s h k e low p best₀ a₀ best a = suc k - a
+μ-loop t n s h k e low best₀ a₀ best a = suc k - a
 
 loop-holds : tie.Need-loop-holds Inv-loop μ-loop
 loop-holds c = (search needs, leastOn-none _ _ _ _, search needs)
 
 turn-side-requires : tie.Need-turn-side-requires Inv-loop μ-loop
 turn-side-requires c κs =
-    let p = c .before .before .before .before .pre in (p .0, p .1, p .2, p .3, omega arith, p .5, c .before .loop .inv .2)
+    let p = c .before .before .before .pre in (p .0, p .1, p .2, omega arith, p .4, c .before .loop .inv .2)
 
 add-a : tie.Need-add-a Inv-loop μ-loop
 add-a c = search needs
@@ -38,8 +38,8 @@ loop-again c =
 returns : tie.Need-returns Inv-loop μ-loop
 unfolding extSide
 returns c =
-    let p = c .before .before .before .before .pre in
-    rw (← p .4, ← p .6) (leastOn-end _ _ _ _ _ _ (search needs) (search needs) (c .before .loop .inv .1))
+    let p = c .before .before .before .pre in
+    rw (← p .3, ← p .5) (leastOn-end _ _ _ _ _ _ (search needs) (search needs) (c .before .loop .inv .1))
 
 pub least-side-spec : {M : Type 1} → statement M
 least-side-spec =

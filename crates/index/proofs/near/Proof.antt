@@ -11,17 +11,17 @@ use Rattle.index.proofs.near.Statement.{statement}
 use Rattle.index.proofs.near.Tie as tie
 
 abbrev Inv-loop : tie.InvT-loop
-Inv-loop t n s g k e p best₀ b₀ best b = (b ≤ k) × (best ≡ leastOn b (bit s) g (4 * limit) (λ b. limit + cost t n k b - cost t n b e)) × (best ≤ 4 * limit)
+Inv-loop t n s g k e best₀ b₀ best b = (b ≤ k) × (best ≡ leastOn b (bit s) g (4 * limit) (λ b. limit + cost t n k b - cost t n b e)) × (best ≤ 4 * limit)
 
 abbrev μ-loop : tie.MeasureT-loop
-μ-loop t n s g k e p best₀ b₀ best b = k - b
+μ-loop t n s g k e best₀ b₀ best b = k - b
 
 loop-holds : tie.Need-loop-holds Inv-loop μ-loop
 loop-holds c = (search needs, leastOn-none _ _ _ _, search needs)
 
 turn-near-requires : tie.Need-turn-near-requires Inv-loop μ-loop
 turn-near-requires c κs =
-    let p = c .before .before .before .before .pre in (p .0, p .1, p .2, p .3, omega arith, c .before .loop .inv .2)
+    let p = c .before .before .before .pre in (p .0, p .1, p .2, omega arith, c .before .loop .inv .2)
 
 add-b : tie.Need-add-b Inv-loop μ-loop
 add-b c = search needs
@@ -37,8 +37,8 @@ loop-again c =
 returns : tie.Need-returns Inv-loop μ-loop
 unfolding extNear
 returns c =
-    let b = c .before .before .before .before in
-    (rw (← b .pre .4) (leastOn-end _ _ _ _ _ _ (search needs) (search needs) (c .before .loop .inv .1)), c .before .loop .inv .2)
+    let b = c .before .before .before in
+    (rw (← b .pre .3) (leastOn-end _ _ _ _ _ _ (search needs) (search needs) (c .before .loop .inv .1)), c .before .loop .inv .2)
 
 pub near-spec : {M : Type 1} → statement M
 near-spec =

@@ -3,7 +3,7 @@ use mathlib.Core.Path.{_∙_, sym}
 use native.Mathlib.Omega.{arith}
 use borrow.Author.Needs.{needs}
 use Rattle.ground.specs.Bits.{bit, bit-lt}
-use Rattle.index.specs.Outsiders.{other-side, same-side}
+use Rattle.index.specs.Sides.{other-side, same-side}
 use Rattle.index.proofs.turn_more.Statement.{statement}
 use Rattle.index.proofs.turn_more.Tie as tie
 
@@ -15,26 +15,26 @@ side-requires-2 c κs = search needs
 
 returns : tie.Need-returns
 returns c =
-    let a = c .before .before .before .before .before .before .args in
+    let a = c .before .before .before .before .args in
     rw (same-side (bit (a .s) (a .e)) (bit (a .s) (a .k)) (bit-lt (a .s) (a .e)) (bit-lt (a .s) (a .k))
     (sym (c .before .side2 .ensures) ∙ c .if1 .taken ∙ c .before .before .side .ensures))
 
 sub-near : tie.Need-sub-near
 sub-near c =
-    let a = c .before .before .before .before .before .before .args in
+    let a = c .before .before .before .before .args in
     omega (arith, c .before .before .side .ensures, bit-lt (a .s) (a .k))
 
 near-requires : tie.Need-near-requires
 near-requires c κs =
-    let p = c .before .before .before .before .before .before .pre in
+    let p = c .before .before .before .before .pre in
     let h = c .before .before .side .ensures in
-    rw h (p .0, p .2, p .3, p .4, omega arith)
+    rw h (p .0, p .1, p .2, omega arith)
 
 least-side-requires : tie.Need-least-side-requires
 least-side-requires c κs =
-    let p = c .before .before .before .before .before .before .before .pre in
+    let p = c .before .before .before .before .before .pre in
     let h = c .before .before .before .side .ensures in
-    (p .0, rw h (p .1), p .3, p .4, h, c .near .ensures .1, c .near .ensures .0)
+    (p .0, p .1, p .2, h, c .near .ensures .1, c .near .ensures .0)
 
 lower-requires : tie.Need-lower-requires
 lower-requires c κs = search needs
@@ -42,7 +42,7 @@ lower-requires c κs = search needs
 returns-2 : tie.Need-returns-2
 returns-2 c =
     let e = c .before .before .before in
-    let a = e .before .before .before .before .before .before .args in
+    let a = e .before .before .before .before .args in
     rw (other-side (bit (a .s) (a .e)) (bit (a .s) (a .k)) (bit-lt (a .s) (a .e)) (bit-lt (a .s) (a .k))
     (λ q. e .if1 .left (e .before .side2 .ensures ∙ q ∙ sym (e .before .before .side .ensures))))
     (omega (arith, c .lower .ensures, c .before .least-side .ensures))

@@ -8,16 +8,13 @@ use borrow.Author.Tests.{eq-eqb, ne-eqb}
 use borrow.Table.Steps.{cases}
 use Rattle.ground.specs.Least.{lowerIf}
 
--- 0 for an image of side g, four limits for every other
-abbrev pub penalty : ℕ → (ℕ → ℕ) → ℕ → ℕ → ℕ
-penalty L s g i = cond (eqb (s i) g) 0 (4 * L)
-
-pub penalty-cap : (L : ℕ) (s : ℕ → ℕ) (g i : ℕ) → penalty L s g i ≤ 4 * L
-penalty-cap L s g i = cases (eqb (s i) g) (λ e. rw e (omega arith)) (λ e. rw e (omega arith))
+-- v for an image of side g, four limits for every other
+abbrev pub counted : ℕ → (ℕ → ℕ) → ℕ → ℕ → ℕ → ℕ
+counted L s g i v = cond (eqb (s i) g) v (4 * L)
 
 -- one image more of a least value m so far
-pub kept-out : (L : ℕ) (s : ℕ → ℕ) (g i m : ℕ) (f : ℕ → ℕ) → m ≤ 4 * L → min m (f i + penalty L s g i) ≡ lowerIf (eqb (s i) g) f i m
-kept-out L s g i m f h = cases (eqb (s i) g) (λ e. rw e (omega arith)) (λ e. rw e (omega arith))
+pub lower-counted : (L : ℕ) (s : ℕ → ℕ) (g i m : ℕ) (f : ℕ → ℕ) → m ≤ 4 * L → min m (counted L s g i (f i)) ≡ lowerIf (eqb (s i) g) f i m
+lower-counted L s g i m f h = cases (eqb (s i) g) (λ e. rw e (omega arith)) (λ e. rw e (omega arith))
 
 -- two sides that are equal, and that are not
 pub same-side : (x y : ℕ) → x < 2 → y < 2 → x ≡ y → eqb x (1 - y) ≡ false
