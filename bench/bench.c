@@ -11,10 +11,10 @@
 #include "kemotuiki.h"
 #include "plain.h"
 
-static size_t n, rows, plain_rows, stored_costs, stored_links;
+static size_t n, rows, plain_rows, stored_costs, stored_links, stored_fewer;
 static uint32_t tree[4096], other[4096], noisy[4096], back[4096], costs[125], plain_costs[125], out[64], plain_out[64];
 static uint64_t fars[125], plain_fars[125], inner_side;
-static uint8_t cost_bytes[KEMOTUIKI_COST_BYTES], link_bytes[KEMOTUIKI_LINK_BYTES], bytes[KEMOTUIKI_COST_BYTES];
+static uint8_t cost_bytes[KEMOTUIKI_COST_BYTES], link_bytes[KEMOTUIKI_LINK_BYTES], fewer_bytes[KEMOTUIKI_LINK_BYTES], bytes[KEMOTUIKI_COST_BYTES];
 static volatile size_t sink;
 
 static double now(void) {
@@ -80,6 +80,20 @@ static void c_write_links(void) { size_t u = 0; plain_write_links(n, rows, fars,
 static void ours_read_links(void) { sink = kemotuiki_read_links(link_bytes, stored_links, 0, plain_fars, 125, plain_costs, 125).third; }
 static void c_read_links(void) { size_t m = 0, k = 0, u = 0; plain_read_links(link_bytes, stored_links, 0, plain_fars, plain_costs, 125, &m, &k, &u); sink = u; }
 
+static void ours_choice(void) { KemotuikiAnswer r = kemotuiki_choice(fewer_bytes, stored_fewer, link_bytes, stored_links); sink = r.value + 10 * r.second; }
+static void c_choice(void) { size_t k = 0, u = 0; plain_choice(fewer_bytes, stored_fewer, link_bytes, stored_links, &k, &u); sink = k + 10 * u; }
+
+/* The same tree with every second inner link left out, stored: what the whole tree is chosen against. */
+static void store_fewer(void) {
+    size_t kept = 0, inner = 0;
+    for (size_t i = 0; i < rows; i++) {
+        int ones = __builtin_popcountll(fars[i]), own = ones == 1 || ones == (int)n - 1;
+        if (!own && inner++ % 2) continue;
+        plain_fars[kept] = fars[i], plain_costs[kept++] = costs[i];
+    }
+    stored_fewer = kemotuiki_write_links(n, kept, plain_fars, kept, plain_costs, kept, fewer_bytes, sizeof fewer_bytes).value;
+}
+
 /* Microseconds a call. */
 static double turn(void (*call)(void), double seconds) {
     double start = now(), end;
@@ -138,6 +152,8 @@ int main(void) {
         stored_links = sink;
         if (memcmp(link_bytes, bytes, stored_links)) return 1;
         race("read_links", ours_read_links, c_read_links);
+        store_fewer();
+        race("choice", ours_choice, c_choice);
     }
     return 0;
 }

@@ -13,3 +13,4 @@ int plain_read_costs(const uint8_t *bytes, size_t count, size_t position, uint32
 int plain_write_links(size_t n, size_t count, const uint64_t *fars, const uint32_t *costs, uint8_t *out, size_t room, size_t *used);
 int plain_read_links(const uint8_t *bytes, size_t count, size_t position, uint64_t *fars, uint32_t *costs, size_t room, size_t *n,
                      size_t *rows, size_t *used);
+int plain_choice(const uint8_t *first, size_t first_count, const uint8_t *second, size_t second_count, size_t *table, size_t *used);
