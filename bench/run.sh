@@ -7,8 +7,7 @@ if [ -z "$CC" ] || [ "$RUN" = none ]; then
     echo "bench: SKIPPED, no C compiler for x86-64 or no emulator on this machine"
     exit 0
 fi
-archive=target/staticlib/libkemotuiki.a
-[ -f "$archive" ] || rt staticlib kemotuiki >/dev/null
+need_archive
 work=$(mktemp -d)
 trap 'rm -rf "$work"' EXIT
 "$CC" -std=gnu11 -O3 -march=x86-64 -Wall -Wextra -Iinclude bench/bench.c bench/plain.c "$archive" -o "$work/bench"

@@ -1,6 +1,6 @@
 #!/usr/bin/env bash
-# Builds both examples against the archive, runs them, and compares what they print with expected.txt. The archive is made by
-# `rt staticlib kemotuiki` if it is not there. Status 1 on a difference.
+# Builds both examples against the archive, runs them, and compares what they print with expected.txt. The archive is made if
+# it is not there. Status 1 on a difference.
 set -euo pipefail
 cd "$(dirname "$0")/.."
 . scripts/cross.sh
@@ -8,8 +8,7 @@ if [ "$RUN" = none ]; then
     echo "examples: SKIPPED, no emulator on this machine"
     exit 0
 fi
-archive=target/staticlib/libkemotuiki.a
-[ -f "$archive" ] || rt staticlib kemotuiki >/dev/null
+need_archive
 work=$(mktemp -d)
 trap 'rm -rf "$work"' EXIT
 status=0

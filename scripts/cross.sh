@@ -1,6 +1,12 @@
-# For the scripts that use the archive, which is x86-64 code: sets CC, FC, AR and RUN. On x86-64 these are the machine's own
-# compilers and nothing in front of a program; elsewhere Debian's cross compilers and qemu-user, which are installed if this runs
-# as root and they are not there. What cannot be had is empty, and said.
+# For the scripts that use the archive, which is x86-64 code: sets archive and the calls that make it, then CC, FC, AR and RUN. On
+# x86-64 those are the machine's own compilers and nothing in front of a program; elsewhere Debian's cross compilers and qemu-user,
+# which are installed if this runs as root and they are not there. What cannot be had is empty, and said.
+archive=target/staticlib/libkemotuiki.a
+
+# The tests and the installer prove and make it anew; what only uses it takes the one that is there.
+make_archive() { rt staticlib kemotuiki; }
+need_archive() { [ -f "$archive" ] || make_archive >/dev/null; }
+
 have() { command -v "$1" >/dev/null 2>&1; }
 
 want() { # PROGRAM PACKAGE..

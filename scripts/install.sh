@@ -10,9 +10,9 @@ prefix=$(cd "$1" && pwd)
 cd "$(dirname "$0")/.."
 . scripts/cross.sh
 
-rt staticlib kemotuiki | tail -1
+make_archive | tail -1
 mkdir -p "$prefix"/{lib/pkgconfig,include,share/kemotuiki}
-cp target/staticlib/libkemotuiki.a "$prefix/lib/"
+cp "$archive" "$prefix/lib/"
 cp include/kemotuiki.h "$prefix/include/"
 cp fortran/kemotuiki.f90 "$prefix/share/kemotuiki/"
 version=$(sed -n 's/^## \([0-9][0-9.]*\).*/\1/p' CHANGES.md | head -1)

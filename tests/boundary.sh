@@ -9,9 +9,8 @@ if [ -z "$CC" ] || [ "$RUN" = none ]; then
     echo "boundary: SKIPPED, no C compiler for x86-64 or no emulator on this machine"
     exit 0
 fi
-archive=target/staticlib/libkemotuiki.a
 mkdir -p target
-rt staticlib kemotuiki >target/boundary.log 2>&1 || { tail -5 target/boundary.log; echo "boundary: the archive was not built"; exit 1; }
+make_archive >target/boundary.log 2>&1 || { tail -5 target/boundary.log; echo "boundary: the archive was not built"; exit 1; }
 work=$(mktemp -d)
 trap 'rm -rf "$work"' EXIT
 status=0

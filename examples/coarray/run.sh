@@ -1,0 +1,49 @@
+#!/usr/bin/env bash
+# Builds team.f90 against the archive, runs it with nine images and compares its lines, sorted, with expected.txt. On x86-64 this
+# takes caf and cafrun. Elsewhere MPICH of this machine starts nine emulators, and the x86-64 libraries of OpenCoarrays and MPICH
+# are unpacked from Debian's packages into a folder that is removed at the end. Status 1 on a difference, 0 if all is the same or
+# nothing could be run, which is said.
+set -euo pipefail
+cd "$(dirname "$0")/../.."
+. scripts/cross.sh
+skip() { echo "coarray: SKIPPED, $1"; exit 0; }
+work=$(mktemp -d)
+trap 'rm -rf "$work"' EXIT
+sources=(fortran/kemotuiki.f90 examples/coarray/team.f90)
+
+# apt-get for x86-64 with its own state, so that nothing is installed and no package of this machine is replaced
+foreign() {
+    timeout 120 apt-get -qq -o APT::Architecture=amd64 -o APT::Architectures=amd64 -o APT::Install-Recommends=0 \
+        -o APT::Sandbox::User=root -o Dir::State="$work" -o Dir::State::status="$work/status" -o Dir::Cache="$work" "$@" \
+        </dev/null >/dev/null 2>&1
+}
+
+if [ "$(uname -m)" = x86_64 ]; then
+    have caf && have cafrun || skip "caf and cafrun of OpenCoarrays are not on the path"
+    need_archive
+    caf -std=f2018 -O2 -J "$work" "${sources[@]}" "$archive" -o "$work/team"
+    start=(cafrun -n 9)
+    # Open MPI starts no more images than there are cores unless it is told to.
+    export OMPI_MCA_rmaps_base_oversubscribe=1
+else
+    want mpiexec.hydra --no-install-recommends mpich
+    [ -n "$FC" ] && [ "$RUN" != none ] && have mpiexec.hydra || skip "no Fortran compiler for x86-64, emulator or MPICH"
+    mkdir -p "$work"/{lists,archives}/partial
+    : >"$work/status"
+    foreign update && foreign -y --download-only install libcaf-mpich-3 || skip "no x86-64 packages of OpenCoarrays"
+    for package in "$work"/archives/*.deb; do dpkg -x "$package" "$work/root"; done
+    # The packaged link is an absolute one, which the emulator would follow out of the folder.
+    ln -sfn ../lib/x86_64-linux-gnu/ld-linux-x86-64.so.2 "$work/root/lib64/ld-linux-x86-64.so.2"
+    libraries=$work/root/usr/lib/x86_64-linux-gnu
+    need_archive
+    "$FC" -fcoarray=lib -std=f2018 -O2 -Wall -J "$work" "${sources[@]}" "$archive" "$libraries/libcaf_mpich.so.3" \
+        -Wl,-rpath-link,"$libraries:$work/root/lib/x86_64-linux-gnu" -o "$work/team"
+    start=(mpiexec.hydra -n 9 qemu-x86_64 -L "$work/root")
+    # With the transports that it chooses itself, MPICH under the emulator does not come to an end.
+    export UCX_TLS=posix,self
+fi
+# MPICH's warnings about OpenCoarrays' last messages would stand between the lines.
+export UCX_LOG_LEVEL=error
+timeout 120 "${start[@]}" "$work/team" >"$work/out" || { echo "coarray: the images ended with status $?"; exit 1; }
+LC_ALL=C sort "$work/out" | diff examples/coarray/expected.txt - || exit 1
+echo "coarray: nine images, as expected"
