@@ -3,120 +3,158 @@ use ground::Answer;
 use ground::Check;
 ghost use mathlib.Core.Path.{_≡_};
 ghost use Prim.Native.Nat.{_+_, _-_, _*_, _<_, _≤_, min, max};
-ghost use lib.Dec.{eqb};
+ghost use lib.ListN.{getD, length};
 ghost use Rattle.ground.specs.Bits.{bit};
-ghost use Rattle.ground.specs.Least.{lowerIf};
 ghost use Rattle.theory.specs.FarSides.{FarSide};
 ghost use Rattle.theory.specs.Index.{shifted};
-ghost use Rattle.theory.specs.Laws.FewSteps.{extNear, extSide, extFast};
+ghost use Rattle.theory.specs.Laws.FewSteps.{extFast};
 ghost use Rattle.theory.specs.Tables.{limit, cost, CostTable};
 ghost use Rattle.index.specs.Call.{badFarSide, indexCheck, indexAnswer};
-ghost use Rattle.index.specs.Sides.{counted};
+ghost use Rattle.index.specs.Sides.{Images, Split, moreAt, nearAt, quadsAt, sideAt};
 
 // What no value that counts exceeds: the start of every least value.
 const CAP: u32 = 4 * theory::LIMIT;
 
-// The value v of an image on side g; the cap, which lowers no least value, for every other. So the loops over images need no branch.
-fn counted(s: u64, g: u64, i: usize, v: u32) -> u32
-    requires { ⌜ i < 64 ⌝ }
-    ensures { λ r. ⌜ r ≡ counted limit (bit s) g i v ⌝ }
+// The image b as a byte of a list.
+fn byte_of(b: usize) -> u8
+    requires { ⌜ b < 64 ⌝ }
+    ensures { λ r. ⌜ r ≡ b ⌝ }
 {
-    if ground::side(s, i) == g { v } else { CAP }
+    b as u8
+}
+
+// A byte of a list as an image.
+fn wide(b: u8) -> usize
+    ensures { λ r. ⌜ r ≡ b ⌝ }
+{
+    b as usize
+}
+
+// The image at place i of a list.
+fn image_at(list: &[u8], i: usize) -> usize
+    requires { ⌜ i < length (now list) ⌝ }
+    ensures { λ r. ⌜ r ≡ getD (now (list .entry)) i 0 ⌝ }
+{
+    wide(list[i])
+}
+
+// Image b is put behind the images of either side, and the count of side h goes on where it is there.
+fn turn_sides(s: u64, h: u64, b: usize, count: usize, own: &mut [u8], other: &mut [u8]) -> usize
+    requires { ⌜ (b < 64) × (h < 2) × (64 ≤ length (now own)) × (64 ≤ length (now other)) × Split (bit s) h b count (now own) (now other) ⌝ }
+    ensures { λ r. ⌜ Split (bit s) h (b + 1) r (now (own .exit)) (now (other .exit)) ⌝ }
+{
+    own[count] = byte_of(b);
+    other[b - count] = byte_of(b);
+    if ground::side(s, b) == h {
+        return count + 1;
+    }
+    count
+}
+
+// The images up to k, side by side: those of side h in `own`, the others in `other`; how many are in `own`.
+fn sides(s: u64, h: u64, k: usize, own: &mut [u8], other: &mut [u8]) -> usize
+    requires { ⌜ (k < 64) × (h < 2) × (64 ≤ length (now own)) × (64 ≤ length (now other)) ⌝ }
+    ensures { λ r. ⌜ Split (bit s) h (k + 1) r (now (own .exit)) (now (other .exit)) ⌝ }
+{
+    let mut count = 0;
+    let mut b = 0;
+    while b <= k {
+        count = turn_sides(s, h, b, count, own, other);
+        b += 1;
+    }
+    count
 }
 
 // Image b takes its turn at the least of limit + d(k,b) - d(b,e) so far.
-fn turn_near(
-    t: &[u32],
-    n: usize,
-    s: u64,
-    g: u64,
-    k: usize,
-    e: usize,
-    b: usize,
-    best: u32,
-) -> u32
-    requires { ⌜ CostTable limit n (now t) × (k < n) × (e < n) × (b < n) × (best ≤ 4 * limit) ⌝ }
-    ensures { λ r. ⌜ r ≡ lowerIf (eqb (bit s b) g) (λ b. limit + cost (now (t .entry)) n k b - cost (now (t .entry)) n b e) b best ⌝ }
+fn turn_near(t: &[u32], n: usize, k: usize, e: usize, b: usize, best: u32) -> u32
+    requires { ⌜ CostTable limit n (now t) × (k < n) × (e < n) × (b < n) ⌝ }
+    ensures { λ r. ⌜ r ≡ min (limit + cost (now (t .entry)) n k b - cost (now (t .entry)) n b e) best ⌝ }
 {
     let x = tables::entry(t, n, k, b);
     let y = tables::entry(t, n, e, b);
-    ground::lower(best, counted(s, g, b, theory::LIMIT + x - y))
+    ground::lower(best, theory::LIMIT + x - y)
 }
 
-// The least of limit + d(k,b) - d(b,e) over the images b below k on the side g, which is not k's.
-fn near(t: &[u32], n: usize, s: u64, g: u64, k: usize, e: usize) -> u32
-    requires { ⌜ CostTable limit n (now t) × (k < n) × (e < n) × (g ≡ 1 - bit s k) ⌝ }
-    ensures { λ r. ⌜ (r ≡ extNear limit (cost (now (t .entry)) n) k (bit s) e) × (r ≤ 4 * limit) ⌝ }
+// The least of limit + d(k,b) - d(b,e) over the images b of the other side.
+fn near(t: &[u32], n: usize, k: usize, e: usize, other: &[u8], count: usize) -> u32
+    requires { ⌜ CostTable limit n (now t) × Images n count (now other) × (k < n) × (e < n) ⌝ }
+    ensures { λ r. ⌜ (r ≡ nearAt limit (cost (now (t .entry)) n) k (now (other .entry)) count e) × (r ≤ 4 * limit) ⌝ }
 {
     let mut best = CAP;
-    let mut b = 0;
-    while b < k {
-        best = turn_near(t, n, s, g, k, e, b, best);
-        b += 1;
+    let mut i = 0;
+    while i < count {
+        best = turn_near(t, n, k, e, image_at(other, i), best);
+        i += 1;
     }
     best
 }
 
 // Image a takes its turn at the least of low + limit + d(a,e) - d(k,a) so far.
-fn turn_side(
-    t: &[u32],
-    n: usize,
-    s: u64,
-    h: u64,
-    k: usize,
-    e: usize,
-    low: u32,
-    a: usize,
-    best: u32,
-) -> u32
-    requires { ⌜ CostTable limit n (now t) × (k < n) × (e < n) × (a < n) × (low ≤ 4 * limit) × (best ≤ 4 * limit) ⌝ }
-    ensures { λ r. ⌜ r ≡ lowerIf (eqb (bit s a) h) (λ a. low + (limit + cost (now (t .entry)) n a e - cost (now (t .entry)) n k a)) a best ⌝ }
+fn turn_side(t: &[u32], n: usize, k: usize, e: usize, low: u32, a: usize, best: u32) -> u32
+    requires { ⌜ CostTable limit n (now t) × (k < n) × (e < n) × (a < n) × (low ≤ 4 * limit) ⌝ }
+    ensures { λ r. ⌜ r ≡ min (low + (limit + cost (now (t .entry)) n a e - cost (now (t .entry)) n k a)) best ⌝ }
 {
     let x = tables::entry(t, n, e, a);
     let y = tables::entry(t, n, k, a);
-    ground::lower(best, counted(s, h, a, low + (theory::LIMIT + x - y)))
+    ground::lower(best, low + (theory::LIMIT + x - y))
 }
 
-// The least value of the quads of image k with e on the other side: low is the least over b, and a goes over k's side h, k among it.
-fn least_side(t: &[u32], n: usize, s: u64, h: u64, k: usize, e: usize, low: u32) -> u32
-    requires { ⌜ CostTable limit n (now t) × (k < n) × (e < n) × (h ≡ bit s k) × (low ≤ 4 * limit) × (low ≡ extNear limit (cost (now t) n) k (bit s) e) ⌝ }
-    ensures { λ r. ⌜ r ≡ extSide limit (cost (now (t .entry)) n) k (bit s) e ⌝ }
+// The least value of the quads of image k with e on the other side: low is the least over b, and a goes over k's own side, k among it.
+fn least_side(t: &[u32], n: usize, k: usize, e: usize, low: u32, own: &[u8], count: usize) -> u32
+    requires { ⌜ CostTable limit n (now t) × Images n count (now own) × (k < n) × (e < n) × (low ≤ 4 * limit) ⌝ }
+    ensures { λ r. ⌜ r ≡ sideAt limit (cost (now (t .entry)) n) k (now (own .entry)) count e low ⌝ }
 {
     let mut best = CAP;
-    let mut a = 0;
-    while a <= k {
-        best = turn_side(t, n, s, h, k, e, low, a, best);
-        a += 1;
+    let mut i = 0;
+    while i < count {
+        best = turn_side(t, n, k, e, low, image_at(own, i), best);
+        i += 1;
     }
     best
 }
 
-// Image e takes its turn at the least value so far of the quads that image k brings.
-fn turn_more(t: &[u32], n: usize, s: u64, k: usize, e: usize, best: u32) -> u32
-    requires { ⌜ CostTable limit n (now t) × (k < n) × (e < n) ⌝ }
-    ensures { λ r. ⌜ r ≡ lowerIf (eqb (bit s e) (1 - bit s k)) (extSide limit (cost (now (t .entry)) n) k (bit s)) e best ⌝ }
+// The least value of the quads of image k with e, and of those so far.
+fn turn_more(
+    t: &[u32],
+    n: usize,
+    k: usize,
+    own: &[u8],
+    count: usize,
+    other: &[u8],
+    rest: usize,
+    e: usize,
+    best: u32,
+) -> u32
+    requires { ⌜ CostTable limit n (now t) × Images n count (now own) × Images n rest (now other) × (k < n) × (e < n) ⌝ }
+    ensures { λ r. ⌜ r ≡ min (quadsAt limit (cost (now (t .entry)) n) k (now (own .entry)) count (now (other .entry)) rest e) best ⌝ }
 {
-    let h = ground::side(s, k);
-    if ground::side(s, e) == h {
-        return best;
-    }
-    let low = near(t, n, s, 1 - h, k, e);
-    ground::lower(best, least_side(t, n, s, h, k, e, low))
+    let low = near(t, n, k, e, other, rest);
+    ground::lower(best, least_side(t, n, k, e, low, own, count))
 }
 
-// The least value of the quads that image k brings, from best on; once it is at most floor, nothing more is asked, and it is floor.
-fn least_more(t: &[u32], n: usize, s: u64, k: usize, floor: u32) -> u32
-    requires { ⌜ CostTable limit n (now t) × (k < n) ⌝ }
-    ensures { λ r. ⌜ max floor r ≡ max floor (extFast limit (cost (now (t .entry)) n) k (bit s)) ⌝ }
+// The least value of the quads that image k brings; once it is at most floor, nothing more is asked.
+fn least_more(
+    t: &[u32],
+    n: usize,
+    k: usize,
+    own: &[u8],
+    count: usize,
+    other: &[u8],
+    rest: usize,
+    floor: u32,
+) -> u32
+    requires { ⌜ CostTable limit n (now t) × Images n count (now own) × Images n rest (now other) × (k < n) ⌝ }
+    ensures { λ r. ⌜ max floor r ≡ max floor (moreAt limit (cost (now (t .entry)) n) k (now (own .entry)) count (now (other .entry)) rest) ⌝ }
 {
     let mut best = CAP;
-    let mut e = 0;
-    while e < k {
+    let mut i = 0;
+    while i < rest {
         if best <= floor {
             return best;
         }
-        best = turn_more(t, n, s, k, e, best);
-        e += 1;
+        let e = image_at(other, i);
+        best = turn_more(t, n, k, own, count, other, rest, e, best);
+        i += 1;
     }
     best
 }
@@ -127,7 +165,11 @@ pub fn one_more(t: &[u32], n: usize, s: u64, k: usize, v: u32, floor: u32) -> u3
     requires { ⌜ CostTable limit n (now t) × (k < n) ⌝ }
     ensures { λ r. ⌜ r ≡ max floor (min v (extFast limit (cost (now (t .entry)) n) k (bit s))) ⌝ }
 {
-    let best = ground::lower(v, least_more(t, n, s, k, floor));
+    let mut own = [0u8; 64];
+    let mut other = [0u8; 64];
+    let count = sides(s, ground::side(s, k), k, &mut own, &mut other);
+    let more = least_more(t, n, k, &own, count, &other, k + 1 - count, floor);
+    let best = ground::lower(v, more);
     if best < floor { floor } else { best }
 }
 

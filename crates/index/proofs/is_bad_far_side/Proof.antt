@@ -1,8 +1,5 @@
 -- `index::is_bad_far_side` meets its contract: what is left after a shift by n is beyond n. Assumes nothing.
 use mathlib.Core.Path.{_∙_, sym}
-use Prim.Native.Nat.{_/_, _^_}
-use native.Mathlib.Nat.{div-eq-of-lt}
-use native.Mathlib.Omega.{arith}
 use borrow.Author.Needs.{needs}
 use borrow.Author.Tests.{eq-eqb, ne-eqb}
 use Rattle.ground.specs.Shifts.{all-within, beyond}

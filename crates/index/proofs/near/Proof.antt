@@ -1,44 +1,44 @@
--- `index::near` meets its contract: best is the least over the images so far. Assumes nothing.
+-- `index::near` meets its contract: best is the least over the places so far. Assumes nothing.
 use mathlib.Core.Path.{_≡_}
 use Prim.Native.Nat.{_*_, _+_, _-_, _≤_}
 use native.Mathlib.Omega.{arith}
-use borrow.Author.Needs.{needs}
-use Rattle.ground.specs.Bits.{bit}
-use Rattle.ground.specs.Least.{leastOn, leastOn-cap, leastOn-end, leastOn-none, leastOn-turn}
-use Rattle.theory.specs.Laws.FewSteps.{extNear}
+use Rattle.ground.specs.Least.{leastOn-cap, leastOn-end, leastOn-none, leastOn-turn}
 use Rattle.theory.specs.Tables.{cost, limit}
+use Rattle.index.specs.Sides.{leastAt}
+use borrow.Author.Needs.{needs}
 use Rattle.index.proofs.near.Statement.{statement}
 use Rattle.index.proofs.near.Tie as tie
 
 abbrev Inv-loop : tie.InvT-loop
-Inv-loop t n s g k e best₀ b₀ best b = (b ≤ k) × (best ≡ leastOn b (bit s) g (4 * limit) (λ b. limit + cost t n k b - cost t n b e)) × (best ≤ 4 * limit)
+Inv-loop t n k e other count best₀ i₀ best i = (i ≤ count) × (best ≡ leastAt i other (4 * limit) (λ b. limit + cost t n k b - cost t n b e))
 
 abbrev μ-loop : tie.MeasureT-loop
-μ-loop t n s g k e best₀ b₀ best b = k - b
+μ-loop t n k e other count best₀ i₀ best i = count - i
 
 loop-holds : tie.Need-loop-holds Inv-loop μ-loop
-loop-holds c = (search needs, leastOn-none _ _ _ _, search needs)
+loop-holds c = (search needs, leastOn-none _ _ _ _)
+
+image-at-requires : tie.Need-image-at-requires Inv-loop μ-loop
+image-at-requires c κs = omega (arith, c .before .before .before .before .pre .1 .room)
 
 turn-near-requires : tie.Need-turn-near-requires Inv-loop μ-loop
 turn-near-requires c κs =
-    let p = c .before .before .before .pre in (p .0, p .1, p .2, omega arith, c .before .loop .inv .2)
+    let p = c .before .before .before .before .before .pre in
+    (p .0, p .2, p .3, rw (c .image-at .ensures) (p .1 .below _ (c .before .loop-test .taken)))
 
-add-b : tie.Need-add-b Inv-loop μ-loop
-add-b c = search needs
+add-i : tie.Need-add-i Inv-loop μ-loop
+add-i c = search needs
 
 loop-less : tie.Need-loop-less Inv-loop μ-loop
 loop-less c = search needs
 
 loop-again : tie.Need-loop-again Inv-loop μ-loop
 loop-again c =
-    let q = leastOn-turn _ _ _ _ _ (c .before .before .loop .inv .1) (c .turn-near .ensures) in
-    (search needs, q, rw q (leastOn-cap _ _ _ _ _))
+    (search needs, leastOn-turn _ _ _ _ _ (c .before .before .before .loop .inv .1) (rw (c .before .image-at .ensures) at (c .turn-near .ensures)))
 
 returns : tie.Need-returns Inv-loop μ-loop
-unfolding extNear
 returns c =
-    let b = c .before .before .before in
-    (rw (← b .pre .3) (leastOn-end _ _ _ _ _ _ (search needs) (search needs) (c .before .loop .inv .1)), c .before .loop .inv .2)
+    let e = c .before .loop .inv .1 in (leastOn-end _ _ _ _ _ _ (search needs) (search needs) e, rw e (leastOn-cap _ _ _ _ _))
 
 pub near-spec : {M : Type 1} → statement M
 near-spec =
@@ -47,8 +47,9 @@ near-spec =
     Inv-loop
     μ-loop
     loop-holds
+    image-at-requires
     turn-near-requires
-    add-b
+    add-i
     loop-less
     loop-again
     returns)

@@ -1,6 +1,5 @@
 -- `tree::grow` meets its contract: the three parts, one behind the other, are the reading over one image more. Assumes nothing.
 use mathlib.Core.Path.{refl}
-use native.Mathlib.Omega.{arith}
 use borrow.Author.Needs.{needs}
 use Rattle.theory.specs.Tables.{limit}
 use Rattle.tree.specs.Held.{held-more, room-inside, room-outside, room-own}
