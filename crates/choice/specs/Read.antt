@@ -12,12 +12,13 @@ use Rattle.ground.specs.declared.Check.the-variants.{Passed, Refused}
 use Rattle.ground.specs.declared.Refusal.{Refusal}
 use Rattle.ground.specs.Outcomes.{frontIf}
 use Rattle.theory.specs.Laws.Paths.{rowsOf-fars}
+use Rattle.theory.specs.Outcomes.{LeftRows, RowsOutcome}
 use Rattle.bits.specs.Listed.{length-listed}
 use Rattle.choice.specs.Call.{sidesOf}
 use Rattle.stored_links.specs.Laws.Outcomes.{front-taken, table-passed, table-refused}
 use Rattle.stored_links.specs.Laws.Passed.{Stored, head-passed, read-passed, room-goes}
 use Rattle.stored_links.specs.Laws.ReadAt.{read-enough}
-use Rattle.stored_links.specs.Outcomes.{Left, Outcome, readOutcome, rowsIf, saidIf}
+use Rattle.stored_links.specs.Outcomes.{readOutcome, rowsIf, saidIf}
 use Rattle.stored_links.specs.Reading.{tableAtChecks, tableChecks}
 use Rattle.stored_links.specs.Said.{costOf, costsOf, countOf, farOf, farsOf, imagesOf, usedOf}
 use Rattle.stored_links.specs.declared.StoredLinks.{StoredLinks}
@@ -46,14 +47,14 @@ module _ (head w L : ℕ) (s : List ℕ) where
   at-front : tableAtChecks head w L s 0 ≡ tableChecks head w L s
   at-front = rw (le-ltb (length s) 0 (omega arith))
 
-  pub read-is : {r : StoredLinks} (f v f′ v′ : List ℕ) → length f ≡ 128 → length v ≡ 128 → Left (readOutcome head w L s 0 f v) r f′ v′ → Read head w L s r f′
+  pub read-is : {r : StoredLinks} (f v f′ v′ : List ℕ) → length f ≡ 128 → length v ≡ 128 → LeftRows (readOutcome head w L s 0 f v) r f′ v′ → Read head w L s r f′
   read-is {r} f v f′ v′ a b o =
       let e : readOutcome head w L s 0 f v ≡ rowsIf (tableChecks head w L s) head w s f v =
       read-enough head w L s 0 f v (omega arith) (omega arith) ∙ ap (λ (c : Check). rowsIf c head w s f v) at-front in
       record {
-        answered = o .answered ∙ ap (λ (x : Outcome). x .answer) e;
+        answered = o .answered ∙ ap (λ (x : RowsOutcome StoredLinks). x .answer) e;
         stands = λ p. front-taken (countOf head s) (sidesOf head w s) f f′ (length-listed (farOf head w (imagesOf head s) s) (countOf head s))
-            (o .far-sides ∙ ap (λ (x : Outcome). x .far-list) e ∙ ap (λ (c : Check). frontIf c (sidesOf head w s) f) p);
+            (o .far-sides ∙ ap (λ (x : RowsOutcome StoredLinks). x .far-list) e ∙ ap (λ (c : Check). frontIf c (sidesOf head w s) f) p);
       }
 
   -- ## What the caller learns

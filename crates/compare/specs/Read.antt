@@ -17,12 +17,13 @@ use Rattle.ground.specs.declared.Written.the-variants.{Places}
 use Rattle.ground.specs.declared.Written.the-variants as written
 use Rattle.theory.specs.Demands.{OneTree, measured-reading}
 use Rattle.theory.specs.LinkTables.{Row, far, fars}
+use Rattle.theory.specs.Outcomes.{LeftRows}
 use Rattle.theory.specs.Readings.{measured}
 use Rattle.theory.specs.Tables.{CostTable, cost}
 use Rattle.tables.specs.Checks.{costsCheck, lengthCheck}
 use Rattle.tables.specs.Formed.{cost-table}
 use Rattle.wiring.specs.Check.{wiringCheck}
-use Rattle.tree.specs.Readings.{Leaves, exactCheck, exactOutcome, outcome}
+use Rattle.tree.specs.Readings.{exactCheck, exactOutcome, outcome}
 use Rattle.compare.specs.Call.{sidesOf, tableCheck}
 
 -- the call answered r and left f: the refusal, or how many far sides of the tree stand in front
@@ -45,7 +46,7 @@ module _ (L n : ℕ) (t : List ℕ) (least : 3 ≤ n) (most : n ≤ 64) where
       rw (le-ltb n 3 least, le-ltb 64 n most, le-ltb 128 (2 * n - 3) (omega arith))
       (then-assoc (lengthCheck n t) (costsCheck L (cost t n) n) (wiringCheck (cost t n) n))
 
-  pub read-is : {r : Written} (f v f′ v′ : List ℕ) → length f ≡ 128 → length v ≡ 128 → Leaves (exactOutcome L n t f v) r f′ v′ → Read L n t r f′
+  pub read-is : {r : Written} (f v f′ v′ : List ℕ) → length f ≡ 128 → length v ≡ 128 → LeftRows (exactOutcome L n t f v) r f′ v′ → Read L n t r f′
   read-is {r} f v f′ v′ a b l =
       let e : exactCheck L n t (length f) (length v) ≡ tableCheck L n t = rw (a, b) exact-check in
       go (tableCheck L n t) refl (rw e at (l .answered)) (rw e at (l .far-sides))

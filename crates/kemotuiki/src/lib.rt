@@ -3,6 +3,7 @@
 use numbers::KemotuikiAnswer;
 ghost use mathlib.Core.Path.{_≡_};
 ghost use Rattle.ground.specs.Outcomes.{Left};
+ghost use Rattle.theory.specs.Outcomes.{LeftRows};
 ghost use Rattle.theory.specs.Tables.{limit};
 ghost use Rattle.index.specs.Call.{indexAnswer};
 ghost use Rattle.order.specs.Outcome.{orderOutcome};
@@ -17,7 +18,7 @@ ghost use Rattle.batch.specs.Batch.{batchOutcome};
 ghost use Rattle.choice.specs.Call.{choiceOf};
 ghost use Rattle.numbers.specs.Numbers.{ofAnswer, ofWritten, ofComparison};
 ghost use Rattle.numbers.specs.Stored.{ofStoredCosts, ofStoredLinks, ofBatched, ofChosen};
-ghost use Rattle.kemotuiki.specs.Crossing.{LeftRows, crossed, crossedRows, crossedLinks};
+ghost use Rattle.kemotuiki.specs.Crossing.{crossed, crossedRows};
 
 // The index of the division with the far side s.
 #[no_mangle]
@@ -49,7 +50,7 @@ pub extern "C" fn kemotuiki_measured(
     fars: &mut [u64],
     costs: &mut [u32],
 ) -> KemotuikiAnswer
-    ensures { λ r. ⌜ LeftRows (crossedRows (measuredOutcome limit n (now (t .entry)) (now (fars .entry)) (now (costs .entry)))) r (now (fars .exit)) (now (costs .exit)) ⌝ }
+    ensures { λ r. ⌜ LeftRows (crossedRows ofWritten (measuredOutcome limit n (now (t .entry)) (now (fars .entry)) (now (costs .entry)))) r (now (fars .exit)) (now (costs .exit)) ⌝ }
 {
     numbers::of_written(tree::measured(n, t, fars, costs))
 }
@@ -62,7 +63,7 @@ pub extern "C" fn kemotuiki_exact(
     fars: &mut [u64],
     costs: &mut [u32],
 ) -> KemotuikiAnswer
-    ensures { λ r. ⌜ LeftRows (crossedRows (exactOutcome limit n (now (t .entry)) (now (fars .entry)) (now (costs .entry)))) r (now (fars .exit)) (now (costs .exit)) ⌝ }
+    ensures { λ r. ⌜ LeftRows (crossedRows ofWritten (exactOutcome limit n (now (t .entry)) (now (fars .entry)) (now (costs .entry)))) r (now (fars .exit)) (now (costs .exit)) ⌝ }
 {
     numbers::of_written(tree::exact(n, t, fars, costs))
 }
@@ -161,7 +162,7 @@ pub extern "C" fn kemotuiki_read_links(
     fars: &mut [u64],
     costs: &mut [u32],
 ) -> KemotuikiAnswer
-    ensures { λ r. ⌜ LeftRows (crossedLinks (links-reading.readOutcome 0 21 limit (now (bytes .entry)) position (now (fars .entry)) (now (costs .entry)))) r (now (fars .exit)) (now (costs .exit)) ⌝ }
+    ensures { λ r. ⌜ LeftRows (crossedRows ofStoredLinks (links-reading.readOutcome 0 21 limit (now (bytes .entry)) position (now (fars .entry)) (now (costs .entry)))) r (now (fars .exit)) (now (costs .exit)) ⌝ }
 {
     numbers::of_stored_links(stored_links::read_links(bytes, position, fars, costs))
 }

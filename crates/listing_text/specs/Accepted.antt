@@ -1,15 +1,12 @@
 -- What the calls that a listing makes have shown by then, and what they have left. Assumes nothing.
-use mathlib.Core.Bool.{false}
 use mathlib.Core.List.{List}
-use mathlib.Core.Path.{ap, ap₂, refl, sym, _∙_, _≡_}
-use Prim.Native.Nat.{ℕ, _*_, _-_, _≤_}
-use native.Mathlib.Nat.{mul-le-mul}
+use mathlib.Core.Path.{ap, refl, sym, _∙_, _≡_}
+use Prim.Native.Nat.{ℕ, _-_, _≤_}
 use native.Mathlib.Omega.{arith}
-use lib.ListN.{drop, length, length-map, take}
+use lib.ListN.{length, length-map, take}
 use lib.Seq.{length-take-le, take-at}
-use borrow.Author.Tests.{le-ltb}
 use Rattle.ground.specs.Buffers.{front}
-use Rattle.ground.specs.Refusals.{outside, outside-false, refuseIf-passed, _then_}
+use Rattle.ground.specs.Refusals.{_then_}
 use Rattle.ground.specs.declared.Check.{Check}
 use Rattle.ground.specs.declared.Check.the-variants.{Passed, Refused}
 use Rattle.ground.specs.declared.Refusal.{Refusal}
@@ -19,25 +16,23 @@ use Rattle.ground.specs.declared.Written.the-variants.{Places}
 use Rattle.ground.specs.declared.Written.the-variants as written
 use Rattle.theory.specs.Laws.RowCount.{row-count}
 use Rattle.theory.specs.LinkTables.{costs, far, fars, rowsOf}
+use Rattle.theory.specs.Outcomes.{LeftRows}
 use Rattle.theory.specs.Readings.{measured}
 use Rattle.theory.specs.Routes.{uppers}
 use Rattle.theory.specs.Tables.{CostTable, cost, limit}
-use Rattle.theory.specs.Checks.{imagesCheck}
 use Rattle.wiring.specs.Check.{wiringCheck}
 use Rattle.links.specs.LinkChecks.{Links, rows-length}
-use Rattle.routes.specs.Accepted.{UppersTaken}
 use Rattle.routes.specs.Outcomes.{upperOutcome}
 use Rattle.routes.specs.Promises.{upper-answer}
 use Rattle.routes.specs.UpperRows.{uppers-length}
 use Rattle.order.specs.Asked.{Asked}
 use Rattle.order.specs.Outcome.{images, orderOutcome}
 use Rattle.order.specs.Promise.{order-accepted, order-wrote}
-use Rattle.tree.specs.Promises.{exact-answer, rowsLeft}
-use Rattle.tree.specs.Readings.{Leaves, exactCheck, exactOutcome, measuredCheck, outcome}
+use Rattle.tree.specs.Promises.{exact-answer}
+use Rattle.tree.specs.Readings.{exactCheck, exactOutcome, outcome}
 use Rattle.tree.specs.Writing.{measured-passed}
-use Rattle.listing_text.specs.Lengths.{reading-most, refused-most}
 use Rattle.listing_text.specs.Lines.{refusedLine}
-use Rattle.listing_text.specs.Listing.{linksText, readingText, room, tableText, textIf}
+use Rattle.listing_text.specs.Listing.{readingText, tableText, textIf}
 
 -- ## Upper rows and order of a table that was read
 
@@ -81,7 +76,7 @@ exact-wiring n t f v c a b =
     rw (measured-passed limit n t (length f) (length v) .1 (record { table = c; far-room = omega (arith, c .few); cost-room = omega (arith, c .few) })) refl
 
 pub table-refused : (n : ℕ) (t f v f′ v′ : List ℕ) (q : Refusal) → CostTable limit n t → 125 ≤ length f → 125 ≤ length v
-    → Leaves (exactOutcome limit n t f v) (written.Refused q) f′ v′ → tableText n t ≡ refusedLine q
+    → LeftRows (exactOutcome limit n t f v) (written.Refused q) f′ v′ → tableText n t ≡ refusedLine q
 table-refused n t f v f′ v′ q c a b l = go (wiringCheck (cost t n) n) _ (rw (exact-wiring n t f v c a b) at (l .answered))
   where
     go : (k : Check) (m : List ℕ) → written.Refused q ≡ outcome k (measured limit (cost t n) n) f v .answer → textIf k m ≡ refusedLine q
@@ -96,7 +91,7 @@ pub record Read (n : ℕ) (t : List ℕ) (r : ℕ) (f v : List ℕ) : Type 0 whe
   pub links : Links limit n (length (take r f)) (take r f) (take r v)
   pub text : tableText n t ≡ readingText n (take r f) (take r v) (uppers (take r f)) (images n t 1 n)
 
-pub table-read : (n : ℕ) (t f v f′ v′ : List ℕ) (r : ℕ) → CostTable limit n t → 125 ≤ length f → 125 ≤ length v → Leaves (exactOutcome limit n t f v) (Places r) f′ v′ → Read n t r f′ v′
+pub table-read : (n : ℕ) (t f v f′ v′ : List ℕ) (r : ℕ) → CostTable limit n t → 125 ≤ length f → 125 ≤ length v → LeftRows (exactOutcome limit n t f v) (Places r) f′ v′ → Read n t r f′ v′
 table-read n t f v f′ v′ r c a b l =
     let T = measured limit (cost t n) n in
     let g = go (wiringCheck (cost t n) n) _ (rw (exact-wiring n t f v c a b) at (l .answered)) (rw (exact-wiring n t f v c a b) at (l .far-sides)) (rw (exact-wiring n t f v c a b) at (l .doubled)) in

@@ -3,11 +3,11 @@ use mathlib.Core.List.{List}
 use mathlib.Core.Path.{_≡_}
 use Prim.Native.Nat.{min, ℕ, _*_, _+_, _/_}
 use Rattle.ground.specs.Outcomes.{Outcome}
+use Rattle.theory.specs.Outcomes.{RowsOutcome}
 use Rattle.stored_costs.specs.declared.StoredCosts.{StoredCosts}
 use Rattle.stored_costs.specs.declared.StoredCosts.the-variants as costs
 use Rattle.stored_links.specs.declared.StoredLinks.{StoredLinks}
 use Rattle.stored_links.specs.declared.StoredLinks.the-variants as links
-use Rattle.stored_links.specs.Outcomes as stored
 use Rattle.reader.specs.declared.CostsTaken.{CostsTaken}
 use Rattle.reader.specs.declared.LinksTaken.{LinksTaken}
 
@@ -32,7 +32,7 @@ pub record CostsLeft (o : Outcome StoredCosts) (position : ℕ) (r : CostsTaken)
   pub left : e ≡ o .places
 
 -- the same of link tables
-pub record LinksLeft (o : stored.Outcome) (position : ℕ) (r : LinksTaken) (f v : List ℕ) : Type 0 where
+pub record LinksLeft (o : RowsOutcome StoredLinks) (position : ℕ) (r : LinksTaken) (f v : List ℕ) : Type 0 where
   pub answered : r ≡ linksTaken (o .answer) position
   pub far-sides : f ≡ o .far-list
   pub doubled : v ≡ o .cost-list

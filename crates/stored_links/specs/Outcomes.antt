@@ -1,28 +1,16 @@
 -- What the readers answer, and what they leave in the lent slices. Assumes nothing.
 use mathlib.Core.List.{List}
-use mathlib.Core.Path.{_≡_}
 use Prim.Native.Nat.{min, ℕ, _/_}
 use lib.ListN.{drop, length}
 use Rattle.ground.specs.Outcomes.{frontIf}
 use Rattle.ground.specs.declared.Check.{Check}
 use Rattle.ground.specs.declared.Check.the-variants.{Passed, Refused}
+use Rattle.theory.specs.Outcomes.{RowsOutcome}
 use Rattle.stored_links.specs.Reading.{readAtChecks, tableAtChecks}
 use Rattle.stored_links.specs.Said.{costsOf, countOf, farsOf, imagesOf, usedOf}
 use Rattle.stored_links.specs.declared.StoredLinks.{StoredLinks}
 use Rattle.stored_links.specs.declared.StoredLinks.the-variants.{Table}
 use Rattle.stored_links.specs.declared.StoredLinks.the-variants as stored
-
--- an answer, and the lent far sides and costs as they are left
-pub record Outcome : Type 0 where
-  pub answer : StoredLinks
-  pub far-list : List ℕ
-  pub cost-list : List ℕ
-
--- the call answered r and left the far sides f and the costs v
-pub record Left (o : Outcome) (r : StoredLinks) (f v : List ℕ) : Type 0 where
-  pub answered : r ≡ o .answer
-  pub far-sides : f ≡ o .far-list
-  pub doubled : v ≡ o .cost-list
 
 -- n, the row count and the bytes used where the check passed
 abbrev pub tableIf : Check → ℕ → ℕ → ℕ → StoredLinks
@@ -42,7 +30,7 @@ abbrev pub judgedTable : ℕ → ℕ → ℕ → List ℕ → ℕ → StoredLink
 judgedTable head w L bytes position = saidIf (tableAtChecks head w L bytes position) head w (drop (position / 8) bytes)
 
 -- the answer, with the rows that s begins with at the front of the lent places where the check passed
-abbrev pub rowsIf : Check → ℕ → ℕ → List ℕ → List ℕ → List ℕ → Outcome
+abbrev pub rowsIf : Check → ℕ → ℕ → List ℕ → List ℕ → List ℕ → RowsOutcome StoredLinks
 rowsIf c head w s f v =
     record {
       answer = saidIf c head w s;
@@ -51,5 +39,5 @@ rowsIf c head w s f v =
     }
 
 -- what reading at the position answers and leaves in the far sides f and the costs v
-abbrev pub readOutcome : ℕ → ℕ → ℕ → List ℕ → ℕ → List ℕ → List ℕ → Outcome
+abbrev pub readOutcome : ℕ → ℕ → ℕ → List ℕ → ℕ → List ℕ → List ℕ → RowsOutcome StoredLinks
 readOutcome head w L bytes position f v = rowsIf (readAtChecks head w L bytes position (min (length f) (length v))) head w (drop (position / 8) bytes) f v

@@ -7,13 +7,14 @@ ghost use Prim.Native.Nat.{min, _*_, _+_, _-_, _≤_};
 ghost use lib.ListN.{length, take};
 ghost use Rattle.ground.specs.Buffers.{front};
 ghost use Rattle.ground.specs.declared.Check.the-variants.{Passed};
+ghost use Rattle.theory.specs.Outcomes.{LeftRows};
 ghost use Rattle.theory.specs.Tables.{limit};
 ghost use Rattle.links.specs.Checks.{rowChecks};
 ghost use Rattle.bits.specs.Bits.{bits, part, valueOf};
 ghost use Rattle.bits.specs.Forms.{bytesFor};
 ghost use Rattle.stored_links.specs.Form.{rowAt};
 ghost use Rattle.stored_links.specs.Said.{costsOf, countOf, farsOf, imagesOf};
-ghost use Rattle.stored_links.specs.Outcomes.{Left, judged, judgedTable, readOutcome, saidIf};
+ghost use Rattle.stored_links.specs.Outcomes.{judged, judgedTable, readOutcome, saidIf};
 ghost use Rattle.stored_links.specs.Reading.{bodyChecks, headChecks, readAtChecks, readChecks};
 ghost use Rattle.stored_links.specs.Sizes.{Held, Small};
 
@@ -220,7 +221,7 @@ fn lesser(x: usize, y: usize) -> usize
 
 // The link table at the position, into the lent places: everything is judged before the first store.
 pub fn read_links(bytes: &[u8], position: usize, fars: &mut [u64], costs: &mut [u32]) -> StoredLinks
-    ensures { λ r. ⌜ Left (readOutcome 0 21 limit (now (bytes .entry)) position (now (fars .entry)) (now (costs .entry))) r (now (fars .exit)) (now (costs .exit)) ⌝ }
+    ensures { λ r. ⌜ LeftRows (readOutcome 0 21 limit (now (bytes .entry)) position (now (fars .entry)) (now (costs .entry))) r (now (fars .exit)) (now (costs .exit)) ⌝ }
 {
     match judge_links(bytes, position, lesser(fars.len(), costs.len())) {
         StoredLinks::Refused(r) => StoredLinks::Refused(r),

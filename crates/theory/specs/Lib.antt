@@ -9,6 +9,8 @@ pub mod Index
 pub mod Readings
 pub mod Order
 pub mod Comparison
+-- What a call leaves in the two lent slices of a link table.
+pub mod Outcomes
 -- What is true of them: the proofs, and on one page the theorems that answer the demands.
 pub mod Laws
 pub mod Demands

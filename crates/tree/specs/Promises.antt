@@ -11,7 +11,6 @@ use Rattle.ground.specs.Refusals.{then-passed}
 use Rattle.ground.specs.declared.Check.{Check}
 use Rattle.ground.specs.declared.Check.the-variants.{Passed, Refused}
 use Rattle.ground.specs.declared.Refusal.{Refusal}
-use Rattle.ground.specs.declared.Written.{Written}
 use Rattle.ground.specs.declared.Written.the-variants.{Places}
 use Rattle.ground.specs.declared.Written.the-variants as written
 use Rattle.theory.specs.Demands.{MeasuredReading, exact-reading, measured-reading, stable}
@@ -19,9 +18,10 @@ use Rattle.theory.specs.FarSides.{FarSide}
 use Rattle.theory.specs.FourPoint.{FourPoint}
 use Rattle.theory.specs.Laws.Paths.{rowsOf-all}
 use Rattle.theory.specs.LinkTables.{Row, costOf, costs, far, fars, rowsOf}
+use Rattle.theory.specs.Outcomes.{LeftRows}
 use Rattle.theory.specs.Readings.{Exact, Near, measured}
 use Rattle.theory.specs.Tables.{cost}
-use Rattle.tree.specs.Readings.{Leaves, Outcome, exactCheck, exactOutcome, measuredCheck, measuredOutcome, outcome}
+use Rattle.tree.specs.Readings.{exactCheck, exactOutcome, measuredCheck, measuredOutcome, outcome}
 use Rattle.tree.specs.Writing.{Ready, Wrote, measured-passed}
 use Rattle.wiring.specs.Check.{wiringCheck}
 use Rattle.wiring.specs.Promises.{FirstFailing, wiring-passed, wiring-refused}
@@ -54,13 +54,13 @@ accepted T r f v f′ v′ w =
       cost-rest = ap₂ drop k (w .cost-front) ∙ front-drop (costs T) v ∙ ap (λ i. drop i v) (sym k);
     }
 
-leaves-accepted : (c : Check) (T : List Row) (r : ℕ) (f v f′ v′ : List ℕ) → Leaves (outcome c T f v) (Places r) f′ v′ → (c ≡ Passed) × Accepted T r f v f′ v′
-leaves-accepted Passed T r f v f′ v′ l =
+left-accepted : (c : Check) (T : List Row) (r : ℕ) (f v f′ v′ : List ℕ) → LeftRows (outcome c T f v) (Places r) f′ v′ → (c ≡ Passed) × Accepted T r f v f′ v′
+left-accepted Passed T r f v f′ v′ l =
     (refl, accepted T r f v f′ v′ (record { counted = places-same r (length T) (l .answered); far-front = l .far-sides; cost-front = l .doubled }))
   where
     places-same : (a b : ℕ) → Places a ≡ Places b → a ≡ b
     places-same a b e = cc
-leaves-accepted (Refused q) T r f v f′ v′ l = absurd (let e = l .answered in let z : _≡_ {A = ℕ} 0 1 = cc in omega arith)
+left-accepted (Refused q) T r f v f′ v′ l = absurd (let e = l .answered in let z : _≡_ {A = ℕ} 0 1 = cc in omega arith)
 
 -- ## The measured reading
 
@@ -71,9 +71,9 @@ module _ (L n : ℕ) (t f v : List ℕ) where
     -- the drawn links form one tree, and no path cost in it is above twice the entry; each division has its index
     pub reading : MeasuredReading L (cost t n) n
 
-  pub measured-answer : (r : ℕ) (f′ v′ : List ℕ) → Leaves (measuredOutcome L n t f v) (Places r) f′ v′ → MeasuredAnswer r f′ v′
+  pub measured-answer : (r : ℕ) (f′ v′ : List ℕ) → LeftRows (measuredOutcome L n t f v) (Places r) f′ v′ → MeasuredAnswer r f′ v′
   measured-answer r f′ v′ l =
-      let a = leaves-accepted (measuredCheck L n t (length f) (length v)) (measured L (cost t n) n) r f v f′ v′ l in
+      let a = left-accepted (measuredCheck L n t (length f) (length v)) (measured L (cost t n) n) r f v f′ v′ l in
       let y = measured-passed L n t (length f) (length v) .0 (a .0) in
       record { ready = y; left = a .1; reading = measured-reading L (cost t n) n (y .table .some) (y .table .formed) }
 
@@ -91,9 +91,9 @@ module _ (L n : ℕ) (t f v : List ℕ) where
     pub exact : Exact L (cost t n) n (rowsLeft r f′ v′)
     pub only : (T : List Row) → Exact L (cost t n) n T → T ≡ rowsLeft r f′ v′
 
-  pub exact-answer : (r : ℕ) (f′ v′ : List ℕ) → Leaves (exactOutcome L n t f v) (Places r) f′ v′ → ExactAnswer r f′ v′
+  pub exact-answer : (r : ℕ) (f′ v′ : List ℕ) → LeftRows (exactOutcome L n t f v) (Places r) f′ v′ → ExactAnswer r f′ v′
   exact-answer r f′ v′ l =
-      let a = leaves-accepted (exactCheck L n t (length f) (length v)) (measured L (cost t n) n) r f v f′ v′ l in
+      let a = left-accepted (exactCheck L n t (length f) (length v)) (measured L (cost t n) n) r f v f′ v′ l in
       let p = then-passed (measuredCheck L n t (length f) (length v)) (wiringCheck (cost t n) n) (a .0) in
       let y = measured-passed L n t (length f) (length v) .0 (p .0) in
       let fp = wiring-passed L (cost t n) n (y .table .formed) .0 (p .1) in
@@ -121,7 +121,7 @@ module _ (L n : ℕ) (t f v : List ℕ) where
 
 -- the tree of an accepted table t, and the measured reading of a second table u, no entry differing by more than D
 pub demand-3 : (L D n : ℕ) (t u f v g w : List ℕ) (r s : ℕ) (f′ v′ g′ w′ : List ℕ)
-    → Leaves (exactOutcome L n t f v) (Places r) f′ v′ → Leaves (measuredOutcome L n u g w) (Places s) g′ w′ → Near D (cost t n) (cost u n) n
+    → LeftRows (exactOutcome L n t f v) (Places r) f′ v′ → LeftRows (measuredOutcome L n u g w) (Places s) g′ w′ → Near D (cost t n) (cost u n) n
     → (S : ℕ) → FarSide n S
     → (costOf (rowsLeft r f′ v′) S ≤ costOf (rowsLeft s g′ w′) S + 4 * D) × (costOf (rowsLeft s g′ w′) S ≤ costOf (rowsLeft r f′ v′) S + 4 * D)
 demand-3 L D n t u f v g w r s f′ v′ g′ w′ l m p S h =
@@ -129,11 +129,8 @@ demand-3 L D n t u f v g w r s f′ v′ g′ w′ l m p S h =
     let y = measured-answer L n u g w s g′ w′ m in
     rw (y .left .rows) (stable L D (cost t n) (cost u n) n (rowsLeft r f′ v′) (y .ready .table .some) (x .ready .table .formed) (y .ready .table .formed) (x .exact) p .near S h)
 
--- ## Refused, nothing is altered; and no second answer meets a promise
+-- ## Refused, nothing is altered; that no second answer meets a promise is `left-rows-once` of theory
 
-pub leaves-unaltered : (c : Check) (T : List Row) (q : Refusal) (f v f′ v′ : List ℕ) → Leaves (outcome c T f v) (written.Refused q) f′ v′ → (f′ ≡ f) × (v′ ≡ v)
-leaves-unaltered Passed T q f v f′ v′ l = absurd (let e = l .answered in let z : _≡_ {A = ℕ} 0 1 = cc in omega arith)
-leaves-unaltered (Refused p) T q f v f′ v′ l = (l .far-sides, l .doubled)
-
-pub leaves-only : (o : Outcome) (r s : Written) (f v g w : List ℕ) → Leaves o r f v → Leaves o s g w → (r ≡ s) × (f ≡ g) × (v ≡ w)
-leaves-only o r s f v g w l m = (l .answered ∙ sym (m .answered), l .far-sides ∙ sym (m .far-sides), l .doubled ∙ sym (m .doubled))
+pub refused-unaltered : (c : Check) (T : List Row) (q : Refusal) (f v f′ v′ : List ℕ) → LeftRows (outcome c T f v) (written.Refused q) f′ v′ → (f′ ≡ f) × (v′ ≡ v)
+refused-unaltered Passed T q f v f′ v′ l = absurd (let e = l .answered in let z : _≡_ {A = ℕ} 0 1 = cc in omega arith)
+refused-unaltered (Refused p) T q f v f′ v′ l = (l .far-sides, l .doubled)

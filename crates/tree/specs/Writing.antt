@@ -17,13 +17,14 @@ use Rattle.ground.specs.declared.Refusal.{Refusal}
 use Rattle.ground.specs.declared.Written.the-variants.{Places}
 use Rattle.theory.specs.Demands.{measured-reading}
 use Rattle.theory.specs.LinkTables.{Row, costs, far, fars}
+use Rattle.theory.specs.Outcomes.{LeftRows}
 use Rattle.theory.specs.Readings.{measured}
 use Rattle.theory.specs.Tables.{CostTable, WellFormed, cost}
 use Rattle.tables.specs.Checks.{costsCheck, sizeCheck}
 use Rattle.tables.specs.Formed.{cost-table}
 use Rattle.tree.specs.Held.{Held}
 use Rattle.tree.specs.LocalRows.{rowsIn-costs, rowsIn-fars, rowsIn-length}
-use Rattle.tree.specs.Readings.{Leaves, exactCheck, measuredCheck, outcome, roomCheck, short}
+use Rattle.tree.specs.Readings.{exactCheck, measuredCheck, outcome, roomCheck, short}
 use Rattle.wiring.specs.Check.{wiringCheck}
 use Rattle.ground.specs.declared.Written.the-variants as written
 
@@ -77,8 +78,8 @@ exact-ready L n t f v e = measured-passed L n t f v .0 (then-passed (measuredChe
 
 -- ## What a call leaves
 
-pub leaves-refused : {x : Check} {r : Refusal} (y : Check) (T : List Row) (f v : List ℕ) → x ≡ Refused r → x ≡ y → Leaves (outcome y T f v) (written.Refused r) f v
-leaves-refused y T f v e q = rw (← q, e) (record { answered = refl; far-sides = refl; doubled = refl })
+pub left-refused : {x : Check} {r : Refusal} (y : Check) (T : List Row) (f v : List ℕ) → x ≡ Refused r → x ≡ y → LeftRows (outcome y T f v) (written.Refused r) f v
+left-refused y T f v e q = rw (← q, e) (record { answered = refl; far-sides = refl; doubled = refl })
 
-pub leaves-written : {x : Check} (y : Check) (T : List Row) (r : ℕ) (f v f′ v′ : List ℕ) → x ≡ Passed → x ≡ y → Wrote T r f v f′ v′ → Leaves (outcome y T f v) (Places r) f′ v′
-leaves-written y T r f v f′ v′ e q w = rw (← q, e) (record { answered = ap Places (w .counted); far-sides = w .far-front; doubled = w .cost-front })
+pub left-written : {x : Check} (y : Check) (T : List Row) (r : ℕ) (f v f′ v′ : List ℕ) → x ≡ Passed → x ≡ y → Wrote T r f v f′ v′ → LeftRows (outcome y T f v) (Places r) f′ v′
+left-written y T r f v f′ v′ e q w = rw (← q, e) (record { answered = ap Places (w .counted); far-sides = w .far-front; doubled = w .cost-front })

@@ -9,13 +9,14 @@ ghost use Rattle.ground.specs.Buffers.{over};
 ghost use Rattle.ground.specs.Counts.{one-if};
 ghost use Rattle.theory.specs.Laws.FewSteps.{extFast};
 ghost use Rattle.theory.specs.Laws.ReadingGrows.{stays};
+ghost use Rattle.theory.specs.Outcomes.{LeftRows};
 ghost use Rattle.theory.specs.Readings.{measured};
 ghost use Rattle.theory.specs.Tables.{limit, cost, CostTable};
 ghost use Rattle.tree.specs.Growing.{Turned};
 ghost use Rattle.tree.specs.Held.{Held};
 ghost use Rattle.tree.specs.LocalRows.{rowsIn};
 ghost use Rattle.tree.specs.Putting.{PutAll, Room};
-ghost use Rattle.tree.specs.Readings.{short, roomCheck, measuredCheck, exactCheck, measuredOutcome, exactOutcome, Leaves};
+ghost use Rattle.tree.specs.Readings.{short, roomCheck, measuredCheck, exactCheck, measuredOutcome, exactOutcome};
 ghost use Rattle.tree.specs.Writing.{Wrote};
 
 // The rows over the first images, ascending, in the first `count` places.
@@ -213,7 +214,7 @@ fn check_exact(n: usize, t: &[u32], f: usize, v: usize) -> Check
 
 // The measured reading: own links, and an inner link only where all choices of images support it.
 pub fn measured(n: usize, t: &[u32], fars: &mut [u64], costs: &mut [u32]) -> Written
-    ensures { λ r. ⌜ Leaves (measuredOutcome limit n (now (t .entry)) (now (fars .entry)) (now (costs .entry))) r (now (fars .exit)) (now (costs .exit)) ⌝ }
+    ensures { λ r. ⌜ LeftRows (measuredOutcome limit n (now (t .entry)) (now (fars .entry)) (now (costs .entry))) r (now (fars .exit)) (now (costs .exit)) ⌝ }
 {
     let c = check_measured(n, t, fars.len(), costs.len());
     match c {
@@ -224,7 +225,7 @@ pub fn measured(n: usize, t: &[u32], fars: &mut [u64], costs: &mut [u32]) -> Wri
 
 // The exact reading: the one tree that accounts for every entry, or the first four images that show that there is none.
 pub fn exact(n: usize, t: &[u32], fars: &mut [u64], costs: &mut [u32]) -> Written
-    ensures { λ r. ⌜ Leaves (exactOutcome limit n (now (t .entry)) (now (fars .entry)) (now (costs .entry))) r (now (fars .exit)) (now (costs .exit)) ⌝ }
+    ensures { λ r. ⌜ LeftRows (exactOutcome limit n (now (t .entry)) (now (fars .entry)) (now (costs .entry))) r (now (fars .exit)) (now (costs .exit)) ⌝ }
 {
     let c = check_exact(n, t, fars.len(), costs.len());
     match c {

@@ -1,5 +1,6 @@
 -- `kemotuiki::kemotuiki_measured` meets its contract: the numbers of what the call promises, and the lent slices as it leaves them. Assumes nothing.
 use borrow.Author.Needs.{needs}
+use Rattle.numbers.specs.Numbers.{ofWritten}
 use Rattle.kemotuiki.specs.Crossing.{left-rows}
 use Rattle.kemotuiki.proofs.kemotuiki_measured.Statement.{statement}
 use Rattle.kemotuiki.proofs.kemotuiki_measured.Tie as tie
@@ -17,7 +18,7 @@ same-length-2 : tie.Need-same-length-2
 same-length-2 c = search needs
 
 returns : tie.Need-returns
-returns c = left-rows _ (c .before .before .before .before .before .measured .ensures) (c .of-written .ensures)
+returns c = left-rows ofWritten _ (c .before .before .before .before .before .measured .ensures) (c .of-written .ensures)
 
 pub kemotuiki-measured-spec : {M : Type 1} → statement M
 kemotuiki-measured-spec =

@@ -1,6 +1,7 @@
 -- `kemotuiki::kemotuiki_read_links` meets its contract: the numbers of what the call promises, and the lent slices as it leaves them. Assumes nothing.
 use borrow.Author.Needs.{needs}
-use Rattle.kemotuiki.specs.Crossing.{left-links}
+use Rattle.numbers.specs.Stored.{ofStoredLinks}
+use Rattle.kemotuiki.specs.Crossing.{left-rows}
 use Rattle.kemotuiki.proofs.kemotuiki_read_links.Statement.{statement}
 use Rattle.kemotuiki.proofs.kemotuiki_read_links.Tie as tie
 
@@ -17,7 +18,7 @@ same-length-2 : tie.Need-same-length-2
 same-length-2 c = search needs
 
 returns : tie.Need-returns
-returns c = left-links _ (c .before .before .before .before .before .read-links .ensures) (c .of-stored-links .ensures)
+returns c = left-rows ofStoredLinks _ (c .before .before .before .before .before .read-links .ensures) (c .of-stored-links .ensures)
 
 pub kemotuiki-read-links-spec : {M : Type 1} → statement M
 kemotuiki-read-links-spec =

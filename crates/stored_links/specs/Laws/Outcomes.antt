@@ -1,6 +1,6 @@
--- How code that stops at the first refusal meets an outcome, and that no second answer does. Assumes nothing.
+-- How code that stops at the first refusal meets an outcome. Assumes nothing.
 use mathlib.Core.List.{List}
-use mathlib.Core.Path.{ap, refl, sym, _∙_, _≡_}
+use mathlib.Core.Path.{ap, refl, _≡_}
 use Prim.Native.Nat.{ℕ}
 use native.Mathlib.Omega.{arith}
 use lib.ListN.{drop, length, take}
@@ -9,8 +9,7 @@ use Rattle.ground.specs.Buffers.{front}
 use Rattle.ground.specs.declared.Check.{Check}
 use Rattle.ground.specs.declared.Check.the-variants.{Passed, Refused}
 use Rattle.ground.specs.declared.Refusal.{Refusal}
-use Rattle.ground.specs.Outcomes.{frontIf}
-use Rattle.stored_links.specs.Outcomes.{Left, Outcome, rowsIf, tableIf}
+use Rattle.stored_links.specs.Outcomes.{rowsIf, tableIf}
 use Rattle.stored_links.specs.declared.StoredLinks.{StoredLinks}
 use Rattle.stored_links.specs.declared.StoredLinks.the-variants.{Table}
 use Rattle.stored_links.specs.declared.StoredLinks.the-variants as stored
@@ -28,10 +27,6 @@ table-passed (Refused r) m M v n N used e = absurd (let q : _≡_ {A = ℕ} 0 1 
 pub table-refused : (c : Check) (m M v : ℕ) (r : Refusal) → tableIf c m M v ≡ stored.Refused r → c ≡ Refused r
 table-refused Passed m M v r e = absurd (let q : _≡_ {A = ℕ} 0 1 = cc in omega arith)
 table-refused (Refused q) m M v r e = let z : q ≡ r = cc in ap Refused z
-
--- the promise of the reader decides its answer and what it leaves
-pub left-once : {o : Outcome} {a b : StoredLinks} {f g v u : List ℕ} → Left o a f v → Left o b g u → (a ≡ b) × (f ≡ g) × (v ≡ u)
-left-once p q = (p .answered ∙ sym (q .answered), p .far-sides ∙ sym (q .far-sides), p .doubled ∙ sym (q .doubled))
 
 -- refused, nothing is altered
 pub refused-alters-nothing : {c : Check} {r : Refusal} (head w : ℕ) (s f v : List ℕ) → c ≡ Refused r

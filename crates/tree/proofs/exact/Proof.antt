@@ -2,7 +2,7 @@
 use mathlib.Core.Path.{_∙_, sym}
 use borrow.Author.Needs.{needs}
 use Rattle.theory.specs.Tables.{limit}
-use Rattle.tree.specs.Writing.{exact-ready, leaves-refused, leaves-written}
+use Rattle.tree.specs.Writing.{exact-ready, left-refused, left-written}
 use Rattle.tree.proofs.exact.Statement.{statement}
 use Rattle.tree.proofs.exact.Tie as tie
 
@@ -21,7 +21,7 @@ write-reading-requires c κs =
     (r .table, r .far-room, r .cost-room)
 
 returns : tie.Need-returns
-returns c = leaves-refused _ _ _ _ (c .before .c .given .1) (c .before .before .before .check-exact .ensures)
+returns c = left-refused _ _ _ _ (c .before .c .given .1) (c .before .before .before .check-exact .ensures)
 
 same-length : tie.Need-same-length
 same-length c = search needs
@@ -33,7 +33,7 @@ returns-2 : tie.Need-returns-2
 returns-2 c =
     let w = c .before .before .before .before in
     let e = w .before .before .before in
-    leaves-written _ _ _ _ _ _ _ (e .enum-told .given .1) (e .before .before .check-exact .ensures) (w .write-reading .ensures)
+    left-written _ _ _ _ _ _ _ (e .enum-told .given .1) (e .before .before .check-exact .ensures) (w .write-reading .ensures)
 
 pub exact-spec : {M : Type 1} → statement M
 exact-spec =
