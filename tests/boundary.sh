@@ -1,6 +1,7 @@
 #!/usr/bin/env bash
-# Runs the cases of crates/cases/data through the archive and compares with crates/cases/stdout; then null pointers and large
-# numbers. Status 1 on a difference, 0 if all is the same or nothing could be run, which is said.
+# Runs the cases of crates/cases/data through the archive and compares with crates/cases/stdout, but for the calls of the reader,
+# which are not exported; then null pointers and large numbers. Status 1 on a difference, 0 if all is the same or nothing could be
+# run, which is said.
 set -euo pipefail
 cd "$(dirname "$0")/.."
 . scripts/cross.sh
@@ -26,7 +27,13 @@ else
     diff "$work/want" "$work/got" | cut -c1-200 | head -6 || true
     status=1
 fi
-grep '^[a-z]' crates/cases/stdout | grep -vxFf "$work/names" | sed 's/^/boundary: SKIPPED, not exported: /' || true
+left_out=$(grep '^[a-z]' crates/cases/stdout | grep -vxFf "$work/names" | paste -sd ' ' || true)
+if [ "$left_out" = "take_costs take_links two_costs" ]; then
+    echo "boundary: not exported, so not run: $left_out"
+else
+    echo "boundary: DIFFERENT, the calls that were not run: $left_out"
+    status=1
+fi
 if $RUN "$work/boundary" --edges; then
     echo "boundary: null pointers and large numbers, as expected"
 else

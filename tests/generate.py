@@ -26,7 +26,7 @@ ROOT = os.path.dirname(os.path.dirname(os.path.abspath(__file__)))
 LONGEST_LINE = 60000
 LONGEST_SLICE = 4200
 LARGEST_FILE = 400000
-LARGEST_TOTAL = 890000
+LARGEST_TOTAL = 990000
 FEWEST_CASES = 2500
 FEWEST_OF_EACH_REFUSAL = 8
 
@@ -48,7 +48,13 @@ CALLS = {
     "read_links": (law.read_links, "8 n 64* 32*", (1, 3, 9, 10, 11, 12, 13)),
     "write_batch": (law.write_batch, "32 32 64 32 8*", (1, 2, 3, 10, 12, 13)),
     "choice": (law.choice, "8 8", (1, 9, 10, 11, 12, 13, 14, 15)),
+    "take_costs": (law.take_costs, "8 n 32*", (1, 3, 4, 9, 11)),
+    "take_links": (law.take_links, "8 n 64* 32*", (1, 3, 9, 10, 11, 12, 13)),
+    "two_costs": (law.two_costs, "8 32* 32*", (1, 3, 4, 9, 11)),
 }
+
+# Those that put a table's number behind a refusal number.
+OVER_SEVERAL_TABLES = ("compare", "write_batch", "choice", "two_costs")
 
 BAD_N = [0, 1, 2, 65, 66, 127, 2 ** 32 + 3, 2 ** 32 + 4, 2 ** 40, 2 ** 63, 2 ** 64 - 1]
 HUGE = [2 ** 32, 2 ** 32 + 1, 2 ** 40, 2 ** 63, 2 ** 64 - 8, 2 ** 64 - 1]
@@ -691,10 +697,15 @@ def around(dice, stored, faults):
     """Bytes in front and behind, and the position; the end stays the end where
     bytes are to be missing."""
     front = [dice.below(256) for _ in range(dice.one_of([0, 0, 0, 1, 3]))]
-    behind = [dice.below(256) for _ in range(dice.one_of([0, 0, 1, 4]))]
+    return placed(dice, front, stored, faults)
+
+
+def placed(dice, front, stored, faults):
+    """The same, with these bytes in front."""
+    rest = [dice.below(256) for _ in range(dice.one_of([0, 0, 1, 4]))]
     if faults & {"header", "body"}:
-        behind = []
-    whole = front + stored + behind
+        rest = []
+    whole = front + stored + rest
     position = 8 * len(front)
     if "position" in faults:
         position = dice.one_of([position + dice.between(1, 7), 8 * len(whole) + 8,
@@ -758,6 +769,24 @@ def read_links_cases(dice):
         yield stored, 0, [7] * 5, [7] * 5
 
 
+def damaged_stored_costs(dice, n, t, faults):
+    """Stored bytes of a cost table with the faults that bytes can have."""
+    t = list(t)
+    if "entry" in faults:
+        for _ in range(dice.between(1, 2)):
+            i, j = sorted(dice.mixed(range(n))[:2])
+            t[i * n + j] = dice.one_of([1000001, 1000001, 1048575])
+    header = dice.one_of([0, 1, 2, 65, 66, 100, 127]) if "n" in faults else n
+    bits = law.field(7, header)
+    bits += "".join(law.field(20, t[(i - 1) * n + j - 1]) for i, j in pairs(n))
+    stored = filled(dice, bits, "fill" in faults)
+    if "body" in faults:
+        stored = cut_body(dice, stored, 1)
+    if "header" in faults:
+        stored = []
+    return stored
+
+
 def read_costs_cases(dice):
     yield [], 0, places(dice, 9)
     yield law.STORED_A_COSTS, 0, places(dice, 9)
@@ -773,19 +802,7 @@ def read_costs_cases(dice):
     kinds = ["position", "header", "n", "room", "body", "fill", "entry"]
     for faults in fault_sets(dice, kinds, 8, 72):
         n = damaged_n(dice)
-        t = good_table(dice, n)
-        if "entry" in faults:
-            for _ in range(dice.between(1, 2)):
-                i, j = sorted(dice.mixed(range(n))[:2])
-                t[i * n + j] = dice.one_of([1000001, 1000001, 1048575])
-        header = dice.one_of([0, 1, 2, 65, 66, 100, 127]) if "n" in faults else n
-        bits = law.field(7, header)
-        bits += "".join(law.field(20, t[(i - 1) * n + j - 1]) for i, j in pairs(n))
-        stored = filled(dice, bits, "fill" in faults)
-        if "body" in faults:
-            stored = cut_body(dice, stored, 1)
-        if "header" in faults:
-            stored = []
+        stored = damaged_stored_costs(dice, n, good_table(dice, n), faults)
         yield around(dice, stored, faults) + output(n, "room" in faults)
     first, second = stored_costs(4, law.random_table(dice, 4, 9)), law.STORED_A_COSTS
     for position in list(range(0, 18)) + [8 * len(first) - 8, 8 * len(first), 8 * len(first) + 8]:
@@ -838,6 +855,166 @@ def choice_cases(dice):
         yield both[0], both[1]
 
 
+# Cases of the reader, which goes from one stored table to the next
+
+def few_images(dice):
+    """Few, since a table's bytes stand in a line for each place at which it is read."""
+    return dice.one_of([3, 3, 3, 4, 4, 5])
+
+
+def any_stored(dice):
+    """A stored table of either kind."""
+    n = few_images(dice)
+    if dice.chance(1, 2):
+        return stored_costs(n, good_table(dice, n))
+    return law.stored_links(n, *sides_and_costs(good_links(dice, n)))
+
+
+def tables_in_a_row(dice):
+    """Lists of stored tables of both kinds that stand one after another."""
+    one, other = law.STORED_A_COSTS, law.STORED_A_LINKS
+    yield from ([], [one], [other], [one, one], [one, other], [other, one], [other, other])
+    for name in sorted(law.EXAMPLES)[1:]:
+        n, t = law.example(name)
+        yield dice.mixed([stored_costs(n, t),
+                          law.stored_links(n, *sides_and_costs(law.MEASURED[name]))])
+    for _ in range(2):
+        yield [any_stored(dice) for _ in range(3)]
+
+
+def reader_stops(dice):
+    """Bytes, a position, and images to make room for. The position is where a table
+    begins or the last one ends, so that it is the one that the reader comes to; then
+    it is a bit beside such a place, inside a byte, and far past the end."""
+    for several in tables_in_a_row(dice):
+        stored = sum(several, [])
+        at = 0
+        for table in several:
+            yield stored, 8 * at, table[0] // 2
+            at += len(table)
+        yield stored, 8 * at, 3
+    stored = law.STORED_A_COSTS + law.STORED_A_LINKS
+    for stop in (0, 72, 160):
+        for bits in (-8, -1, 1, 4, 8):
+            if stop + bits > 0:
+                yield stored, stop + bits, 3
+    for position in (2 ** 32, 2 ** 64 - 8, 2 ** 64 - 1):
+        yield stored, position, 3
+
+
+def each_fill_bit(stored):
+    """Example A's stored form, in which each of the five fill bits is a one in turn."""
+    for bit in (1, 2, 4, 8, 16):
+        yield stored[:-1] + [stored[-1] + bit]
+
+
+def tables_in_front(dice):
+    """The bytes of no table, of one or of two."""
+    return sum([any_stored(dice) for _ in range(dice.one_of([0, 1, 1, 2]))], [])
+
+
+def take_costs_cases(dice):
+    def output(n, short):
+        return (places(dice, room(dice, n * n, short)),)
+
+    for stored, position, n in reader_stops(dice):
+        yield (stored, position) + output(n, False)
+    kinds = ["position", "header", "n", "room", "body", "fill", "entry"]
+    for faults in fault_sets(dice, kinds, 4, 24):
+        n = few_images(dice)
+        stored = damaged_stored_costs(dice, n, good_table(dice, n), faults)
+        yield placed(dice, tables_in_front(dice), stored, faults) + output(n, "room" in faults)
+    for stored in each_fill_bit(law.STORED_A_COSTS):
+        yield (law.STORED_A_COSTS + stored, 72) + output(3, False)
+    for n in (3, 4, 8):
+        stored = law.STORED_A_LINKS + stored_costs(n, law.random_table(dice, n, 9)) + [7]
+        for more in (-1, 0, 1):
+            yield stored, 88, places(dice, n * n + more)
+    n = 17
+    stored = stored_costs(n, tree(dice, n, 3, "uneven"))
+    yield law.STORED_A_COSTS + stored + [6, 0], 72, places(dice, n * n + 1)
+
+
+def take_links_cases(dice):
+    def outputs(n, short):
+        room1, room2 = two_rooms(dice, 2 * n - 3, short)
+        return far_places(dice, room1), places(dice, room2)
+
+    for stored, position, n in reader_stops(dice):
+        yield (stored, position) + outputs(n, False)
+    kinds = ["position", "header", "n", "count", "room", "body", "fill", "row", "own"]
+    for faults in fault_sets(dice, kinds, 4, 22):
+        n = few_images(dice)
+        n, stored = damaged_stored_links(dice, n, good_links(dice, n), faults)
+        yield placed(dice, tables_in_front(dice), stored, faults) + outputs(n, "room" in faults)
+    for stored in each_fill_bit(law.STORED_A_LINKS):
+        yield (law.STORED_A_COSTS + stored, 72) + outputs(3, False)
+    for _ in range(8):
+        n = few_images(dice)
+        stored = law.stored_links(n, *sides_and_costs(good_links(dice, n)))
+        yield placed(dice, tables_in_front(dice), stored, set()) + outputs(n, False)
+    # One row of example E spoilt, behind another table: repeated, without images, across
+    # a later one, an inner cost of 0, a cost above the most.
+    for row, far, cost in ((1, 2, 2), (0, 0, 2), (2, 6, 2), (3, 12, 0), (4, 14, 2000001)):
+        rows = list(law.MEASURED["E"])
+        rows[row] = far, cost
+        stored = law.STORED_A_LINKS + law.bytes_of_bits(bits_of_links(4, 5, rows))
+        yield stored, 88, far_places(dice, 5), places(dice, 5)
+    for n in (3, 5):
+        stored = law.STORED_A_COSTS + law.stored_links(n, *sides_and_costs(good_links(dice, n)))
+        for more, more2 in ((0, 0), (-1, 0), (0, -1), (1, 2)):
+            yield (stored, 72, far_places(dice, 2 * n - 3 + more),
+                   places(dice, 2 * n - 3 + more2))
+    for n, shape in ((17, "uneven"), (64, "star")):
+        rows = tree_rows(dice, n, shape, 9, even=False)
+        stored = law.STORED_A_COSTS + law.stored_links(n, *sides_and_costs(rows))
+        yield stored + [6, 13], 72, far_places(dice, 2 * n), places(dice, 2 * n - 3)
+
+
+def two_damaged(dice, faults, faults2):
+    """Two cost tables with these faults, and their outputs. Where bytes of the first
+    are missing, the second stands right behind or is missing too."""
+    n, n2 = few_images(dice), few_images(dice)
+    stored = damaged_stored_costs(dice, n, good_table(dice, n), faults)
+    if not faults & {"header", "body"} or dice.chance(1, 3):
+        stored = stored + damaged_stored_costs(dice, n2, good_table(dice, n2), faults2)
+        if not faults2 & {"header", "body"}:
+            stored = stored + [dice.below(256) for _ in range(dice.below(3))]
+    return (stored, places(dice, room(dice, n * n, "room" in faults)),
+            places(dice, room(dice, n2 * n2, "room" in faults2)))
+
+
+def two_costs_cases(dice):
+    one, other_kind = law.STORED_A_COSTS, law.STORED_A_LINKS
+    for stored in ([], one, one + one, one * 3, one + other_kind, other_kind + one):
+        yield stored, places(dice, 9), places(dice, 9)
+    for n, t in example_tables():
+        n2, t2 = dice.one_of(example_tables())
+        yield (stored_costs(n, t) + stored_costs(n2, t2),
+               places(dice, room(dice, n * n, False)), places(dice, room(dice, n2 * n2, False)))
+    for _ in range(8):
+        yield two_damaged(dice, set(), set())
+    # Each output too short, exact and too long.
+    for n, n2 in ((3, 3), (4, 5)):
+        stored = stored_costs(n, good_table(dice, n)) + stored_costs(n2, good_table(dice, n2))
+        for more in (-1, 0, 2):
+            for more2 in (-1, 0, 2):
+                yield stored, places(dice, n * n + more), places(dice, n2 * n2 + more2)
+    # Each fault in the first table with each in the second.
+    kinds = ["header", "n", "room", "body", "fill", "entry"]
+    for fault in kinds:
+        for fault2 in kinds:
+            yield two_damaged(dice, {fault}, {fault2})
+    for faults in fault_sets(dice, kinds, 3, 24):
+        damage = [set(), set()]
+        for which in dice.one_of([[0], [1], [1], [0, 1]]):
+            damage[which] = some_of(dice, faults)
+        yield two_damaged(dice, damage[0], damage[1])
+    n = 17
+    stored = stored_costs(n, tree(dice, n, 3, "uneven"))
+    yield one + stored, places(dice, 10), places(dice, n * n)
+
+
 CASES = {
     "index": index_cases,
     "order": order_cases,
@@ -853,6 +1030,9 @@ CASES = {
     "read_links": read_links_cases,
     "write_batch": batch_cases,
     "choice": choice_cases,
+    "take_costs": take_costs_cases,
+    "take_links": take_links_cases,
+    "two_costs": two_costs_cases,
 }
 
 
@@ -914,7 +1094,7 @@ def make():
             answers.append(text)
             assert max(len(line), len(text)) <= LONGEST_LINE, (name, len(line), len(text))
             refusals[answer[0]] = refusals.get(answer[0], 0) + 1
-            if name in ("compare", "write_batch", "choice") and answer[0] != 0:
+            if name in OVER_SEVERAL_TABLES and answer[0] != 0:
                 by_table.add(answer[:2])
         for number in CALLS[name][2]:
             assert refusals.get(number, 0) >= FEWEST_OF_EACH_REFUSAL, (name, number, refusals)

@@ -7,8 +7,9 @@ for the project. The code is as plain as it can be at 64 images.
 
 A call answers a tuple of numbers. The first is 0 where the call accepts, and
 the refusal number where it refuses. A refusal is (number, a, b, c, d), the four
-places with unused ones 0; comparison, batch and choice put the table's number
-behind the refusal number: (number, table, a, b, c, d).
+places with unused ones 0; comparison, batch, choice and the reading of two
+tables put the table's number behind the refusal number: (number, table, a, b, c,
+d). Where a reader stands after a call is the last number, behind a refusal too.
 
 Slices are lists of numbers. A lent output is a list that an accepted call
 writes into. A refused call alters no list.
@@ -563,6 +564,55 @@ def read_links(stored, position, fars, costs):
     return 0, n, len(found), used
 
 
+class Reader:
+    """Holds the lent bytes and its bit position, at first bit 0."""
+
+    def __init__(self, stored):
+        self.stored = stored
+        self.position = 0
+
+    def take_costs(self, out):
+        return self.moved_by(read_costs(self.stored, self.position, out))
+
+    def take_links(self, fars, costs):
+        return self.moved_by(read_links(self.stored, self.position, fars, costs))
+
+    def moved_by(self, answer):
+        """The answer. After an accepted table, whose bytes used stand last in it,
+        the reader stands at the byte behind it, after a refusal where it stood."""
+        if answer[0] == 0:
+            self.position += 8 * answer[-1]
+        return answer
+
+
+def standing_at(stored, position):
+    """A reader that has come to this position, or was put there."""
+    reader = Reader(stored)
+    reader.position = position
+    return reader
+
+
+def take_costs(stored, position, out):
+    reader = standing_at(stored, position)
+    return reader.take_costs(out) + (reader.position,)
+
+
+def take_links(stored, position, fars, costs):
+    reader = standing_at(stored, position)
+    return reader.take_links(fars, costs) + (reader.position,)
+
+
+@call
+def two_costs(stored, first, second):
+    """Two cost tables, the second read from the byte where the first ended. Both
+    are judged before either is written. Answers n of each and the bytes of both."""
+    n, t, used = numbered(1, cost_table_in, stored, len(first))
+    n2, t2, used2 = numbered(2, cost_table_in, stored[used:], len(second))
+    first[:n * n] = t
+    second[:n2 * n2] = t2
+    return 0, n, n2, used + used2
+
+
 def one_of_batch(n, count, fars, costs, room):
     """The link writer's checks for the next table of a batch, its rows being the
     first of what is left of the joined slices. Answers its stored bytes."""
@@ -842,6 +892,7 @@ def test_settled_limits():
         stored = bytes_of_bits(field(7, n) + field(7, n)) + [0] * 6000
         assert read_costs(stored, 0, [0] * 5000) == refused
         assert read_links(stored, 0, [0] * 130, [0] * 130) == refused
+        assert two_costs(stored, [0] * 5000, []) == (1, 1, n, 0, 0, 0)
         assert choice(stored, stored) == (1, 1, n, 0, 0, 0)
         assert listing(stored) == "refused 1 %d 0 0 0\n" % n
     for n in (3, 4, 9):
@@ -1046,6 +1097,54 @@ def test_stored_forms(dice):
     assert write_batch([3], [], [], [], []) == (2, 0, 0, 0, 0, 0)
 
 
+def test_reader_on_a():
+    """Example A's stored forms one after another, of one kind and of both."""
+    t, stored = example("A")[1], STORED_A_COSTS + STORED_A_COSTS
+    reader, out = Reader(stored), [7] * 9
+    for stands in (72, 144):
+        assert reader.take_costs(out) == (0, 3, 9) and out == t
+        assert reader.position == stands
+    assert reader.take_costs(out) == (9, 0, 0, 0, 0) and reader.position == 144
+    first, second = [7] * 10, [8] * 9
+    assert two_costs(stored + [1], first, second) == (0, 3, 3, 18)
+    assert first == t + [7] and second == t
+    reader, fars, costs = Reader(STORED_A_COSTS + STORED_A_LINKS), [8] * 4, [8] * 3
+    assert reader.take_links(fars, costs) == (10, 0, 0, 0, 0) and reader.position == 0
+    assert reader.take_costs([]) == (3, 0, 0, 0, 0) and reader.position == 0
+    assert reader.take_costs(out) == (0, 3, 9) and reader.position == 72
+    assert reader.take_links(fars, costs) == (0, 3, 3, 11) and reader.position == 160
+    assert fars == [2, 4, 6, 8] and costs == [1, 1, 1]
+    for position in (1, 71, 73, 145, 152, 2 ** 64 - 8, 2 ** 64 - 1):
+        assert take_costs(stored, position, out) == (9, 0, 0, 0, 0, position)
+        assert take_links(stored, position, fars, costs) == (9, 0, 0, 0, 0, position)
+
+
+def test_reader(dice):
+    """A reader takes written tables of both kinds in turn and stands at the end.
+    Two cost tables are what it takes twice, or a refusal that writes nothing."""
+    for n in (3, 4, 5, 9, 33):
+        t, t2 = random_table(dice, n, MOST_ENTRY), random_table(dice, 4, 9)
+        rows = tree_rows(dice, n, random_shape(dice), 9, even=False)
+        fars, costs = [far for far, _ in rows], [cost for _, cost in rows]
+        parts = [stored_costs(n, t), stored_links(n, fars, costs), stored_costs(4, t2)]
+        reader = Reader(sum(parts, []))
+        out, found, found_costs = [0] * (n * n), [0] * (2 * n), [0] * (2 * n)
+        assert reader.take_costs(out) == (0, n, len(parts[0])) and out == t
+        assert reader.take_links(found, found_costs) == (0, n, len(rows), len(parts[1]))
+        assert list(zip(found, found_costs))[:len(rows)] == rows
+        out = [0] * 16
+        assert reader.take_costs(out) == (0, 4, len(parts[2])) and out == t2
+        assert reader.position == 8 * len(reader.stored)
+        both, out = parts[0] + parts[2], [0] * (n * n)
+        assert two_costs(both, out, [0] * 16) == (0, n, 4, len(both)) and out == t
+        for short, table in (([], 1), (parts[0], 2), (both[:-1], 2), (parts[0][:-1], 1)):
+            first, second = [7] * (n * n), [7] * 16
+            assert two_costs(short, first, second) == (9, table, 0, 0, 0, 0)
+            assert first == [7] * (n * n) and second == [7] * 16
+        assert two_costs(both, [7] * (n * n - 1), []) == (3, 1, 0, 0, 0, 0)
+        assert two_costs(both, [7] * (n * n), [7] * 15) == (3, 2, 0, 0, 0, 0)
+
+
 def test_choice(dice):
     """A tree against itself with inner rows left out, in both orders."""
     for n in (4, 5, 9, 33, 64):
@@ -1084,6 +1183,7 @@ def self_test():
         (test_all_small_tables, ()), (test_only_one_table, ()), (test_demand_2, (dice,)),
         (test_demand_3, (dice,)), (test_comparison, (dice,)), (test_routes, (dice,)),
         (test_stored_forms, (dice,)), (test_choice, (dice,)), (test_sixty_four, (dice,)),
+        (test_reader_on_a, ()), (test_reader, (dice,)),
     ]
     for test, arguments in tests:
         test(*arguments)

@@ -14,7 +14,7 @@ use stored_costs::StoredCosts;
 use stored_links::StoredLinks;
 
 // Prints the answer of the reader of stored cost tables.
-fn show_stored_costs(answer: StoredCosts) {
+pub fn show_stored_costs(answer: StoredCosts) {
     match answer {
         StoredCosts::Refused(r) => show_refusal(r),
         StoredCosts::Table { n, used } => {
@@ -36,7 +36,7 @@ fn read_costs_case(bytes: &[u8], position: usize, text: &[u8], at: usize) -> usi
 }
 
 // Prints the answer of the reader of stored link tables.
-fn show_stored_links(answer: StoredLinks) {
+pub fn show_stored_links(answer: StoredLinks) {
     match answer {
         StoredLinks::Refused(r) => show_refusal(r),
         StoredLinks::Table { n, count, used } => {

@@ -1,5 +1,5 @@
 // The calls by number. Those whose cases begin with a cost table come first, then those with a link table, then those with stored
-// bytes and a position, and the calls over several tables.
+// bytes and a position, and the calls over several tables. The calls of the reader are last.
 pub const INDEX: u32 = 1;
 
 pub const ORDER: u32 = 2;
@@ -27,3 +27,9 @@ pub const READ_LINKS: u32 = 12;
 pub const WRITE_BATCH: u32 = 13;
 
 pub const CHOICE: u32 = 14;
+
+pub const TAKE_COSTS: u32 = 15;
+
+pub const TAKE_LINKS: u32 = 16;
+
+pub const TWO_COSTS: u32 = 17;

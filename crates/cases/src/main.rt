@@ -6,6 +6,7 @@ mod calls;
 mod choice_cases;
 mod cost_cases;
 mod link_cases;
+mod reader_cases;
 
 use libc::STDOUT_FILENO;
 
@@ -23,7 +24,10 @@ fn one_case(call: u32, text: &[u8], at: usize) -> usize {
     if call == calls::WRITE_BATCH {
         return batch_cases::batch_case(text, at);
     }
-    choice_cases::choice_case(text, at)
+    if call == calls::CHOICE {
+        return choice_cases::choice_case(text, at);
+    }
+    reader_cases::reader_case(call, text, at)
 }
 
 // Runs every case of a text, which has fewer cases than bytes.
@@ -67,4 +71,7 @@ fn main() {
     run(calls::READ_LINKS, b"read_links", b"read_links.txt");
     run(calls::WRITE_BATCH, b"write_batch", b"write_batch.txt");
     run(calls::CHOICE, b"choice", b"choice.txt");
+    run(calls::TAKE_COSTS, b"take_costs", b"take_costs.txt");
+    run(calls::TAKE_LINKS, b"take_links", b"take_links.txt");
+    run(calls::TWO_COSTS, b"two_costs", b"two_costs.txt");
 }
