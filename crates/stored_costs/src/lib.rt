@@ -1,24 +1,21 @@
-// The stored cost table, written and read. In the form of document 01 nothing stands in front of n, an entry has 20 bits, and the
+// The stored cost table: its form, and reading it. In the form of document 01 nothing stands in front of n, an entry has 20 bits, and the
 // limit is that of a cost table; the functions below the public calls take all three as arguments. Images are counted from 0.
 use ground::Check;
 use ground::Refusal;
-use ground::Written;
 ghost use mathlib.Core.Path.{_≡_};
 ghost use Prim.Native.Nat.{_*_, _+_, _-_, _<_, _≤_};
 ghost use lib.ListN.{length};
 ghost use Rattle.ground.specs.Buffers.{front};
 ghost use Rattle.ground.specs.Lowest.{checkAll};
 ghost use Rattle.ground.specs.Outcomes.{Left};
-ghost use Rattle.theory.specs.Tables.{cost, CostTable, limit};
+ghost use Rattle.theory.specs.Tables.{limit};
 ghost use Rattle.tables.specs.Checks.{entryCheck};
-ghost use Rattle.bits.specs.Bits.{bits, overAt};
-ghost use Rattle.bits.specs.Forms.{bytesFor, fieldsOf, formBits};
-ghost use Rattle.stored_costs.specs.Entries.{costOf, entries, entryCount, rowEntries, rowStart};
-ghost use Rattle.stored_costs.specs.Form.{costBytes, costEnd, costsOf, costUsed, entryOf, imagesOf};
+ghost use Rattle.bits.specs.Forms.{bytesFor};
+ghost use Rattle.stored_costs.specs.Entries.{costOf, entryCount, rowStart};
+ghost use Rattle.stored_costs.specs.Form.{costEnd, costsOf, entryOf, imagesOf};
 ghost use Rattle.stored_costs.specs.Outcomes.{judged, readOutcome};
 ghost use Rattle.stored_costs.specs.Reading.{bodyChecks, readAtChecks, readChecks, startChecks, storedCheck};
-ghost use Rattle.stored_costs.specs.Sizes.{Held, Small, Span};
-ghost use Rattle.stored_costs.specs.Writing.{writeChecks, writeOutcome};
+ghost use Rattle.stored_costs.specs.Sizes.{Held, Small};
 
 // What the reader answers: n and the bytes used by this table alone, or the refusal.
 pub enum StoredCosts {
@@ -35,7 +32,7 @@ fn row_start(n: usize, i: usize) -> usize
 }
 
 // The bit at which the entries end.
-fn entries_end(head: usize, w: usize, n: usize) -> usize
+pub fn entries_end(head: usize, w: usize, n: usize) -> usize
     requires { ⌜ Small head w n ⌝ }
     ensures { λ r. ⌜ r ≡ costEnd head w n ⌝ }
 {
@@ -238,76 +235,6 @@ pub fn read_costs(bytes: &[u8], position: usize, out: &mut [u32]) -> StoredCosts
         StoredCosts::Table { n, used } => {
             fill(0, 20, n, &bytes[position / 8..], out);
             StoredCosts::Table { n, used }
-        }
-    }
-}
-
-// The entries of row i right of the diagonal, from the position on.
-fn put_row(position: usize, w: usize, n: usize, t: &[u32], i: usize, out: &mut [u8])
-    requires { ⌜ CostTable limit n (now t) × (i < n) × Span position w (n - (i + 1)) (length (now out)) ⌝ }
-    ensures { λ r. ⌜ bits (now (out .exit)) ≡ overAt (bits (now (out .entry))) position (formBits (fieldsOf w (rowEntries (cost (now (t .entry)) n) n i))) ⌝ }
-{
-    let count = n - (i + 1);
-    let mut p = position;
-    let mut k = 0;
-    while k < count {
-        bits::put(out, p, w, tables::entry(t, n, i, i + 1 + k) as u64);
-        p += w;
-        k += 1;
-    }
-}
-
-// All entries, row by row, from the position on.
-fn put_entries(position: usize, w: usize, n: usize, t: &[u32], out: &mut [u8])
-    requires { ⌜ CostTable limit n (now t) × Span position w (entryCount n) (length (now out)) ⌝ }
-    ensures { λ r. ⌜ bits (now (out .exit)) ≡ overAt (bits (now (out .entry))) position (formBits (fieldsOf w (entries (cost (now (t .entry)) n) n))) ⌝ }
-{
-    let mut p = position;
-    let mut i = 0;
-    while i < n {
-        put_row(p, w, n, t, i, out);
-        p += w * (n - (i + 1));
-        i += 1;
-    }
-}
-
-// The whole form at the front of the lent bytes, the fill bits last.
-fn put_form(head: usize, mark: u64, w: usize, n: usize, t: &[u32], out: &mut [u8])
-    requires { ⌜ CostTable limit n (now t) × Small head w n × (costUsed head w n ≤ length (now out)) ⌝ }
-    ensures { λ r. ⌜ now (out .exit) ≡ front (costBytes head mark w n (cost (now (t .entry)) n)) (now (out .entry)) ⌝ }
-{
-    let end = entries_end(head, w, n);
-    bits::put(out, 0, head, mark);
-    bits::put(out, head, 7, n as u64);
-    put_entries(head + 7, w, n, t, out);
-    bits::put(out, end, 8 * ((end + 7) / 8) - end, 0);
-}
-
-// Refusals 1, 2, 4, 5, 6 and 3.
-fn check_write(head: usize, w: usize, limit: u32, n: usize, t: &[u32], room: usize) -> Check
-    requires { ⌜ (head ≤ 7) × (w ≤ 32) ⌝ }
-    ensures { λ r. ⌜ r ≡ writeChecks head w limit n (now (t .entry)) room ⌝ }
-{
-    let size = tables::check_size(n, t);
-    let Check::Passed = size else {
-        return size;
-    };
-    let costs = tables::check_costs(limit, n, t);
-    let Check::Passed = costs else {
-        return costs;
-    };
-    ground::refuse_if(room < (entries_end(head, w, n) + 7) / 8, 3, 0, 0)
-}
-
-// The stored form of the cost table t at the front of the lent bytes; the answer is the bytes used. No other byte is written.
-pub fn write_costs(n: usize, t: &[u32], out: &mut [u8]) -> Written
-    ensures { λ r. ⌜ Left (writeOutcome 0 0 20 limit n (now (t .entry)) (now (out .entry))) r (now (out .exit)) ⌝ }
-{
-    match check_write(0, 20, theory::LIMIT, n, t, out.len()) {
-        Check::Refused(r) => Written::Refused(r),
-        Check::Passed => {
-            put_form(0, 0, 20, n, t, out);
-            Written::Places((entries_end(0, 20, n) + 7) / 8)
         }
     }
 }

@@ -1,13 +1,13 @@
--- `stored_costs::put_form` meets its contract: four writes, one behind the other, make the form. Assumes nothing.
+-- `cost_writer::put_form` meets its contract: four writes, one behind the other, make the form. Assumes nothing.
 use Prim.Native.Nat.{_+_, _/_, _≤_}
 use native.Mathlib.Omega.{arith}
 use lib.ListN.{length}
 use Rattle.theory.specs.Tables.{cost}
 use Rattle.stored_costs.specs.Laws.Form.{written-costs}
 use Rattle.stored_costs.specs.Laws.Sizes.{end-le}
 use borrow.Author.Needs.{needs}
-use Rattle.stored_costs.proofs.put_form.Statement.{statement}
-use Rattle.stored_costs.proofs.put_form.Tie as tie
+use Rattle.cost_writer.proofs.put_form.Statement.{statement}
+use Rattle.cost_writer.proofs.put_form.Tie as tie
 
 -- the place behind the call of entries_end, from the one before the entries are put
 abbrev ended : tie.After-put-entries-arg → tie.After-entries-end

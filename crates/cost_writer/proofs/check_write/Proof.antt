@@ -1,13 +1,13 @@
--- `stored_costs::check_write` meets its contract: the first refusal is the answer; the bytes are counted once n is at most 64. Assumes nothing.
+-- `cost_writer::check_write` meets its contract: the first refusal is the answer; the bytes are counted once n is at most 64. Assumes nothing.
 use mathlib.Core.Path.{sym, _∙_}
 use native.Mathlib.Omega.{arith}
 use Rattle.ground.specs.Refusals.{then-goes, then-stops}
 use Rattle.tables.specs.Formed.{Sized, size-passed}
 use Rattle.stored_costs.specs.Sizes.{Small}
 use Rattle.stored_costs.specs.Laws.Sizes.{end-le}
 use borrow.Author.Needs.{needs}
-use Rattle.stored_costs.proofs.check_write.Statement.{statement}
-use Rattle.stored_costs.proofs.check_write.Tie as tie
+use Rattle.cost_writer.proofs.check_write.Statement.{statement}
+use Rattle.cost_writer.proofs.check_write.Tie as tie
 
 sized : (c : tie.After-enum-told) → Sized (c .before .before .before .before .args .n) (c .before .before .before .before .args .t .now)
 sized c = size-passed _ _ (sym (c .before .before .check-size .ensures) ∙ c .enum-told .given .1)

@@ -1,16 +1,16 @@
--- `stored_costs::write_costs` meets its contract: the form is put once all checks passed. Assumes nothing.
+-- `cost_writer::write_costs` meets its contract: the form is put once all checks passed. Assumes nothing.
 use mathlib.Core.Path.{sym, _∙_}
 use Prim.Native.Nat.{_≤_}
 use native.Mathlib.Omega.{arith}
 use lib.ListN.{length}
 use Rattle.theory.specs.Tables.{CostTable, limit}
 use Rattle.stored_costs.specs.Form.{costUsed}
 use Rattle.stored_costs.specs.Sizes.{Small}
-use Rattle.stored_costs.specs.Laws.Writable.{write-passed}
+use Rattle.cost_writer.specs.Accepted.{write-passed}
 use borrow.Author.Needs.{needs}
 use Rattle.ground.specs.Outcomes.{front-goes, front-stops, places-goes, places-stops}
-use Rattle.stored_costs.proofs.write_costs.Statement.{statement}
-use Rattle.stored_costs.proofs.write_costs.Tie as tie
+use Rattle.cost_writer.proofs.write_costs.Statement.{statement}
+use Rattle.cost_writer.proofs.write_costs.Tie as tie
 
 told : (c : tie.After-enum-told)
     → CostTable limit (c .before .before .before .before .before .args .n) (c .before .before .before .before .before .args .t .now)
