@@ -49,7 +49,7 @@ fn put_form(head: usize, mark: u64, w: usize, n: usize, t: &[u32], out: &mut [u8
     requires { ⌜ CostTable limit n (now t) × Small head w n × (costUsed head w n ≤ length (now out)) ⌝ }
     ensures { λ r. ⌜ now (out .exit) ≡ front (costBytes head mark w n (cost (now (t .entry)) n)) (now (out .entry)) ⌝ }
 {
-    let end = stored_costs::entries_end(head, w, n);
+    let end = stored_costs::row_at(head, w, n, n);
     bits::put(out, 0, head, mark);
     bits::put(out, head, 7, n as u64);
     put_entries(head + 7, w, n, t, out);
@@ -70,7 +70,7 @@ fn check_write(head: usize, w: usize, limit: u32, n: usize, t: &[u32], room: usi
         return costs;
     };
     ground::refuse_if(
-        room < (stored_costs::entries_end(head, w, n) + 7) / 8,
+        room < (stored_costs::row_at(head, w, n, n) + 7) / 8,
         3,
         0,
         0,
@@ -85,7 +85,7 @@ pub fn write_costs(n: usize, t: &[u32], out: &mut [u8]) -> Written
         Check::Refused(r) => Written::Refused(r),
         Check::Passed => {
             put_form(0, 0, 20, n, t, out);
-            Written::Places((stored_costs::entries_end(0, 20, n) + 7) / 8)
+            Written::Places((stored_costs::row_at(0, 20, n, n) + 7) / 8)
         }
     }
 }

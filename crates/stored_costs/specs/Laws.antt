@@ -1,6 +1,7 @@
 -- The laws, from the stored order up to what is read and what was written.
 pub mod Entries
 pub mod Tables
+pub mod Filling
 pub mod Sizes
 pub mod Passed
 pub mod Outcomes
