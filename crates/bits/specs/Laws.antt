@@ -7,3 +7,4 @@ pub mod Packed
 pub mod Written
 pub mod Forms
 pub mod OneWidth
+pub mod Places

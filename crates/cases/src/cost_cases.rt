@@ -88,7 +88,7 @@ fn write_costs_case(n: usize, t: &[u32], text: &[u8], at: usize) -> usize {
     let room = take8(text, at, &mut bytes);
     let count = room.count;
     let out = &mut bytes[..count];
-    show_written(stored_costs::write_costs(n, t, out));
+    show_written(cost_writer::write_costs(n, t, out));
     show8(out);
     room.next
 }

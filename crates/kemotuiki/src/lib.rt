@@ -10,7 +10,7 @@ ghost use Rattle.order.specs.Outcome.{orderOutcome};
 ghost use Rattle.tree.specs.Readings.{measuredOutcome, exactOutcome};
 ghost use Rattle.routes.specs.Outcomes.{pathOutcome, upperOutcome, routeOutcome};
 ghost use Rattle.compare.specs.Call.{comparison};
-ghost use Rattle.stored_costs.specs.Writing as costs-writing;
+ghost use Rattle.cost_writer.specs.Writing as costs-writing;
 ghost use Rattle.stored_costs.specs.Outcomes as costs-reading;
 ghost use Rattle.link_writer.specs.Writing as links-writing;
 ghost use Rattle.stored_links.specs.Outcomes as links-reading;
@@ -125,7 +125,7 @@ pub extern "C" fn kemotuiki_compare(n: usize, first: &[u32], second: &[u32]) -> 
 pub extern "C" fn kemotuiki_write_costs(n: usize, t: &[u32], out: &mut [u8]) -> KemotuikiAnswer
     ensures { λ r. ⌜ Left (crossed ofWritten (costs-writing.writeOutcome 0 0 20 limit n (now (t .entry)) (now (out .entry)))) r (now (out .exit)) ⌝ }
 {
-    numbers::of_written(stored_costs::write_costs(n, t, out))
+    numbers::of_written(cost_writer::write_costs(n, t, out))
 }
 
 // A stored cost table read.

@@ -1,8 +1,10 @@
 -- The entries of a cost table that are stored: those with row below column, row by row. Images are counted from 0. Assumes nothing.
 use mathlib.Core.Bool.{cond}
 use mathlib.Core.List.{List, [], _++_}
-use Prim.Native.Nat.{max, min, suc, zero, ℕ, _%_, _*_, _+_, _-_, _/_}
+use mathlib.Core.Path.{_≡_}
+use Prim.Native.Nat.{max, min, suc, zero, ℕ, _%_, _*_, _+_, _-_, _/_, _<_}
 use lib.Dec.{eqb}
+use Rattle.theory.specs.Tables.{cost}
 use Rattle.bits.specs.Listed.{listed}
 
 -- the entries of row i with row below column: of i and i + 1, .., of i and n - 1
@@ -34,6 +36,10 @@ entryNumber n i j = rowStart n i + (j - (i + 1))
 -- the cost of i and j by the entries f 0, f 1, .. in stored order: 0 on the diagonal, mirrored below it
 unfoldable pub costOf : (ℕ → ℕ) → ℕ → ℕ → ℕ → ℕ
 costOf f n i j = cond (eqb i j) 0 (f (entryNumber n (min i j) (max i j)))
+
+-- in the places t those of column i above row i have those costs
+pub record Above (f : ℕ → ℕ) (n i : ℕ) (t : List ℕ) : Type 0 where
+  pub holds : (j : ℕ) → j < i → cost t n j i ≡ costOf f n j i
 
 -- the whole table with those costs, row by row
 unfoldable pub tableOf : (ℕ → ℕ) → ℕ → List ℕ

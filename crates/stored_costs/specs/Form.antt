@@ -4,7 +4,7 @@ use mathlib.Core.List.{List, _∷_}
 use Prim.Native.Nat.{ℕ, _*_, _+_}
 use Rattle.bits.specs.Bits.{bits, part, valueOf}
 use Rattle.bits.specs.Forms.{Field, bytesFor, field, fieldValue, fieldsOf, fillWidth, formBytes}
-use Rattle.stored_costs.specs.Entries.{entries, entryCount, tableOf}
+use Rattle.stored_costs.specs.Entries.{entries, rowStart, tableOf}
 
 -- the fields
 unfoldable pub costForm : ℕ → ℕ → ℕ → ℕ → (ℕ → ℕ → ℕ) → List Field
@@ -14,9 +14,13 @@ costForm head mark w n d = field head mark ∷ field 7 n ∷ fieldsOf w (entries
 unfoldable pub costBytes : ℕ → ℕ → ℕ → ℕ → (ℕ → ℕ → ℕ) → List ℕ
 costBytes head mark w n d = formBytes (costForm head mark w n d)
 
+-- where row i begins, which is where the rows before it end
+abbrev pub rowAt : ℕ → ℕ → ℕ → ℕ → ℕ
+rowAt head w n i = head + 7 + w * rowStart n i
+
 -- where the entries end
 abbrev pub costEnd : ℕ → ℕ → ℕ → ℕ
-costEnd head w n = head + 7 + w * entryCount n
+costEnd head w n = rowAt head w n n
 
 -- the bytes used
 abbrev pub costUsed : ℕ → ℕ → ℕ → ℕ

@@ -1,12 +1,11 @@
--- The laws, from the stored order up to the round trips.
+-- The laws, from the stored order up to what is read and what was written.
 pub mod Entries
 pub mod Tables
+pub mod Filling
 pub mod Sizes
 pub mod Passed
 pub mod Outcomes
 pub mod Form
-pub mod Putting
-pub mod Writable
 pub mod ReadBack
 pub mod WriteBack
 pub mod Positions

@@ -1,11 +1,9 @@
--- What is stored of a cost table, and what the calls answer.
+-- What is stored of a cost table, and what the reader answers.
 pub mod Entries
 pub mod Form
 pub mod Reading
 pub mod Outcomes
-pub mod Writing
 pub mod Sizes
 -- What is true of them.
 pub mod Laws
-pub mod RoundTrips
 pub mod Examples

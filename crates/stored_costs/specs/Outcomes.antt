@@ -1,4 +1,4 @@
--- What the calls answer, and what they leave in the lent slice. Assumes nothing.
+-- What the reader answers, and what it leaves in the lent slice. Assumes nothing.
 use mathlib.Core.List.{List}
 use Prim.Native.Nat.{ℕ, _/_}
 use lib.ListN.{drop, length}

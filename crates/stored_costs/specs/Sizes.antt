@@ -1,6 +1,5 @@
 -- What the functions below the public calls are given. Assumes nothing.
 use Prim.Native.Nat.{ℕ, _*_, _+_, _≤_}
-use Rattle.ground.specs.Counts.{count}
 use Rattle.stored_costs.specs.Form.{costEnd}
 
 -- numbers so small that nothing overflows

@@ -1,24 +1,23 @@
-// The stored cost table, written and read. In the form of document 01 nothing stands in front of n, an entry has 20 bits, and the
+// The stored cost table: its form, and reading it. In the form of document 01 nothing stands in front of n, an entry has 20 bits, and the
 // limit is that of a cost table; the functions below the public calls take all three as arguments. Images are counted from 0.
 use ground::Check;
 use ground::Refusal;
-use ground::Written;
 ghost use mathlib.Core.Path.{_≡_};
 ghost use Prim.Native.Nat.{_*_, _+_, _-_, _<_, _≤_};
 ghost use lib.ListN.{length};
 ghost use Rattle.ground.specs.Buffers.{front};
 ghost use Rattle.ground.specs.Lowest.{checkAll};
 ghost use Rattle.ground.specs.Outcomes.{Left};
-ghost use Rattle.theory.specs.Tables.{cost, CostTable, limit};
+ghost use Rattle.theory.specs.Tables.{cost, limit};
 ghost use Rattle.tables.specs.Checks.{entryCheck};
-ghost use Rattle.bits.specs.Bits.{bits, overAt};
-ghost use Rattle.bits.specs.Forms.{bytesFor, fieldsOf, formBits};
-ghost use Rattle.stored_costs.specs.Entries.{costOf, entries, entryCount, rowEntries, rowStart};
-ghost use Rattle.stored_costs.specs.Form.{costBytes, costEnd, costsOf, costUsed, entryOf, imagesOf};
+ghost use Rattle.bits.specs.Bits.{bits, overAt, part, valueOf};
+ghost use Rattle.bits.specs.Forms.{bytesFor, fieldValue};
+ghost use Rattle.bits.specs.Listed.{listed};
+ghost use Rattle.stored_costs.specs.Entries.{Above, costOf};
+ghost use Rattle.stored_costs.specs.Form.{costsOf, entryOf, imagesOf, rowAt};
 ghost use Rattle.stored_costs.specs.Outcomes.{judged, readOutcome};
 ghost use Rattle.stored_costs.specs.Reading.{bodyChecks, readAtChecks, readChecks, startChecks, storedCheck};
 ghost use Rattle.stored_costs.specs.Sizes.{Held, Small, Span};
-ghost use Rattle.stored_costs.specs.Writing.{writeChecks, writeOutcome};
 
 // What the reader answers: n and the bytes used by this table alone, or the refusal.
 pub enum StoredCosts {
@@ -26,20 +25,12 @@ pub enum StoredCosts {
     Refused(Refusal),
 }
 
-// How many entries stand before row i.
-fn row_start(n: usize, i: usize) -> usize
-    requires { ⌜ (n ≤ 64) × (i ≤ n) ⌝ }
-    ensures { λ r. ⌜ r ≡ rowStart n i ⌝ }
+// The bit at which row i begins, which is where the rows before it end.
+pub fn row_at(head: usize, w: usize, n: usize, i: usize) -> usize
+    requires { ⌜ Small head w n × (i ≤ n) ⌝ }
+    ensures { λ r. ⌜ r ≡ rowAt head w n i ⌝ }
 {
-    i * n - i * (i + 1) / 2
-}
-
-// The bit at which the entries end.
-fn entries_end(head: usize, w: usize, n: usize) -> usize
-    requires { ⌜ Small head w n ⌝ }
-    ensures { λ r. ⌜ r ≡ costEnd head w n ⌝ }
-{
-    head + 7 + w * row_start(n, n)
+    head + 7 + w * (i * n - i * (i + 1) / 2)
 }
 
 // The number n that the bytes say.
@@ -50,26 +41,12 @@ fn images(head: usize, bytes: &[u8]) -> usize
     bits::get(bytes, head, 7) as usize
 }
 
-// Entry k, in the stored order.
-fn entry(head: usize, w: usize, n: usize, bytes: &[u8], k: usize) -> u32
-    requires { ⌜ Held head w n (length (now bytes)) × (k < entryCount n) ⌝ }
-    ensures { λ r. ⌜ r ≡ entryOf head w (now (bytes .entry)) k ⌝ }
+// The entry of w bits at the position.
+fn entry_at(bytes: &[u8], position: usize, w: usize) -> u32
+    requires { ⌜ (w ≤ 32) × (position + w ≤ 8 * length (now bytes)) × (position ≤ 131086) ⌝ }
+    ensures { λ r. ⌜ r ≡ valueOf (part (bits (now (bytes .entry))) position w) ⌝ }
 {
-    bits::get(bytes, head + 7 + w * k, w) as u32
-}
-
-// The cost of i and j: 0 on the diagonal, mirrored below it.
-fn stored_cost(head: usize, w: usize, n: usize, bytes: &[u8], i: usize, j: usize) -> u32
-    requires { ⌜ Held head w n (length (now bytes)) × (i < n) × (j < n) ⌝ }
-    ensures { λ r. ⌜ r ≡ costOf (entryOf head w (now (bytes .entry))) n i j ⌝ }
-{
-    if i == j {
-        return 0;
-    }
-    if i < j {
-        return entry(head, w, n, bytes, row_start(n, i) + (j - (i + 1)));
-    }
-    entry(head, w, n, bytes, row_start(n, j) + (i - (j + 1)))
+    bits::get(bytes, position, w) as u32
 }
 
 // Refusals 9, 1 and 3.
@@ -94,7 +71,7 @@ fn check_body(head: usize, w: usize, n: usize, bytes: &[u8]) -> Check
     requires { ⌜ Small head w n ⌝ }
     ensures { λ r. ⌜ r ≡ bodyChecks head w n (now (bytes .entry)) ⌝ }
 {
-    let end = entries_end(head, w, n);
+    let end = row_at(head, w, n, n);
     let used = (end + 7) / 8;
     let short = ground::refuse_if(bytes.len() < used, 9, 0, 0);
     let Check::Passed = short else {
@@ -103,38 +80,21 @@ fn check_body(head: usize, w: usize, n: usize, bytes: &[u8]) -> Check
     ground::refuse_if(0 < bits::get(bytes, end, 8 * used - end), 11, 0, 0)
 }
 
-// Refusal 4 of one entry.
-fn check_entry(
-    head: usize,
-    w: usize,
-    limit: u32,
-    n: usize,
-    bytes: &[u8],
-    i: usize,
-    j: usize,
-) -> Check
-    requires { ⌜ Held head w n (length (now bytes)) × (i < n) × (j < n) ⌝ }
-    ensures { λ r. ⌜ r ≡ entryCheck limit (costOf (entryOf head w (now (bytes .entry))) n) i j ⌝ }
-{
-    ground::refuse_if(
-        limit < stored_cost(head, w, n, bytes, i, j),
-        4,
-        i + 1,
-        j + 1,
-    )
-}
-
 // Refusal 4 in row i, right of the diagonal.
 fn check_row(head: usize, w: usize, limit: u32, n: usize, bytes: &[u8], i: usize) -> Check
     requires { ⌜ Held head w n (length (now bytes)) × (i < n) ⌝ }
     ensures { λ r. ⌜ r ≡ checkAll (entryCheck limit (costOf (entryOf head w (now (bytes .entry))) n) i) (i + 1) (n - (i + 1)) ⌝ }
 {
+    let mut p = row_at(head, w, n, i);
     let mut j = i + 1;
     while j < n {
-        let c = check_entry(head, w, limit, n, bytes, i, j);
+        let c = ground::refuse_if(limit < entry_at(bytes, p, w), 4, i + 1, j + 1);
         match c {
             Check::Refused(_) => return c,
-            Check::Passed => j += 1,
+            Check::Passed => {
+                p += w;
+                j += 1;
+            }
         }
     }
     Check::Passed
@@ -203,7 +163,7 @@ fn judge(
             let n = images(head, &bytes[position / 8..]);
             StoredCosts::Table {
                 n,
-                used: (entries_end(head, w, n) + 7) / 8,
+                used: (row_at(head, w, n, n) + 7) / 8,
             }
         }
     }
@@ -216,16 +176,55 @@ pub fn judge_costs(bytes: &[u8], position: usize, room: usize) -> StoredCosts
     judge(0, 20, theory::LIMIT, bytes, position, room)
 }
 
-// All n * n places of the table at the front of the bytes, one store a place.
+// The places of row i left of the diagonal: each is the place of column i that mirrors it.
+fn fill_left(n: usize, i: usize, out: &mut [u32])
+    requires { ⌜ (n ≤ 64) × (i < n) × (n * n ≤ length (now out)) ⌝ }
+    ensures { λ r. ⌜ now (out .exit) ≡ overAt (now (out .entry)) (i * n) (listed (λ j. cost (now (out .entry)) n j i) i) ⌝ }
+{
+    let start = i * n;
+    let mut above = i;
+    let mut j = 0;
+    while j < i {
+        out[start + j] = out[above];
+        above += n;
+        j += 1;
+    }
+}
+
+// So many places from the start on, in a row right of the diagonal: the entries from the position on.
+fn fill_right(position: usize, w: usize, count: usize, bytes: &[u8], start: usize, out: &mut [u32])
+    requires { ⌜ Span position w count (length (now bytes)) × (start + count ≤ 4096) × (start + count ≤ length (now out)) ⌝ }
+    ensures { λ r. ⌜ now (out .exit) ≡ overAt (now (out .entry)) start (listed (fieldValue (bits (now (bytes .entry))) position w) count) ⌝ }
+{
+    let mut p = position;
+    let mut k = 0;
+    while k < count {
+        out[start + k] = entry_at(bytes, p, w);
+        p += w;
+        k += 1;
+    }
+}
+
+// Row i, where the places of column i above it are filled.
+fn fill_row(head: usize, w: usize, n: usize, bytes: &[u8], i: usize, out: &mut [u32])
+    requires { ⌜ Held head w n (length (now bytes)) × (i < n) × (n * n ≤ length (now out)) × Above (entryOf head w (now bytes)) n i (now out) ⌝ }
+    ensures { λ r. ⌜ now (out .exit) ≡ overAt (now (out .entry)) (i * n) (listed (costOf (entryOf head w (now (bytes .entry))) n i) n) ⌝ }
+{
+    fill_left(n, i, out);
+    out[i * n + i] = 0;
+    let p = row_at(head, w, n, i);
+    fill_right(p, w, n - (i + 1), bytes, i * n + (i + 1), out);
+}
+
+// All places of the table at the front of the bytes, row by row, one store a place.
 fn fill(head: usize, w: usize, n: usize, bytes: &[u8], out: &mut [u32])
     requires { ⌜ Held head w n (length (now bytes)) × (n * n ≤ length (now out)) ⌝ }
     ensures { λ r. ⌜ now (out .exit) ≡ front (costsOf head w n (now (bytes .entry))) (now (out .entry)) ⌝ }
 {
-    let count = n * n;
-    let mut p = 0;
-    while p < count {
-        out[p] = stored_cost(head, w, n, bytes, p / n, p % n);
-        p += 1;
+    let mut i = 0;
+    while i < n {
+        fill_row(head, w, n, bytes, i, out);
+        i += 1;
     }
 }
 
@@ -238,76 +237,6 @@ pub fn read_costs(bytes: &[u8], position: usize, out: &mut [u32]) -> StoredCosts
         StoredCosts::Table { n, used } => {
             fill(0, 20, n, &bytes[position / 8..], out);
             StoredCosts::Table { n, used }
-        }
-    }
-}
-
-// The entries of row i right of the diagonal, from the position on.
-fn put_row(position: usize, w: usize, n: usize, t: &[u32], i: usize, out: &mut [u8])
-    requires { ⌜ CostTable limit n (now t) × (i < n) × Span position w (n - (i + 1)) (length (now out)) ⌝ }
-    ensures { λ r. ⌜ bits (now (out .exit)) ≡ overAt (bits (now (out .entry))) position (formBits (fieldsOf w (rowEntries (cost (now (t .entry)) n) n i))) ⌝ }
-{
-    let count = n - (i + 1);
-    let mut p = position;
-    let mut k = 0;
-    while k < count {
-        bits::put(out, p, w, tables::entry(t, n, i, i + 1 + k) as u64);
-        p += w;
-        k += 1;
-    }
-}
-
-// All entries, row by row, from the position on.
-fn put_entries(position: usize, w: usize, n: usize, t: &[u32], out: &mut [u8])
-    requires { ⌜ CostTable limit n (now t) × Span position w (entryCount n) (length (now out)) ⌝ }
-    ensures { λ r. ⌜ bits (now (out .exit)) ≡ overAt (bits (now (out .entry))) position (formBits (fieldsOf w (entries (cost (now (t .entry)) n) n))) ⌝ }
-{
-    let mut p = position;
-    let mut i = 0;
-    while i < n {
-        put_row(p, w, n, t, i, out);
-        p += w * (n - (i + 1));
-        i += 1;
-    }
-}
-
-// The whole form at the front of the lent bytes, the fill bits last.
-fn put_form(head: usize, mark: u64, w: usize, n: usize, t: &[u32], out: &mut [u8])
-    requires { ⌜ CostTable limit n (now t) × Small head w n × (costUsed head w n ≤ length (now out)) ⌝ }
-    ensures { λ r. ⌜ now (out .exit) ≡ front (costBytes head mark w n (cost (now (t .entry)) n)) (now (out .entry)) ⌝ }
-{
-    let end = entries_end(head, w, n);
-    bits::put(out, 0, head, mark);
-    bits::put(out, head, 7, n as u64);
-    put_entries(head + 7, w, n, t, out);
-    bits::put(out, end, 8 * ((end + 7) / 8) - end, 0);
-}
-
-// Refusals 1, 2, 4, 5, 6 and 3.
-fn check_write(head: usize, w: usize, limit: u32, n: usize, t: &[u32], room: usize) -> Check
-    requires { ⌜ (head ≤ 7) × (w ≤ 32) ⌝ }
-    ensures { λ r. ⌜ r ≡ writeChecks head w limit n (now (t .entry)) room ⌝ }
-{
-    let size = tables::check_size(n, t);
-    let Check::Passed = size else {
-        return size;
-    };
-    let costs = tables::check_costs(limit, n, t);
-    let Check::Passed = costs else {
-        return costs;
-    };
-    ground::refuse_if(room < (entries_end(head, w, n) + 7) / 8, 3, 0, 0)
-}
-
-// The stored form of the cost table t at the front of the lent bytes; the answer is the bytes used. No other byte is written.
-pub fn write_costs(n: usize, t: &[u32], out: &mut [u8]) -> Written
-    ensures { λ r. ⌜ Left (writeOutcome 0 0 20 limit n (now (t .entry)) (now (out .entry))) r (now (out .exit)) ⌝ }
-{
-    match check_write(0, 20, theory::LIMIT, n, t, out.len()) {
-        Check::Refused(r) => Written::Refused(r),
-        Check::Passed => {
-            put_form(0, 0, 20, n, t, out);
-            Written::Places((entries_end(0, 20, n) + 7) / 8)
         }
     }
 }

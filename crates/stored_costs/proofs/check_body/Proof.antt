@@ -12,17 +12,17 @@ use borrow.Author.Needs.{needs}
 use Rattle.stored_costs.proofs.check_body.Statement.{statement}
 use Rattle.stored_costs.proofs.check_body.Tie as tie
 
-end-small : (c : tie.After-entries-end) → c .entries-end .result ≤ 131086
-end-small c = let a = c .before .before in rw (c .entries-end .ensures) (end-le (a .args .head) (a .args .w) (a .args .n) (a .pre))
+end-small : (c : tie.After-row-at) → c .row-at .result ≤ 131086
+end-small c = let a = c .before .before in rw (c .row-at .ensures) (end-le (a .args .head) (a .args .w) (a .args .n) (a .pre))
 
 -- the check passed, so the bytes are there
-whole : (c : tie.After-enum-told) → (c .before .before .before .entries-end .result + 7) / 8 ≤ length (c .before .before .before .before .before .args .bytes .now)
+whole : (c : tie.After-enum-told) → (c .before .before .before .row-at .result + 7) / 8 ≤ length (c .before .before .before .before .before .args .bytes .now)
 whole c =
     let e = c .before .before in
-    ltb-false _ _ (refuseIf-passed (ltb (length (e .before .before .before .args .bytes .now)) ((e .before .entries-end .result + 7) / 8)) _ (sym (e .refuse-if .ensures) ∙ c .enum-told .given .1))
+    ltb-false _ _ (refuseIf-passed (ltb (length (e .before .before .before .args .bytes .now)) ((e .before .row-at .result + 7) / 8)) _ (sym (e .refuse-if .ensures) ∙ c .enum-told .given .1))
 
-entries-end-requires : tie.Need-entries-end-requires
-entries-end-requires c κs = search needs
+row-at-requires : tie.Need-row-at-requires
+row-at-requires c κs = search needs
 
 add-used : tie.Need-add-used
 add-used c = omega (arith, end-small c)
@@ -37,7 +37,7 @@ enum-told-2 : tie.Need-enum-told-2
 enum-told-2 c = search needs
 
 returns : tie.Need-returns
-returns c = rw (← c .before .before .before .entries-end .ensures) (then-stops _ _ (c .enum-told2 .given .1) (c .before .before .refuse-if .ensures))
+returns c = rw (← c .before .before .before .row-at .ensures) (then-stops _ _ (c .enum-told2 .given .1) (c .before .before .refuse-if .ensures))
 
 mul-get : tie.Need-mul-get
 mul-get c = omega (arith, end-small (c .before .before .before))
@@ -60,14 +60,14 @@ unfolding fillOf
 returns-2 c =
     let g = c .before in
     let d = g .before in
-    rw (← d .before .before .before .entries-end .ensures, ← g .get .ensures)
+    rw (← d .before .before .before .row-at .ensures, ← g .get .ensures)
     (then-goes _ _ (d .enum-told .given .1) (d .before .before .refuse-if .ensures) (c .refuse-if2 .ensures))
 
 pub check-body-spec : {M : Type 1} → statement M
 check-body-spec =
     tie.close
     (tie.spec
-    entries-end-requires
+    row-at-requires
     add-used
     refuse-if-requires
     enum-told

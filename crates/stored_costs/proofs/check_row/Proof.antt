@@ -1,39 +1,94 @@
 -- `stored_costs::check_row` meets its contract: what is left answers as the whole does. Assumes nothing.
-use mathlib.Core.Path.{_≡_, refl}
-use Prim.Native.Nat.{_+_, _-_, _≤_}
+use mathlib.Core.Path.{ap, refl, sym, _∙_, _≡_}
+use Prim.Native.Nat.{ℕ, _*_, _+_, _-_, _<_, _≤_}
+use native.Mathlib.Omega.{arith}
 use Rattle.ground.specs.Lowest.{all-ends, all-goes, all-stops, checkAll}
 use Rattle.tables.specs.Checks.{entryCheck}
-use Rattle.stored_costs.specs.Entries.{costOf}
-use Rattle.stored_costs.specs.Form.{entryOf}
+use Rattle.bits.specs.Bits.{bits, part, valueOf}
+use Rattle.bits.specs.Forms.{fieldValue}
+use Rattle.bits.specs.Laws.OneWidth.{field-end, times-more}
+use Rattle.stored_costs.specs.Entries.{costOf, entryCount, entryNumber}
+use Rattle.stored_costs.specs.Form.{costEnd, entryOf}
+use Rattle.stored_costs.specs.Laws.Entries.{number-lt}
+use Rattle.stored_costs.specs.Laws.Sizes.{end-le}
+use Rattle.stored_costs.specs.Laws.Tables.{cost-of-up}
 use borrow.Author.Needs.{needs}
 use Rattle.stored_costs.proofs.check_row.Statement.{statement}
 use Rattle.stored_costs.proofs.check_row.Tie as tie
 
 abbrev Inv-loop : tie.InvT-loop
-Inv-loop head w limit n bytes i j₀ j =
-    (j ≤ n)
+Inv-loop head w limit n bytes i p₀ j₀ p j =
+    (i < j) × (j ≤ n) × (p ≡ head + 7 + w * entryNumber n i j)
     × (checkAll (entryCheck limit (costOf (entryOf head w bytes) n) i) (i + 1) (n - (i + 1)) ≡ checkAll (entryCheck limit (costOf (entryOf head w bytes) n) i) j (n - j))
 
 abbrev μ-loop : tie.MeasureT-loop
-μ-loop head w limit n bytes i j₀ j = n - j
+μ-loop head w limit n bytes i p₀ j₀ p j = n - j
+
+abbrev begun : tie.In-loop Inv-loop μ-loop → tie.Start Inv-loop μ-loop
+begun c = c .before .before .before .before
+
+-- the entry of this turn ends before the end of them all
+ends : (c : tie.In-loop Inv-loop μ-loop)
+    → begun c .args .head + 7 + begun c .args .w * entryNumber (begun c .args .n) (begun c .args .i) (c .before .loop .j) + begun c .args .w ≤ costEnd (begun c .args .head) (begun c .args .w) (begun c .args .n)
+ends c =
+    let a = begun c .args in
+    let l = c .before .loop in
+    field-end (a .head + 7) (a .w) (entryCount (a .n)) (entryNumber (a .n) (a .i) (l .j)) (number-lt (a .n) (a .i) (l .j) (l .inv .0) (c .loop-test .taken))
+
+-- what this turn's check says
+said : (c : tie.After-refuse-if Inv-loop μ-loop)
+    → c .refuse-if .result ≡ entryCheck (begun (c .before .before) .args .limit) (costOf (entryOf (begun (c .before .before) .args .head) (begun (c .before .before) .args .w) (begun (c .before .before) .args .bytes .now)) (begun (c .before .before) .args .n)) (begun (c .before .before) .args .i) (c .before .before .before .loop .j)
+unfolding entryOf fieldValue
+said c =
+    let a = begun (c .before .before) .args in
+    let l = c .before .before .before .loop in
+    let e : c .before .entry-at .result ≡ costOf (entryOf (a .head) (a .w) (a .bytes .now)) (a .n) (a .i) (l .j) =
+    c .before .entry-at .ensures
+    ∙ ap (λ (x : ℕ). valueOf (part (bits (a .bytes .now)) x (a .w))) (l .inv .2)
+    ∙ sym (cost-of-up (entryOf (a .head) (a .w) (a .bytes .now)) (a .n) (a .i) (l .j) (l .inv .0)) in
+    rw (← e) (c .refuse-if .ensures)
+
+row-at-requires : tie.Need-row-at-requires Inv-loop μ-loop
+row-at-requires c κs = search needs
 
 add-j : tie.Need-add-j Inv-loop μ-loop
 add-j c = search needs
 
 loop-holds : tie.Need-loop-holds Inv-loop μ-loop
-loop-holds c = (search needs, refl)
+loop-holds c =
+    let a = c .before .before .args in
+    (search needs, search needs, c .row-at .ensures ∙ ap (λ (x : ℕ). a .head + 7 + a .w * x) (omega arith), refl)
 
-check-entry-requires : tie.Need-check-entry-requires Inv-loop μ-loop
-check-entry-requires c κs = search needs
+entry-at-requires : tie.Need-entry-at-requires Inv-loop μ-loop
+entry-at-requires c κs =
+    let h = begun c .pre .0 in
+    let a = begun c .args in
+    let l = c .before .loop .inv in
+    (h .small .narrow, omega (arith, ends c, h .within, l .2), omega (arith, ends c, end-le (a .head) (a .w) (a .n) (h .small), l .2))
+
+add-refuse-if : tie.Need-add-refuse-if Inv-loop μ-loop
+add-refuse-if c = search needs
+
+add-refuse-if-2 : tie.Need-add-refuse-if-2 Inv-loop μ-loop
+add-refuse-if-2 c = search needs
+
+refuse-if-requires : tie.Need-refuse-if-requires Inv-loop μ-loop
+refuse-if-requires c κs = search needs
 
 enum-told : tie.Need-enum-told Inv-loop μ-loop
 enum-told c = search needs
 
 returns : tie.Need-returns Inv-loop μ-loop
-returns c = all-stops _ _ _ (search needs) (c .before .before .before .before .loop .inv .1) (c .enum-told .given .1) (c .before .before .check-entry .ensures)
+returns c = all-stops _ _ _ (search needs) (c .before .before .before .before .before .loop .inv .3) (c .enum-told .given .1) (said (c .before .before))
 
 enum-told-2 : tie.Need-enum-told-2 Inv-loop μ-loop
 enum-told-2 c = search needs
+
+add-p : tie.Need-add-p Inv-loop μ-loop
+add-p c =
+    let i = c .before .before .before .before in
+    let a = begun i .args in
+    omega (arith, ends i, end-le (a .head) (a .w) (a .n) (begun i .pre .0 .small), i .before .loop .inv .2)
 
 add-j-2 : tie.Need-add-j-2 Inv-loop μ-loop
 add-j-2 c = search needs
@@ -42,10 +97,19 @@ loop-less : tie.Need-loop-less Inv-loop μ-loop
 loop-less c = search needs
 
 loop-again : tie.Need-loop-again Inv-loop μ-loop
-loop-again c = (search needs, all-goes _ _ _ (search needs) (c .before .before .before .before .loop .inv .1) (c .enum-told2 .given .1) (c .before .before .check-entry .ensures))
+loop-again c =
+    let i = c .before .before .before .before in
+    let a = begun i .args in
+    let l = i .before .loop in
+    let next : entryNumber (a .n) (a .i) (l .j + 1) ≡ entryNumber (a .n) (a .i) (l .j) + 1 = omega (arith, l .inv .0) in (
+      search needs,
+      search needs,
+      omega (arith, l .inv .2, ap (λ (x : ℕ). a .w * x) next, times-more (a .w) (entryNumber (a .n) (a .i) (l .j))),
+      all-goes _ _ _ (search needs) (l .inv .3) (c .enum-told2 .given .1) (said (c .before .before)),
+    )
 
 returns-2 : tie.Need-returns-2 Inv-loop μ-loop
-returns-2 c = all-ends _ _ _ (search needs) (c .before .loop .inv .1)
+returns-2 c = all-ends _ _ _ (search needs) (c .before .loop .inv .3)
 
 pub check-row-spec : {M : Type 1} → statement M
 check-row-spec =
@@ -53,12 +117,17 @@ check-row-spec =
     (tie.spec
     Inv-loop
     μ-loop
+    row-at-requires
     add-j
     loop-holds
-    check-entry-requires
+    entry-at-requires
+    add-refuse-if
+    add-refuse-if-2
+    refuse-if-requires
     enum-told
     returns
     enum-told-2
+    add-p
     add-j-2
     loop-less
     loop-again

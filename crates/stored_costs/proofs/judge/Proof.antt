@@ -53,13 +53,13 @@ images-requires c κs =
     let a = d .before .before .before .before in
     rw (rest-part (a .args .bytes .now) (a .args .position / 8)) (a .pre .0, there d .2 .begun)
 
-entries-end-requires : tie.Need-entries-end-requires
-entries-end-requires c κs = small c
+row-at-requires : tie.Need-row-at-requires
+row-at-requires c κs = (small c, omega arith)
 
 add-t13 : tie.Need-add-t13
 add-t13 c =
     let a = c .before .before .before .before .before .before .before in
-    rw (c .entries-end .ensures) (omega (arith, end-le (a .args .head) (a .args .w) (c .before .images .result) (small (c .before))))
+    rw (c .row-at .ensures) (omega (arith, end-le (a .args .head) (a .args .w) (c .before .images .result) (small (c .before))))
 
 returns : tie.Need-returns
 returns c = table-stops _ _ _ (c .before .r .given .1) (c .before .before .before .check-at .ensures)
@@ -69,7 +69,7 @@ returns-2 c =
     let d = c .before .before .before in
     let a = d .before .before .before .before in
     let n = rw (rest-part (a .args .bytes .now) (a .args .position / 8)) at (c .before .images .ensures) in
-    table-goes _ _ _ (d .enum-told .given .1) (d .before .before .check-at .ensures) n (rw (c .entries-end .ensures, n))
+    table-goes _ _ _ (d .enum-told .given .1) (d .before .before .check-at .ensures) n (rw (c .row-at .ensures, n))
 
 pub judge-spec : {M : Type 1} → statement M
 judge-spec =
@@ -82,7 +82,7 @@ judge-spec =
     part-images-start
     part-images-end
     images-requires
-    entries-end-requires
+    row-at-requires
     add-t13
     returns
     returns-2)

@@ -2,7 +2,7 @@
 use mathlib.Core.List.{List, _++_}
 use mathlib.Core.Path.{ap, ap₂, refl, sym, _∙_, _≡_}
 use Prim.Native.Nat.{suc, zero, ℕ, _*_, _+_, _-_, _<_, _≤_}
-use native.Mathlib.Nat.{add-suc, add-zero, mul-add, suc-mul, zero-mul}
+use native.Mathlib.Nat.{add-suc, add-zero, mul-add, mul-le-mul-left, suc-mul, zero-mul}
 use native.Mathlib.Numerals.{add-one}
 use native.Mathlib.Omega.{arith}
 use lib.Dec.{ltb}
@@ -41,6 +41,13 @@ row-twice n (suc i) h =
 
 pub number-lt : (n i j : ℕ) → i < j → j < n → entryNumber n i j < entryCount n
 number-lt n i j h k = omega (arith, row-more n i, row-le n (i + 1) n (omega arith))
+
+-- in fields of w bits: where the next row begins, and that a row ends before the end
+pub row-next : (n w i : ℕ) → w * rowStart n (i + 1) ≡ w * rowStart n i + w * (n - (i + 1))
+row-next n w i = ap (λ (x : ℕ). w * x) (row-more n i) ∙ mul-add w (rowStart n i) (n - (i + 1))
+
+pub row-within : (n w i : ℕ) → i < n → w * rowStart n i + w * (n - (i + 1)) ≤ w * entryCount n
+row-within n w i h = omega (arith, row-next n w i, mul-le-mul-left w (row-le n (i + 1) n (omega arith)))
 
 -- ## The entries of a table
 

@@ -6,7 +6,6 @@ use Rattle.ground.specs.declared.Check.the-variants.{Passed, Refused}
 use Rattle.ground.specs.declared.Refusal.{Refusal}
 use Rattle.stored_costs.specs.Outcomes.{tableIf}
 use Rattle.stored_costs.specs.declared.StoredCosts.the-variants.{Table}
-use Rattle.ground.specs.declared.Written.the-variants as written
 use Rattle.stored_costs.specs.declared.StoredCosts.the-variants as stored
 
 pub table-stops : {x : Check} {r : Refusal} (y : Check) (n used : ℕ) → x ≡ Refused r → x ≡ y → stored.Refused r ≡ tableIf y n used

@@ -7,7 +7,7 @@ use lib.Dec.{ltb}
 use lib.ListN.{drop, length}
 use borrow.Author.Tests.{le-ltb, ltb-false}
 use Rattle.ground.specs.Lowest.{all-passed, checkAll, passed-all}
-use Rattle.ground.specs.Refusals.{outside, outside-false, refuseIf-passed, roomCheck, then-passed, _then_}
+use Rattle.ground.specs.Refusals.{refuseIf-passed, roomCheck, then-passed, _then_}
 use Rattle.ground.specs.Tests.{or-false}
 use Rattle.ground.specs.declared.Check.{Check}
 use Rattle.ground.specs.declared.Check.the-variants.{Passed, Refused}

@@ -1,4 +1,4 @@
--- Reading at a position, and the two round trips in the words of the calls. Assumes nothing.
+-- Reading at a position: the rest of the bytes, what was written, and the bytes used. Assumes nothing.
 use mathlib.Core.List.{List, _++_}
 use mathlib.Core.Path.{ap, ap₂, refl, sym, _∙_, _≡_}
 use Prim.Native.Nat.{ℕ, _%_, _*_, _/_, _<_, _^_, _≤_}
@@ -7,8 +7,6 @@ use lib.ListN.{drop, length, length-append, take}
 use lib.Seq.{drop-append-seam}
 use borrow.Author.Tests.{le-ltb}
 use Rattle.ground.specs.Buffers.{front}
-use Rattle.ground.specs.declared.Written.{Written}
-use Rattle.ground.specs.declared.Written.the-variants.{Places}
 use Rattle.ground.specs.Outcomes.{Outcome, frontIf}
 use Rattle.theory.specs.Tables.{CostTable, cost}
 use Rattle.bits.specs.Bits.{AllBytes}
@@ -16,20 +14,15 @@ use Rattle.bits.specs.Laws.Written.{all-bytes-drop}
 use Rattle.stored_costs.specs.Form.{costBytes, costUsed, costsOf, imagesOf, markOf}
 use Rattle.stored_costs.specs.Laws.Passed.{Readable, passed-read, table-at}
 use Rattle.stored_costs.specs.Laws.ReadBack.{written-costs-of, written-images, written-readable}
-use Rattle.stored_costs.specs.Laws.Writable.{passed-write}
-use Rattle.stored_costs.specs.Laws.WriteBack.{read-table, read-written}
+use Rattle.stored_costs.specs.Laws.WriteBack.{read-written}
 use Rattle.stored_costs.specs.Outcomes.{judged, readOutcome, tableIf}
 use Rattle.stored_costs.specs.Reading.{readChecks}
-use Rattle.stored_costs.specs.Writing.{writeOutcome}
 use Rattle.stored_costs.specs.declared.StoredCosts.{StoredCosts}
 use Rattle.stored_costs.specs.declared.StoredCosts.the-variants.{Table}
 
--- an accepted reading, and an accepted writing, into the lent slice
+-- an accepted reading into the lent places
 abbrev pub readInto : ℕ → ℕ → List ℕ → List ℕ → Outcome StoredCosts
 readInto n used t out = record { answer = Table n used; places = front t out }
-
-abbrev pub wroteInto : ℕ → List ℕ → List ℕ → Outcome Written
-wroteInto used m out = record { answer = Places used; places = front m out }
 
 module _ (head w L : ℕ) where
   -- what reading at the front of s gives
@@ -75,16 +68,6 @@ module _ (head w L : ℕ) where
       let s = drop (position / 8) bytes in
       let a = table-at head w L bytes position room n used e in
       rw (← (a .count), ← (a .number)) (read-written head w L s room (a .readable) (all-bytes-drop (position / 8) bytes b))
-
-  -- writing what was read gives the same used bytes
-  pub read-again : (bytes : List ℕ) (position room n used : ℕ) (out : List ℕ) → AllBytes bytes → judged head w L bytes position room ≡ Table n used → used ≤ length out
-      → writeOutcome head (markOf head (drop (position / 8) bytes)) w L n (costsOf head w n (drop (position / 8) bytes)) out
-      ≡ wroteInto used (take used (drop (position / 8) bytes)) out
-  read-again bytes position room n used out b e h =
-      let s = drop (position / 8) bytes in
-      let a = table-at head w L bytes position room n used e in
-      let c : CostTable L n (costsOf head w n s) = rw (← (a .number)) (read-table head w L s room (a .readable)) in
-      rw (passed-write head w L n (costsOf head w n s) (length out) c (rw (a .count) h), a .count, used-bytes bytes position room n used b e)
 
   -- one stored form for one table: bytes that are read as the same table are the same
   pub same-bytes : (a b : List ℕ) (p q r s n u v : ℕ) → AllBytes a → AllBytes b

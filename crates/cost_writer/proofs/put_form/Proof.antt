@@ -1,26 +1,26 @@
--- `stored_costs::put_form` meets its contract: four writes, one behind the other, make the form. Assumes nothing.
+-- `cost_writer::put_form` meets its contract: four writes, one behind the other, make the form. Assumes nothing.
 use Prim.Native.Nat.{_+_, _/_, _≤_}
 use native.Mathlib.Omega.{arith}
 use lib.ListN.{length}
 use Rattle.theory.specs.Tables.{cost}
 use Rattle.stored_costs.specs.Laws.Form.{written-costs}
 use Rattle.stored_costs.specs.Laws.Sizes.{end-le}
 use borrow.Author.Needs.{needs}
-use Rattle.stored_costs.proofs.put_form.Statement.{statement}
-use Rattle.stored_costs.proofs.put_form.Tie as tie
+use Rattle.cost_writer.proofs.put_form.Statement.{statement}
+use Rattle.cost_writer.proofs.put_form.Tie as tie
 
--- the place behind the call of entries_end, from the one before the entries are put
-abbrev ended : tie.After-put-entries-arg → tie.After-entries-end
+-- the place behind the call of row_at, from the one before the entries are put
+abbrev ended : tie.After-put-entries-arg → tie.After-row-at
 ended c = c .before .before .before .before .before .before .before .before .before
 
-end-small : (c : tie.After-entries-end) → c .entries-end .result ≤ 131086
-end-small c = let a = c .before .before .before in rw (c .entries-end .ensures) (end-le (a .args .head) (a .args .w) (a .args .n) (a .pre .1))
+end-small : (c : tie.After-row-at) → c .row-at .result ≤ 131086
+end-small c = let a = c .before .before .before in rw (c .row-at .ensures) (end-le (a .args .head) (a .args .w) (a .args .n) (a .pre .1))
 
-room : (c : tie.After-entries-end) → (c .entries-end .result + 7) / 8 ≤ length (c .before .before .before .args .out .now)
-room c = rw (c .entries-end .ensures) (c .before .before .before .pre .2)
+room : (c : tie.After-row-at) → (c .row-at .result + 7) / 8 ≤ length (c .before .before .before .args .out .now)
+room c = rw (c .row-at .ensures) (c .before .before .before .pre .2)
 
-entries-end-requires : tie.Need-entries-end-requires
-entries-end-requires c κs = search needs
+row-at-requires : tie.Need-row-at-requires
+row-at-requires c κs = search needs
 
 put-requires : tie.Need-put-requires
 put-requires c κs = search needs
@@ -76,13 +76,13 @@ returns c =
     let a = s .before .before in
     written-costs (a .args .head) (a .args .mark) (a .args .w) (a .args .n) (cost (a .args .t .now) (a .args .n)) (a .args .out .now) (d .before .before .before .before .before .before .before .put .last .0) (d .before .before .before .put2 .last .0)
     (f .put-entries .last .1 .1 .1 .1 .0) _ (λ i. s .slice-known .given i .fits) (λ i. c .slice-known5 .given i .fits) (a .pre .2)
-    (d .before .before .before .before .before .before .before .put .ensures) (d .before .before .before .put2 .ensures) (f .put-entries .ensures) (rw (e .entries-end .ensures) at (c .before .before .put3 .ensures))
+    (d .before .before .before .before .before .before .before .put .ensures) (d .before .before .before .put2 .ensures) (f .put-entries .ensures) (rw (e .row-at .ensures) at (c .before .before .put3 .ensures))
 
 pub put-form-spec : {M : Type 1} → statement M
 put-form-spec =
     tie.close
     (tie.spec
-    entries-end-requires
+    row-at-requires
     put-requires
     put-requires-2
     add-put-entries

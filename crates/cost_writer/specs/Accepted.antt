@@ -9,8 +9,8 @@ use Rattle.ground.specs.declared.Check.the-variants.{Passed}
 use Rattle.theory.specs.Tables.{CostTable, cost}
 use Rattle.tables.specs.Checks.{costsCheck, sizeCheck}
 use Rattle.tables.specs.Formed.{cost-table}
+use Rattle.cost_writer.specs.Writing.{writeChecks}
 use Rattle.stored_costs.specs.Form.{costUsed}
-use Rattle.stored_costs.specs.Writing.{writeChecks}
 
 module _ (head w L n : ℕ) (t : List ℕ) (room : ℕ) where
   pub write-passed : writeChecks head w L n t room ≡ Passed → CostTable L n t × (costUsed head w n ≤ room)

@@ -1,4 +1,4 @@
--- `stored_costs::put_entries` meets its contract: each row is put directly behind the one before. Assumes nothing.
+-- `cost_writer::put_entries` meets its contract: each row is put directly behind the one before. Assumes nothing.
 use mathlib.Core.List.{List}
 use mathlib.Core.Path.{ap, refl, _∙_, _≡_}
 use Prim.Native.Nat.{ℕ, _*_, _+_, _-_, _≤_}
@@ -9,12 +9,12 @@ use Rattle.theory.specs.Tables.{cost}
 use Rattle.bits.specs.Bits.{bits, overAt}
 use Rattle.bits.specs.Forms.{fieldsOf, formBits}
 use Rattle.bits.specs.Laws.Bytes.{length-bits}
 use Rattle.stored_costs.specs.Entries.{entriesTo, entryCount, rowEntries, rowStart}
-use Rattle.stored_costs.specs.Laws.Entries.{row-none}
-use Rattle.stored_costs.specs.Laws.Putting.{row-next, row-within, rows-put-more, rows-put-none}
+use Rattle.stored_costs.specs.Laws.Entries.{row-next, row-none, row-within}
+use Rattle.cost_writer.specs.Putting.{rows-put-more, rows-put-none}
 use borrow.Author.Needs.{needs}
-use Rattle.stored_costs.proofs.put_entries.Statement.{statement}
-use Rattle.stored_costs.proofs.put_entries.Tie as tie
+use Rattle.cost_writer.proofs.put_entries.Statement.{statement}
+use Rattle.cost_writer.proofs.put_entries.Tie as tie
 
 abbrev Inv-loop : tie.InvT-loop
 Inv-loop position w n t out₀ p₀ i₀ out p i =

@@ -8,15 +8,16 @@ use Rattle.ground.specs.declared.Check.the-variants.{Passed}
 use Rattle.ground.specs.declared.Written.the-variants.{Places}
 use Rattle.theory.specs.Tables.{CostTable, cost, limit}
 use Rattle.bits.specs.Bits.{AllBytes, part, valueOf}
+use Rattle.cost_writer.specs.Accepted.{passed-write}
+use Rattle.cost_writer.specs.Again.{read-again, wroteInto}
+use Rattle.cost_writer.specs.Writing.{writeChecks, writeOutcome}
 use Rattle.stored_costs.specs.Form.{costBytes, costUsed, costsOf}
 use Rattle.stored_costs.specs.Laws.Form.{length-costs}
 use Rattle.stored_costs.specs.Laws.Passed.{table-at}
-use Rattle.stored_costs.specs.Laws.Positions.{read-again, read-rest, readInto, same-bytes, written-at, wroteInto}
-use Rattle.stored_costs.specs.Laws.Writable.{passed-write}
+use Rattle.stored_costs.specs.Laws.Positions.{read-rest, readInto, same-bytes, written-at}
 use Rattle.stored_costs.specs.Laws.WriteBack.{read-table}
 use Rattle.stored_costs.specs.Outcomes.{judged, readOutcome}
-use Rattle.stored_costs.specs.Writing.{writeChecks, writeOutcome}
 use Rattle.stored_costs.specs.declared.StoredCosts.the-variants.{Table}
 
 fits : limit < 2 ^ 20
 fits = omega arith

@@ -1,16 +1,16 @@
--- `stored_costs::write_costs` meets its contract: the form is put once all checks passed. Assumes nothing.
+-- `cost_writer::write_costs` meets its contract: the form is put once all checks passed. Assumes nothing.
 use mathlib.Core.Path.{sym, _∙_}
 use Prim.Native.Nat.{_≤_}
 use native.Mathlib.Omega.{arith}
 use lib.ListN.{length}
 use Rattle.theory.specs.Tables.{CostTable, limit}
 use Rattle.stored_costs.specs.Form.{costUsed}
 use Rattle.stored_costs.specs.Sizes.{Small}
-use Rattle.stored_costs.specs.Laws.Writable.{write-passed}
+use Rattle.cost_writer.specs.Accepted.{write-passed}
 use borrow.Author.Needs.{needs}
 use Rattle.ground.specs.Outcomes.{front-goes, front-stops, places-goes, places-stops}
-use Rattle.stored_costs.proofs.write_costs.Statement.{statement}
-use Rattle.stored_costs.proofs.write_costs.Tie as tie
+use Rattle.cost_writer.proofs.write_costs.Statement.{statement}
+use Rattle.cost_writer.proofs.write_costs.Tie as tie
 
 told : (c : tie.After-enum-told)
     → CostTable limit (c .before .before .before .before .before .args .n) (c .before .before .before .before .before .args .t .now)
@@ -34,8 +34,8 @@ put-form-requires c κs =
     let d = c .before in
     (told d .0, small d, told d .1)
 
-entries-end-requires : tie.Need-entries-end-requires
-entries-end-requires c κs = small (c .before .before .before .before)
+row-at-requires : tie.Need-row-at-requires
+row-at-requires c κs = (small (c .before .before .before .before), omega arith)
 
 add-t12 : tie.Need-add-t12
 add-t12 c = search needs
@@ -56,7 +56,7 @@ returns-2 c =
     let d = c .before .before .before .before .before in
     let k = d .before .before .check-write in
     record {
-      answered = places-goes _ _ (d .enum-told .given .1) (k .ensures) (rw (c .entries-end .ensures));
+      answered = places-goes _ _ (d .enum-told .given .1) (k .ensures) (rw (c .row-at .ensures));
       left = front-goes _ _ _ _ (sym (k .ensures) ∙ d .enum-told .given .1) (c .before .before .before .put-form .ensures);
     }
 
@@ -68,7 +68,7 @@ write-costs-spec =
     enum-known-r
     enum-told
     put-form-requires
-    entries-end-requires
+    row-at-requires
     add-t12
     returns
     same-length

@@ -1,16 +1,14 @@
 -- The loops that write the entries: one entry more of a row, and one row more. Assumes nothing.
 use mathlib.Core.List.{List}
 use mathlib.Core.Path.{ap, sym, _∙_, _≡_}
-use Prim.Native.Nat.{ℕ, _*_, _+_, _-_, _<_, _≤_}
-use native.Mathlib.Nat.{mul-add, mul-le-mul-left}
-use native.Mathlib.Omega.{arith}
+use Prim.Native.Nat.{ℕ, _*_, _+_, _-_, _≤_}
 use lib.ListN.{length}
 use Rattle.bits.specs.Bits.{overAt}
 use Rattle.bits.specs.Forms.{fieldsOf, formBits}
 use Rattle.bits.specs.Laws.OneWidth.{over-at-append, over-at-fields-none}
 use Rattle.bits.specs.Listed.{listed}
-use Rattle.stored_costs.specs.Entries.{entriesTo, entryCount, rowEntries, rowStart}
-use Rattle.stored_costs.specs.Laws.Entries.{entries-more, length-entries, length-row, row-le, row-more}
+use Rattle.stored_costs.specs.Entries.{entriesTo, rowEntries, rowStart}
+use Rattle.stored_costs.specs.Laws.Entries.{entries-more, length-entries, length-row}
 
 module _ (d : ℕ → ℕ → ℕ) (n w position : ℕ) (l : List ℕ) where
   -- ## Within a row
@@ -35,10 +33,3 @@ module _ (d : ℕ → ℕ → ℕ) (n w position : ℕ) (l : List ℕ) where
       over-at-append l position w p (entriesTo d n i) (rowEntries d n i)
       (e ∙ ap (λ (x : ℕ). position + w * x) (sym (length-entries d n i))) (rw (length-row d n i) h)
       ∙ ap (λ (vs : List ℕ). overAt l position (formBits (fieldsOf w vs))) (sym (entries-more d n i))
-
--- where the next row begins, and that it ends before the end
-pub row-next : (n w i : ℕ) → w * rowStart n (i + 1) ≡ w * rowStart n i + w * (n - (i + 1))
-row-next n w i = ap (λ (x : ℕ). w * x) (row-more n i) ∙ mul-add w (rowStart n i) (n - (i + 1))
-
-pub row-within : (n w i : ℕ) → i < n → w * rowStart n i + w * (n - (i + 1)) ≤ w * entryCount n
-row-within n w i h = omega (arith, row-next n w i, mul-le-mul-left w (row-le n (i + 1) n (omega arith)))

@@ -1,13 +1,13 @@
--- `stored_costs::check_write` meets its contract: the first refusal is the answer; the bytes are counted once n is at most 64. Assumes nothing.
+-- `cost_writer::check_write` meets its contract: the first refusal is the answer; the bytes are counted once n is at most 64. Assumes nothing.
 use mathlib.Core.Path.{sym, _∙_}
 use native.Mathlib.Omega.{arith}
 use Rattle.ground.specs.Refusals.{then-goes, then-stops}
 use Rattle.tables.specs.Formed.{Sized, size-passed}
 use Rattle.stored_costs.specs.Sizes.{Small}
 use Rattle.stored_costs.specs.Laws.Sizes.{end-le}
 use borrow.Author.Needs.{needs}
-use Rattle.stored_costs.proofs.check_write.Statement.{statement}
-use Rattle.stored_costs.proofs.check_write.Tie as tie
+use Rattle.cost_writer.proofs.check_write.Statement.{statement}
+use Rattle.cost_writer.proofs.check_write.Tie as tie
 
 sized : (c : tie.After-enum-told) → Sized (c .before .before .before .before .args .n) (c .before .before .before .before .args .t .now)
 sized c = size-passed _ _ (sym (c .before .before .check-size .ensures) ∙ c .enum-told .given .1)
@@ -44,13 +44,13 @@ returns-2 c =
     let d = c .before .before .before in
     then-goes _ _ (d .enum-told .given .1) (d .before .before .check-size .ensures) (then-stops _ _ (c .enum-told4 .given .1) (c .before .before .check-costs .ensures))
 
-entries-end-requires : tie.Need-entries-end-requires
-entries-end-requires c κs = small c
+row-at-requires : tie.Need-row-at-requires
+row-at-requires c κs = (small c, omega arith)
 
 add-refuse-if : tie.Need-add-refuse-if
 add-refuse-if c =
     let a = c .before .before .before .before .before .before .before .before in
-    rw (c .entries-end .ensures) (omega (arith, end-le (a .args .head) (a .args .w) (a .args .n) (small (c .before))))
+    rw (c .row-at .ensures) (omega (arith, end-le (a .args .head) (a .args .w) (a .args .n) (small (c .before))))
 
 refuse-if-requires : tie.Need-refuse-if-requires
 refuse-if-requires c κs = search needs
@@ -60,7 +60,7 @@ returns-3 c =
     let e = c .before .before in
     let d = e .before .before .before in
     then-goes _ _ (d .enum-told .given .1) (d .before .before .check-size .ensures)
-    (then-goes _ _ (e .enum-told3 .given .1) (e .before .before .check-costs .ensures) (rw (c .before .entries-end .ensures) at (c .refuse-if .ensures)))
+    (then-goes _ _ (e .enum-told3 .given .1) (e .before .before .check-costs .ensures) (rw (c .before .row-at .ensures) at (c .refuse-if .ensures)))
 
 pub check-write-spec : {M : Type 1} → statement M
 check-write-spec =
@@ -74,7 +74,7 @@ check-write-spec =
     enum-told-3
     enum-told-4
     returns-2
-    entries-end-requires
+    row-at-requires
     add-refuse-if
     refuse-if-requires
     returns-3)

@@ -1,4 +1,4 @@
--- `stored_costs::put_row` meets its contract: each entry is put directly behind the one before. Assumes nothing.
+-- `cost_writer::put_row` meets its contract: each entry is put directly behind the one before. Assumes nothing.
 use mathlib.Core.List.{List}
 use mathlib.Core.Path.{ap, refl, _∙_, _≡_}
 use Prim.Native.Nat.{ℕ, _*_, _+_, _-_, _≤_}
@@ -11,10 +11,10 @@ use Rattle.bits.specs.Forms.{fieldsOf, formBits}
 use Rattle.bits.specs.Laws.Bytes.{length-bits}
 use Rattle.bits.specs.Laws.OneWidth.{field-end, over-at-listed, times-more}
 use Rattle.bits.specs.Listed.{listed}
-use Rattle.stored_costs.specs.Laws.Putting.{row-put-end, row-put-none}
+use Rattle.cost_writer.specs.Putting.{row-put-end, row-put-none}
 use borrow.Author.Needs.{needs}
-use Rattle.stored_costs.proofs.put_row.Statement.{statement}
-use Rattle.stored_costs.proofs.put_row.Tie as tie
+use Rattle.cost_writer.proofs.put_row.Statement.{statement}
+use Rattle.cost_writer.proofs.put_row.Tie as tie
 
 abbrev Inv-loop : tie.InvT-loop
 Inv-loop position w n t i out₀ count p₀ k₀ out p k =
