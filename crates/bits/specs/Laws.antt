@@ -8,3 +8,4 @@ pub mod Written
 pub mod Forms
 pub mod OneWidth
 pub mod Places
+pub mod Listed

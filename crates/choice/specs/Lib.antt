@@ -2,9 +2,7 @@
 pub mod Inclusion
 pub mod Call
 pub mod Read
-pub mod Chain
--- What the promises are worth.
-pub mod Accepted
-pub mod Refused
-pub mod Parts
+-- Examples that antt computes.
 pub mod Examples
+-- What the answer is worth, and how the code meets it.
+pub mod Laws

@@ -1,28 +1,16 @@
 -- What reading one stored link table gives the choice: the promise of the link reader, from the first byte on and with 128 places.
 -- Assumes nothing.
 use mathlib.Core.List.{List}
-use mathlib.Core.Path.{ap, sym, _∙_, _≡_}
+use mathlib.Core.Path.{_≡_}
 use Prim.Native.Nat.{ℕ, _^_, _≤_}
-use native.Mathlib.Omega.{arith}
 use lib.ListN.{length, take}
-use borrow.Author.Tests.{le-ltb}
 use Rattle.ground.specs.Ascending.{Between}
-use Rattle.ground.specs.declared.Check.{Check}
-use Rattle.ground.specs.declared.Check.the-variants.{Passed, Refused}
-use Rattle.ground.specs.declared.Refusal.{Refusal}
-use Rattle.ground.specs.Outcomes.{frontIf}
-use Rattle.theory.specs.Laws.Paths.{rowsOf-fars}
-use Rattle.theory.specs.Outcomes.{LeftRows, RowsOutcome}
-use Rattle.bits.specs.Listed.{length-listed}
+use Rattle.ground.specs.declared.Check.the-variants.{Passed}
 use Rattle.choice.specs.Call.{sidesOf}
-use Rattle.stored_links.specs.Laws.Outcomes.{front-taken, table-passed, table-refused}
-use Rattle.stored_links.specs.Laws.Passed.{Stored, head-passed, read-passed, room-goes}
-use Rattle.stored_links.specs.Laws.ReadAt.{read-enough}
-use Rattle.stored_links.specs.Outcomes.{readOutcome, rowsIf, saidIf}
-use Rattle.stored_links.specs.Reading.{tableAtChecks, tableChecks}
-use Rattle.stored_links.specs.Said.{costOf, costsOf, countOf, farOf, farsOf, imagesOf, usedOf}
+use Rattle.stored_links.specs.Outcomes.{saidIf}
+use Rattle.stored_links.specs.Reading.{tableChecks}
+use Rattle.stored_links.specs.Said.{countOf, imagesOf, usedOf}
 use Rattle.stored_links.specs.declared.StoredLinks.{StoredLinks}
-use Rattle.stored_links.specs.declared.StoredLinks.the-variants.{Table}
 use Rattle.stored_links.specs.declared.StoredLinks.the-variants as stored
 
 -- the call answered r and left f: the refusal, or the table that s begins with, whose far sides stand in front
@@ -41,53 +29,3 @@ pub record Listed (head w L : ℕ) (s : List ℕ) (n k used : ℕ) (f : List ℕ
   pub short : length (take k f) ≤ 128
   pub least : 3 ≤ n
   pub most : n ≤ 64
-
-module _ (head w L : ℕ) (s : List ℕ) where
-  -- the first byte is inside, and at the start of a byte
-  at-front : tableAtChecks head w L s 0 ≡ tableChecks head w L s
-  at-front = rw (le-ltb (length s) 0 (omega arith))
-
-  pub read-is : {r : StoredLinks} (f v f′ v′ : List ℕ) → length f ≡ 128 → length v ≡ 128 → LeftRows (readOutcome head w L s 0 f v) r f′ v′ → Read head w L s r f′
-  read-is {r} f v f′ v′ a b o =
-      let e : readOutcome head w L s 0 f v ≡ rowsIf (tableChecks head w L s) head w s f v =
-      read-enough head w L s 0 f v (omega arith) (omega arith) ∙ ap (λ (c : Check). rowsIf c head w s f v) at-front in
-      record {
-        answered = o .answered ∙ ap (λ (x : RowsOutcome StoredLinks). x .answer) e;
-        stands = λ p. front-taken (countOf head s) (sidesOf head w s) f f′ (length-listed (farOf head w (imagesOf head s) s) (countOf head s))
-            (o .far-sides ∙ ap (λ (x : RowsOutcome StoredLinks). x .far-list) e ∙ ap (λ (c : Check). frontIf c (sidesOf head w s) f) p);
-      }
-
-  -- ## What the caller learns
-
-  pub read-refused : {r : StoredLinks} {f : List ℕ} {q : Refusal} → Read head w L s r f → r ≡ stored.Refused q → tableChecks head w L s ≡ Refused q
-  read-refused {q = q} p e = table-refused (tableChecks head w L s) (imagesOf head s) (countOf head s) (usedOf head w s) q (sym (p .answered) ∙ e)
-
-  -- what passes is a stored link table
-  pub table-stored : tableChecks head w L s ≡ Passed → Stored head w L (imagesOf head s) (countOf head s) s
-  table-stored e = read-passed head w L s 125 (room-goes head w L s 125 (λ h. omega (arith, head-passed head s h .2)) ∙ e) .0
-
-  -- its far sides ascend
-  pub sides-ascend : tableChecks head w L s ≡ Passed → Between 1 (sidesOf head w s) (2 ^ imagesOf head s)
-  sides-ascend e =
-      let n = imagesOf head s in
-      let N = countOf head s in
-      let q = length-listed (farOf head w n s) N ∙ sym (length-listed (costOf head w n s) N) in
-      rw (rowsOf-fars (farsOf head w n N s) (costsOf head w n N s) q) at (table-stored e .rows .ascending)
-
-  pub read-listed : {r : StoredLinks} {f : List ℕ} {n k used : ℕ} → Read head w L s r f → r ≡ Table n k used → Listed head w L s n k used f
-  read-listed {f = f} {n = n} {k = k} {used = used} p e =
-      let q = table-passed (tableChecks head w L s) (imagesOf head s) (countOf head s) (usedOf head w s) n k used (sym (p .answered) ∙ e) in
-      let t = table-stored (q .0) in
-      let h : take k f ≡ sidesOf head w s = ap (λ i. take i f) (sym (q .2)) ∙ p .stands (q .0) in
-      let c : countOf head s ≤ 128 = omega (arith, t .most, t .few) in
-      record {
-        passed = q .0;
-        images = q .1;
-        ended = q .3;
-        front = h;
-        ascending = rw (h, ← (q .1)) (sides-ascend (q .0));
-        few = omega (arith, q .2, c);
-        short = rw h (omega (arith, c, length-listed (farOf head w (imagesOf head s) s) (countOf head s)));
-        least = omega (arith, q .1, t .some);
-        most = omega (arith, q .1, t .few);
-      }

@@ -8,8 +8,8 @@ use Rattle.ground.specs.declared.Check.the-variants.{Passed}
 use Rattle.ground.specs.declared.Written.the-variants.{Places}
 use Rattle.theory.specs.Tables.{CostTable, cost, limit}
 use Rattle.bits.specs.Bits.{AllBytes, part, valueOf}
-use Rattle.cost_writer.specs.Accepted.{passed-write}
-use Rattle.cost_writer.specs.Again.{read-again, wroteInto}
+use Rattle.cost_writer.specs.Laws.Accepted.{passed-write}
+use Rattle.cost_writer.specs.Laws.Again.{read-again, wroteInto}
 use Rattle.cost_writer.specs.Writing.{writeChecks, writeOutcome}
 use Rattle.stored_costs.specs.Form.{costBytes, costUsed, costsOf}
 use Rattle.stored_costs.specs.Laws.Form.{length-costs}

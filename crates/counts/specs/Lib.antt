@@ -2,6 +2,5 @@
 pub mod Differ
 pub mod Tally
 pub mod Merge
-pub mod Formula
-pub mod Distance
-pub mod InnerRows
+-- What is true of it.
+pub mod Laws

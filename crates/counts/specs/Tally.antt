@@ -1,15 +1,8 @@
 -- The count of inner far sides, one by one. Assumes nothing.
-use mathlib.Core.Bool.{Bool, false, true}
-use mathlib.Core.List.{List, [], _∷_}
-use mathlib.Core.Path.{ap, refl, _∙_, _≡_}
-use Prim.Native.Nat.{ℕ, _+_, _<_, _≤_}
-use native.Mathlib.Numerals.{add-one}
-use native.Mathlib.Omega.{arith}
-use lib.ListN.{getD, length, length-append, take}
-use lib.Seq.{take-all, take-suc}
-use borrow.Table.Steps.{cases}
+use mathlib.Core.List.{List}
+use Prim.Native.Nat.{ℕ}
+use lib.ListN.{length, take}
 use Rattle.ground.specs.Counts.{one-if}
-use Rattle.ground.specs.Filters.{filter-append}
 use Rattle.theory.specs.Comparison.{inners}
 use Rattle.theory.specs.FarSides.{inner}
 
@@ -17,31 +10,6 @@ use Rattle.theory.specs.FarSides.{inner}
 unfoldable pub oneInner : ℕ → ℕ → ℕ
 oneInner n S = one-if (inner n S)
 
-pub one-if-le : (b : Bool) → one-if b ≤ 1
-one-if-le true = omega arith
-one-if-le false = omega arith
-
-pub oneInner-le : (n S : ℕ) → oneInner n S ≤ 1
-unfolding oneInner
-oneInner-le n S = one-if-le (inner n S)
-
 -- how many of the first i of l are inner
 unfoldable pub tally : ℕ → List ℕ → ℕ → ℕ
 tally n l i = length (inners n (take i l))
-
--- ## The loop: before it, one far side more, after it
-
-pub tally-none : (n : ℕ) (l : List ℕ) → 0 ≡ tally n l 0
-unfolding tally
-tally-none n l = refl
-
-pub tally-more : (n : ℕ) (l : List ℕ) (i : ℕ) {c s : ℕ} → i < length l → c ≡ tally n l i → s ≡ oneInner n (getD l i 0) → c + s ≡ tally n l (i + 1)
-unfolding tally oneInner
-tally-more n l i h e f =
-    let x = getD l i 0 in
-    rw (add-one, take-suc l i 0 h, filter-append (inner n) (take i l) (x ∷ []), length-append (inners n (take i l)) (inners n (x ∷ [])), e, f)
-    (cases (inner n x) (λ t. rw t) (λ t. rw t))
-
-pub tally-end : (n : ℕ) (l : List ℕ) (i : ℕ) {c : ℕ} → length l ≤ i → c ≡ tally n l i → c ≡ length (inners n l)
-unfolding tally
-tally-end n l i h e = e ∙ ap (λ (t : List ℕ). length (inners n t)) (take-all i l h)

@@ -1,14 +1,8 @@
 -- A lent buffer: its front written over, and the rest as it was. Assumes nothing.
-use mathlib.Core.List.{List, [], append-nil, _++_, _∷_}
-use mathlib.Core.Path.{ap, refl, _∙_, _≡_}
-use Prim.Native.Nat.{suc, zero, ℕ, _+_, _-_, _<_, _≤_}
-use native.Mathlib.Numerals.{add-one}
-use native.Mathlib.Omega.{arith}
-use lib.Dec.{eqb}
-use lib.ListN.{drop, drop-of-length-le, getD, length, length-drop, length-set, set, take}
-use lib.Seq.{getD-set-other, getD-set-same, sets, sets-eq, take-all}
-use borrow.Author.Tests.{eqb-false, eqb-true}
-use borrow.Table.Steps.{cases}
+use mathlib.Core.List.{List, _++_}
+use mathlib.Core.Path.{_≡_}
+use Prim.Native.Nat.{ℕ, _<_, _≤_}
+use lib.ListN.{drop, getD, length, take}
 
 -- m written at the front of d
 abbrev pub front : List ℕ → List ℕ → List ℕ
@@ -18,61 +12,9 @@ front m d = m ++ drop (length m) d
 unfoldable pub over : ℕ → List ℕ → List ℕ → List ℕ
 over n s d = take n s ++ drop n d
 
--- ## The loop that writes place by place: before it, one place more, after it
-
-pub over-none : (s d : List ℕ) → d ≡ over 0 s d
-unfolding over
-over-none s d = refl
-
-over-suc : (n : ℕ) (s d : List ℕ) → n < length s → n < length d → set (take n s ++ drop n d) n (getD s n 0) ≡ take (suc n) s ++ drop (suc n) d
-over-suc n s [] l h = absurd (omega arith)
-over-suc n [] (x ∷ d) l h = absurd (omega arith)
-over-suc zero (y ∷ s) (x ∷ d) l h = refl
-over-suc (suc n) (y ∷ s) (x ∷ d) l h = ap (λ z. y ∷ z) (over-suc n s d (omega arith) (omega arith))
-
-pub over-more : (n : ℕ) (s d e : List ℕ) → n < length s → n < length d → e ≡ over n s d → set e n (getD s n 0) ≡ over (n + 1) s d
-unfolding over
-over-more n s d e l h q = rw (q, add-one) (over-suc n s d l h)
-
-pub over-end : (i n : ℕ) (s d e : List ℕ) → i ≤ n → n ≤ i → e ≡ over i s d → e ≡ over n s d
-over-end i n s d e l g q = let p : i ≡ n = omega arith in rw (← p) q
-
--- the front of s is m: then m stands at the front of d
-pub over-front : (n : ℕ) (s d m : List ℕ) → take n s ≡ m → length m ≡ n → over n s d ≡ front m d
-unfolding over
-over-front n s d m e f = rw (e, f)
-
-pub over-all : (m o : List ℕ) (n : ℕ) → length m ≡ n → over n m o ≡ front m o
-over-all m o n e = over-front n m o m (take-all n m (omega arith)) e
-
-pub sets-front : (m o : List ℕ) → length m ≤ length o → sets o 0 m ≡ front m o
-sets-front m o h = let e : 0 + length m ≡ length m = omega arith in let q = sets-eq m o 0 (omega arith) in rw e at q
-
--- ## The rest from `at` on, lent as `&mut b[at..]`: what is lent, and the whole once m stands there
-
-pub rest-part : (b : List ℕ) (at : ℕ) → take (length b - at) (drop at b) ≡ drop at b
-rest-part b at = take-all (length b - at) (drop at b) (omega (arith, length-drop at b))
-
-pub rest-put : (b m : List ℕ) (at : ℕ) → take at b ++ (m ++ drop (length b - at) (drop at b)) ≡ take at b ++ m
-rest-put b m at = rw (drop-of-length-le (drop at b) {i = length b - at} (omega (arith, length-drop at b)), append-nil m)
-
 -- ## A local array filled place by place
 
 -- the first n places of p hold f 0, f 1, ..
 pub record Filled (f : ℕ → ℕ) (n : ℕ) (p : List ℕ) : Type 0 where
   pub room : n ≤ length p
   pub holds : (i : ℕ) → i < n → getD p i 0 ≡ f i
-
-pub filled-none : (f : ℕ → ℕ) (p : List ℕ) → Filled f 0 p
-filled-none f p = record { room = omega arith; holds = λ i h. absurd (omega arith) }
-
-pub filled-more : (f : ℕ → ℕ) (n v : ℕ) (p : List ℕ) → n < length p → v ≡ f n → Filled f n p → Filled f (n + 1) (set p n v)
-filled-more f n v p h e q = record {
-  room = simp length-set (omega arith);
-  holds = λ i l. cases (eqb i n)
-      (λ t. let s = eqb-true i n t in rw s (getD-set-same p n v 0 h ∙ e))
-      (λ t. getD-set-other p n i v 0 (eqb-false i n t) ∙ q .holds i (omega (arith, eqb-false i n t)));
-}
-
-pub filled-end : (f : ℕ → ℕ) (i n : ℕ) (p : List ℕ) → i ≤ n → n ≤ i → Filled f i p → Filled f n p
-filled-end f i n p l g q = let e : i ≡ n = omega arith in rw (← e) q

@@ -1,11 +1,7 @@
--- The first place of a range at which a test holds, and the laws by which code and callers use it. Assumes nothing.
-use mathlib.Core.Bool.{Bool, cond, false, true}
-use mathlib.Core.Path.{ap, _≡_}
-use Prim.Native.Nat.{suc, zero, ℕ, _<_, _≤_}
-use native.Mathlib.Omega.{arith}
-use lib.Dec.{ltb}
-use borrow.Author.Tests.{ltb-false}
-use borrow.Table.Steps.{cases}
+-- The first place of a range at which a test holds. Assumes nothing.
+use mathlib.Core.Bool.{Bool, cond, false}
+use mathlib.Core.Path.{_≡_}
+use Prim.Native.Nat.{suc, zero, ℕ, _<_}
 
 -- the least k below n at which the test holds, else n
 unfoldable pub first : (ℕ → Bool) → ℕ → ℕ
@@ -15,50 +11,3 @@ first bad (suc n) = cond (bad zero) zero (suc (first (λ k. bad (suc k)) n))
 -- the test holds at no place below r
 abbrev pub NoneBelow : (ℕ → Bool) → ℕ → Type 0
 NoneBelow bad r = (k : ℕ) → k < r → bad k ≡ false
-
--- r is that number
-pub first-is : (bad : ℕ → Bool) (n r : ℕ) → r ≤ n → NoneBelow bad r → (r < n → bad r ≡ true) → r ≡ first bad n
-unfolding first
-first-is bad zero r le below here = omega arith
-first-is bad (suc n) zero le below here = rw (here (omega arith))
-first-is bad (suc n) (suc r) le below here =
-    rw (below zero (omega arith))
-    (ap suc (first-is (λ k. bad (suc k)) n r (omega arith) (λ k h. below (suc k) (omega arith)) (λ h. here (omega arith))))
-
--- ## The two ways out of a search
-
-pub first-here : (bad : ℕ → Bool) (n r : ℕ) → r < n → NoneBelow bad r → bad r ≡ true → r ≡ first bad n
-first-here bad n r l below here = first-is bad n r (omega arith) below (λ _. here)
-
-pub first-none : (bad : ℕ → Bool) (n r : ℕ) → r ≤ n → n ≤ r → NoneBelow bad r → r ≡ first bad n
-first-none bad n r l g below = first-is bad n r l below (λ h. absurd (omega arith))
-
--- ## What a caller learns
-
-pub first-le : (bad : ℕ → Bool) (n : ℕ) → first bad n ≤ n
-unfolding first
-first-le bad zero = omega arith
-first-le bad (suc n) =
-    let ih = first-le (λ k. bad (suc k)) n in cases (bad zero) (λ e. rw e (omega arith)) (λ e. rw e (omega arith))
-
-pub first-below : (bad : ℕ → Bool) (n : ℕ) → NoneBelow bad (first bad n)
-unfolding first
-first-below bad zero k l = absurd (omega arith)
-first-below bad (suc n) k l =
-    let ih = first-below (λ k. bad (suc k)) n in
-    cases (bad zero) (λ e. absurd (let z = rw e at l in omega arith)) (λ e. go k e (rw e at l) ih)
-  where
-    go : (k : ℕ) → bad zero ≡ false → k < suc (first (λ k. bad (suc k)) n) → NoneBelow (λ k. bad (suc k)) (first (λ k. bad (suc k)) n) → bad k ≡ false
-    go zero e l ih = e
-    go (suc k) e l ih = ih k (omega arith)
-
-pub first-at : (bad : ℕ → Bool) (n : ℕ) → first bad n < n → bad (first bad n) ≡ true
-unfolding first
-first-at bad zero l = absurd (omega arith)
-first-at bad (suc n) l =
-    let ih = first-at (λ k. bad (suc k)) n in
-    cases (bad zero) (λ e. rw e e) (λ e. let z = rw e at l in rw e (ih (omega arith)))
-
--- nothing was found
-pub first-all : (bad : ℕ → Bool) (n : ℕ) → ltb (first bad n) n ≡ false → NoneBelow bad n
-first-all bad n e k l = first-below bad n k (omega (arith, ltb-false (first bad n) n e))

@@ -2,13 +2,9 @@
 -- Tests and numbers.
 pub mod Tests
 pub mod Bits
-pub mod Ones
-pub mod Shifts
 pub mod Least
-pub mod Signed
 -- Lists.
 pub mod Filters
-pub mod Maps
 pub mod Ascending
 pub mod Ranges
 pub mod Sums
@@ -22,3 +18,5 @@ pub mod Buffers
 pub mod Refusals
 pub mod Lowest
 pub mod Outcomes
+-- What is true of it, with the proofs.
+pub mod Laws

@@ -1,45 +1,13 @@
 -- Ranges of numbers, and lists joined one after another. Assumes nothing.
-use mathlib.Core.List.{List, List·Memᴰ, List·Memᴰ·append-cases, List·Memᴰ·cases-cons, List·Memᴰ·head, List·Memᴰ·not-nil, List·Memᴰ·tail, Memᴰ·append-left, Memᴰ·append-right, [], _++_, _∷_}
-use mathlib.Core.Logic.{inl, inr, _⊎_}
-use mathlib.Core.Path.{refl, subst, _≡_}
-use Prim.Native.Nat.{suc, zero, ℕ, _+_, _<_, _≤_}
-use native.Mathlib.Omega.{arith}
-use lib.Dec.{eqb}
-use borrow.Author.Tests.{eqb-false, eqb-true}
-use borrow.Table.Steps.{cases}
-use Rattle.ground.specs.Filters.{Each}
+use mathlib.Core.List.{List, [], _++_, _∷_}
+use Prim.Native.Nat.{suc, zero, ℕ}
 
 -- i, i + 1, ..: m numbers
 abbrev pub from : ℕ → ℕ → List ℕ
 from i zero = []
 from i (suc m) = i ∷ from (suc i) m
 
-pub mem-from : (i m x : ℕ) → i ≤ x → x < i + m → List·Memᴰ x (from i m)
-mem-from i zero x h l = absurd (omega arith)
-mem-from i (suc m) x h l = cases (eqb x i) (λ e. List·Memᴰ·head (eqb-true x i e)) (λ e. List·Memᴰ·tail (mem-from (suc i) m x (omega (arith, eqb-false)) (omega arith)))
-
-pub from-mem : (i m : ℕ) → Each (from i m) (λ x. (i ≤ x) × (x < i + m))
-from-mem i zero x t = absurd (List·Memᴰ·not-nil t)
-from-mem i (suc m) x t = go (List·Memᴰ·cases-cons t) (from-mem (suc i) m x)
-  where
-    go : (x ≡ i) ⊎ List·Memᴰ x (from (suc i) m) → (List·Memᴰ x (from (suc i) m) → (suc i ≤ x) × (x < suc i + m)) → (i ≤ x) × (x < i + suc m)
-    go (inl e) ih = omega arith
-    go (inr s) ih = omega (arith, ih s)
-
 -- the lists f x, for each x of l, one after another
 abbrev pub gather : {A B : Type 0} → List A → (A → List B) → List B
 gather [] f = []
 gather (x ∷ l) f = f x ++ gather l f
-
-module _ {A B : Type 0} where
-  pub mem-gather : (f : A → List B) {x : A} {y : B} {l : List A} → List·Memᴰ x l → List·Memᴰ y (f x) → List·Memᴰ y (gather l f)
-  mem-gather f {x} {y} (List·Memᴰ·head {x = a} {xs = l} e) m = Memᴰ·append-left (gather l f) (subst (λ a. List·Memᴰ y (f a)) e m)
-  mem-gather f (List·Memᴰ·tail {x = a} t) m = Memᴰ·append-right (f a) (mem-gather f t m)
-
-  pub gather-mem : (f : A → List B) (l : List A) → Each (gather l f) (λ y. (x : A) × List·Memᴰ x l × List·Memᴰ y (f x))
-  gather-mem f [] y m = absurd (List·Memᴰ·not-nil m)
-  gather-mem f (a ∷ l) y m = go (List·Memᴰ·append-cases (f a) m) (gather-mem f l y)
-    where
-      go : List·Memᴰ y (f a) ⊎ List·Memᴰ y (gather l f) → (List·Memᴰ y (gather l f) → (x : A) × List·Memᴰ x l × List·Memᴰ y (f x)) → (x : A) × List·Memᴰ x (a ∷ l) × List·Memᴰ y (f x)
-      go (inl t) ih = (a, List·Memᴰ·head refl, t)
-      go (inr t) ih = let r = ih t in (r .0, List·Memᴰ·tail (r .1), r .2)

@@ -1,7 +1,7 @@
--- What the contracts of `index` cite, and the laws that its proofs use.
+-- What the contracts of `index` cite: the answer of the call, and the lists that its loops go over.
 pub mod Call
-pub mod Passed
 pub mod Sides
-pub mod Grown
 -- What the promise is worth.
 pub mod Promises
+-- How the code meets it.
+pub mod Laws

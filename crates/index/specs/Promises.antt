@@ -8,7 +8,7 @@ use lib.Dec.{ltb}
 use borrow.Author.Tests.{ltb-false, ltb-true}
 use borrow.Table.Steps.{cases}
 use Rattle.ground.specs.Bits.{bit}
-use Rattle.ground.specs.Refusals.{value-accepted}
+use Rattle.ground.specs.Laws.Refusals.{value-accepted}
 use Rattle.ground.specs.declared.Answer.{Answer}
 use Rattle.ground.specs.declared.Answer.the-variants.{Value}
 use Rattle.theory.specs.FarSides.{FarSide}
@@ -17,7 +17,7 @@ use Rattle.theory.specs.Laws.FarSides.{far-image}
 use Rattle.theory.specs.Laws.Index.{clipped-cap, clipped-low, low-clipped}
 use Rattle.theory.specs.Tables.{WellFormed, cost}
 use Rattle.index.specs.Call.{indexAnswer, indexCheck}
-use Rattle.index.specs.Passed.{Accepted, index-passed}
+use Rattle.index.specs.Laws.Passed.{Accepted, index-passed}
 
 -- v is the most that all choices of images on the two sides support, or 0 where they support nothing
 pub record IndexIs (d : ℕ → ℕ → ℕ) (n S v : ℕ) : Type 0 where

@@ -1,9 +1,6 @@
 -- The outcome of a call with its answer turned into numbers, and the lent slices as the call leaves them. Assumes nothing.
-use mathlib.Core.List.{List}
-use mathlib.Core.Path.{ap, _∙_, _≡_}
-use Prim.Native.Nat.{ℕ}
-use Rattle.ground.specs.Outcomes.{Left, Outcome}
-use Rattle.theory.specs.Outcomes.{LeftRows, RowsOutcome}
+use Rattle.ground.specs.Outcomes.{Outcome}
+use Rattle.theory.specs.Outcomes.{RowsOutcome}
 use Rattle.numbers.specs.declared.KemotuikiAnswer.{KemotuikiAnswer}
 
 -- the answer in numbers, and the lent places as they are left
@@ -13,13 +10,3 @@ crossed numbers o = record { answer = numbers (o .answer); places = o .places }
 -- the same of a call with two lent slices
 abbrev pub crossedRows : {A : Type 0} → (A → KemotuikiAnswer) → RowsOutcome A → RowsOutcome KemotuikiAnswer
 crossedRows numbers o = record { answer = numbers (o .answer); far-list = o .far-list; cost-list = o .cost-list }
-
--- ## From what the call promises to what crosses
-
-pub left-crossed : {A : Type 0} (numbers : A → KemotuikiAnswer) (o : Outcome A) {x : A} {r : KemotuikiAnswer} {e : List ℕ}
-    → Left o x e → r ≡ numbers x → Left (crossed numbers o) r e
-left-crossed numbers o p q = record { answered = q ∙ ap numbers (p .answered); left = p .left }
-
-pub left-rows : {A : Type 0} (numbers : A → KemotuikiAnswer) (o : RowsOutcome A) {x : A} {r : KemotuikiAnswer} {f v : List ℕ}
-    → LeftRows o x f v → r ≡ numbers x → LeftRows (crossedRows numbers o) r f v
-left-rows numbers o p q = record { answered = q ∙ ap numbers (p .answered); far-sides = p .far-sides; doubled = p .doubled }

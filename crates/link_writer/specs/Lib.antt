@@ -1,5 +1,6 @@
--- What the writer of link tables answers, and what is true of it.
+-- What the writer of link tables answers.
 pub mod Writing
-pub mod Accepted
-pub mod Again
+-- What the promise is worth: reading undoes writing.
 pub mod RoundTrips
+-- What is true of it.
+pub mod Laws

@@ -1,9 +1,6 @@
--- What the contracts of `links` cite, and the laws about it.
+-- What the contracts of `links` cite: the checks of a link table, in their order.
 pub mod FirstChecks
 pub mod BadRows
 pub mod Checks
--- The laws.
-pub mod RowTests
-pub mod LinkChecks
-pub mod Searches
-pub mod Shifts
+-- What is true of them.
+pub mod Laws

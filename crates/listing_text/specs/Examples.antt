@@ -1,7 +1,6 @@
 -- Settled examples of the listing, computed. Assumes nothing.
-use mathlib.Core.List.{List, [], _++_, _∷_}
+use mathlib.Core.List.{[], _++_, _∷_}
 use mathlib.Core.Path.{refl, _≡_}
-use Prim.Native.Nat.{ℕ}
 use Rattle.ground.specs.Refusals.{refusal}
 use Rattle.listing_text.specs.Decimal.{decimal, digits}
 use Rattle.listing_text.specs.Lines.{field, fields, header, imagesWord, orderLine, orderWord, refusedLine, refusedWord, rowLine, rowLines, rowsWord}

@@ -2,12 +2,10 @@
 pub mod Decimal
 pub mod Lines
 pub mod Listing
--- What is true of it.
-pub mod Numbers
+-- How it is written, piece by piece.
 pub mod Putting
-pub mod Pieces
-pub mod Lengths
-pub mod Accepted
-pub mod Stored
+-- What the promise is worth, and examples that antt computes.
 pub mod Promises
 pub mod Examples
+-- What is true of it.
+pub mod Laws

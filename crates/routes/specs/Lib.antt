@@ -1,12 +1,8 @@
--- What the contracts of `routes` cite, and the laws about it.
+-- What the contracts of `routes` cite: the checks in their order, what the calls leave, and the climb.
 pub mod Orders
 pub mod Outcomes
--- The laws.
-pub mod PathSums
-pub mod UpperRows
 pub mod Climbs
-pub mod Accepted
-pub mod Containing
-pub mod Holding
--- What is promised.
+-- What the promises are worth.
 pub mod Promises
+-- What is true of it.
+pub mod Laws

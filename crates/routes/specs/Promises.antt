@@ -20,13 +20,13 @@ use Rattle.theory.specs.FourPoint.{FourPoint}
 use Rattle.theory.specs.Laws.Paths.{path-four-point, path-none-above, path-same, path-self}
 use Rattle.theory.specs.LinkTables.{Row, path, rowsOf}
 use Rattle.theory.specs.Routes.{contains, route, uppers}
-use Rattle.links.specs.LinkChecks.{Links}
-use Rattle.routes.specs.Accepted.{PathTaken, RouteTaken, UppersTaken, passed-path, passed-route, passed-upper, path-passed, route-passed, upper-passed}
-use Rattle.routes.specs.Containing.{last-row, upper-none, upper-smallest, upper-there}
-use Rattle.routes.specs.Holding.{heldBy, route-ascends, route-ends, route-first, route-held, route-starts}
+use Rattle.links.specs.Laws.LinkChecks.{Links}
+use Rattle.routes.specs.Laws.Accepted.{PathTaken, RouteTaken, UppersTaken, passed-path, passed-route, passed-upper, path-passed, route-passed, upper-passed}
+use Rattle.routes.specs.Laws.Containing.{last-row, upper-none, upper-smallest, upper-there}
+use Rattle.routes.specs.Laws.Holding.{heldBy, route-ascends, route-ends, route-first, route-held, route-starts}
 use Rattle.routes.specs.Orders.{pathChecks, routeChecks, upperChecks}
 use Rattle.routes.specs.Outcomes.{pathOutcome, routeOutcome, upperOutcome}
-use Rattle.routes.specs.UpperRows.{upper-contains, upper-later, upper-most, uppers-length}
+use Rattle.routes.specs.Laws.UpperRows.{upper-contains, upper-later, upper-most, uppers-length}
 
 -- ## Which calls are accepted: exactly those with a link table, room and images in range
 

@@ -5,7 +5,8 @@ use mathlib.Core.Path.{refl, sym, _≡_}
 use Prim.Native.Nat.{suc, ℕ}
 use native.Mathlib.Omega.{arith}
 use lib.Count.{ones, onesIn}
-use Rattle.ground.specs.Filters.{Each, each-cons, each-nil}
+use Rattle.ground.specs.Filters.{Each}
+use Rattle.ground.specs.Laws.Filters.{each-cons, each-nil}
 use Rattle.ground.specs.Least.{leastOn}
 use Rattle.ground.specs.Lowest.{checkAll}
 use Rattle.ground.specs.Refusals.{refusal, _then_}
@@ -20,7 +21,7 @@ use Rattle.theory.specs.Order.{closed, grow, next}
 use Rattle.theory.specs.Readings.{Exact}
 use Rattle.theory.specs.Tables.{CostTable, limit}
 use Rattle.tables.specs.Checks.{costsCheck, sizeCheck}
-use Rattle.tables.specs.Formed.{cost-table}
+use Rattle.tables.specs.Laws.Formed.{cost-table}
 use Rattle.settled.specs.Examples.{exampleA, exampleB, exampleC, exampleD, exampleE, exampleEG, exampleF, exampleG, exampleH, orderH, settled}
 use Rattle.settled.specs.Settled.{Holds, Settled, compared, ordered, reads, refused, around, innerSides, rowsRead}
 use Rattle.settled.specs.Triangles.{square, table}

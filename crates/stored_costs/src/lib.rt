@@ -10,7 +10,7 @@ ghost use Rattle.ground.specs.Lowest.{checkAll};
 ghost use Rattle.ground.specs.Outcomes.{Left};
 ghost use Rattle.theory.specs.Tables.{cost, limit};
 ghost use Rattle.tables.specs.Checks.{entryCheck};
-ghost use Rattle.bits.specs.Bits.{bits, overAt, part, valueOf};
+ghost use Rattle.bits.specs.Bits.{FieldWithin, bits, overAt, part, valueOf};
 ghost use Rattle.bits.specs.Forms.{bytesFor, fieldValue};
 ghost use Rattle.bits.specs.Listed.{listed};
 ghost use Rattle.stored_costs.specs.Entries.{Above, costOf};
@@ -43,7 +43,7 @@ fn images(head: usize, bytes: &[u8]) -> usize
 
 // The entry of w bits at the position.
 fn entry_at(bytes: &[u8], position: usize, w: usize) -> u32
-    requires { ⌜ (w ≤ 32) × (position + w ≤ 8 * length (now bytes)) × (position ≤ 131086) ⌝ }
+    requires { ⌜ (w ≤ 32) × FieldWithin (length (now bytes)) position w ⌝ }
     ensures { λ r. ⌜ r ≡ valueOf (part (bits (now (bytes .entry))) position w) ⌝ }
 {
     bits::get(bytes, position, w) as u32

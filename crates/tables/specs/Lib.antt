@@ -1,3 +1,5 @@
--- What the contracts of `tables` cite: the checks, and that they pass exactly for cost tables.
+-- What the contracts of `tables` cite: the checks, and a table of the right size.
 pub mod Checks
 pub mod Formed
+-- The checks pass exactly for cost tables.
+pub mod Laws

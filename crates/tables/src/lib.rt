@@ -2,7 +2,6 @@
 use ground::Check;
 ghost use mathlib.Core.Path.{_≡_};
 ghost use Prim.Native.Nat.{_+_, _-_, _<_, _≤_, _*_};
-ghost use lib.ListN.{length};
 ghost use Rattle.ground.specs.Lowest.{checkAll};
 ghost use Rattle.theory.specs.Tables.{limit, cost, CostTable};
 ghost use Rattle.tables.specs.Checks.{sizeCheck, entryCheck, entriesCheck, zeroCheck, diagonalCheck, mirrorCheck, symmetryCheck, costsCheck};

@@ -37,3 +37,6 @@ pub mod Runs
 pub mod Contained
 pub mod Routes
 pub mod Comparison
+-- Checks and outcomes that several calls share.
+pub mod Checks
+pub mod Outcomes

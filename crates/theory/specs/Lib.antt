@@ -11,6 +11,6 @@ pub mod Order
 pub mod Comparison
 -- What a call leaves in the two lent slices of a link table.
 pub mod Outcomes
--- What is true of them: the proofs, and on one page the theorems that answer the demands.
+-- What is true of them: the laws with their proofs, and on one page the theorems that answer the demands.
 pub mod Laws
 pub mod Demands

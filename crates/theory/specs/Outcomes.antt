@@ -1,6 +1,6 @@
 -- An answer, and the two lent slices of far sides and costs as a call leaves them. Assumes nothing.
 use mathlib.Core.List.{List}
-use mathlib.Core.Path.{sym, _∙_, _≡_}
+use mathlib.Core.Path.{_≡_}
 use Prim.Native.Nat.{ℕ}
 
 pub record RowsOutcome (A : Type 0) : Type 0 where
@@ -13,7 +13,3 @@ pub record LeftRows {A : Type 0} (o : RowsOutcome A) (r : A) (f v : List ℕ) : 
   pub answered : r ≡ o .answer
   pub far-sides : f ≡ o .far-list
   pub doubled : v ≡ o .cost-list
-
--- no second answer, and no second content of the two slices, meets a promise
-pub left-rows-once : {A : Type 0} {o : RowsOutcome A} {a b : A} {f g v w : List ℕ} → LeftRows o a f v → LeftRows o b g w → (a ≡ b) × (f ≡ g) × (v ≡ w)
-left-rows-once p q = (p .answered ∙ sym (q .answered), p .far-sides ∙ sym (q .far-sides), p .doubled ∙ sym (q .doubled))

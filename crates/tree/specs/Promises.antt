@@ -7,7 +7,7 @@ use native.Mathlib.Omega.{arith}
 use lib.ListN.{drop, length, length-map, take}
 use lib.Seq.{drop-at, take-at}
 use Rattle.ground.specs.Buffers.{front}
-use Rattle.ground.specs.Refusals.{then-passed}
+use Rattle.ground.specs.Laws.Refusals.{then-passed}
 use Rattle.ground.specs.declared.Check.{Check}
 use Rattle.ground.specs.declared.Check.the-variants.{Passed, Refused}
 use Rattle.ground.specs.declared.Refusal.{Refusal}
@@ -22,7 +22,8 @@ use Rattle.theory.specs.Outcomes.{LeftRows}
 use Rattle.theory.specs.Readings.{Exact, Near, measured}
 use Rattle.theory.specs.Tables.{cost}
 use Rattle.tree.specs.Readings.{exactCheck, exactOutcome, measuredCheck, measuredOutcome, outcome}
-use Rattle.tree.specs.Writing.{Ready, Wrote, measured-passed}
+use Rattle.tree.specs.Writing.{Ready, Wrote}
+use Rattle.tree.specs.Laws.Writing.{measured-passed}
 use Rattle.wiring.specs.Check.{wiringCheck}
 use Rattle.wiring.specs.Promises.{FirstFailing, wiring-passed, wiring-refused}
 

@@ -1,6 +1,8 @@
--- What the contracts of `wiring` cite: refusal 7, one test of it, and that the scan finds the first of all.
+-- What the contracts of `wiring` cite: refusal 7, one test of it, and the scan.
 pub mod Check
 pub mod Once
 pub mod Scan
 -- What refusal 7 is worth.
 pub mod Promises
+-- What is true of it.
+pub mod Laws

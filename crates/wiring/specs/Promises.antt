@@ -5,15 +5,18 @@ use mathlib.Core.Logic.{inl, inr, _↔_, _⊎_}
 use mathlib.Core.Path.{ap, ap₂, refl, sym, _∙_, _≡_}
 use Prim.Native.Nat.{ℕ, _+_, _-_, _<_, _≤_}
 use native.Mathlib.Omega.{arith}
-use Rattle.ground.specs.Lowest.{LowestRefused, all-passed, all-refused}
-use Rattle.ground.specs.Refusals.{refusal, refuseIf, refuseIf-passed}
+use Rattle.ground.specs.Lowest.{LowestRefused}
+use Rattle.ground.specs.Laws.Lowest.{all-passed, all-refused}
+use Rattle.ground.specs.Refusals.{refusal, refuseIf}
+use Rattle.ground.specs.Laws.Refusals.{refuseIf-passed}
 use Rattle.ground.specs.declared.Check.the-variants.{Passed, Refused}
 use Rattle.ground.specs.declared.Refusal.{Refusal}
 use Rattle.theory.specs.FourPoint.{FourPoint, failing, fails, four}
 use Rattle.theory.specs.Laws.Sorted.{none-failing}
 use Rattle.theory.specs.Tables.{WellFormed}
 use Rattle.wiring.specs.Check.{firstFour, wiringCheck}
-use Rattle.wiring.specs.Scan.{first-passed, fourCheck, lastScan, secondScan, thirdScan, wiring-scan}
+use Rattle.wiring.specs.Scan.{fourCheck, lastScan, secondScan, thirdScan}
+use Rattle.wiring.specs.Laws.Scan.{first-passed, wiring-scan}
 
 -- passed exactly when the condition holds
 pub wiring-passed : (L : ℕ) (d : ℕ → ℕ → ℕ) (n : ℕ) → WellFormed L d n → (wiringCheck d n ≡ Passed) ↔ FourPoint d n

@@ -4,7 +4,7 @@ use mathlib.Core.Path.{sym, _∙_}
 use lib.Dec.{eqb}
 use lib.ListN.{length}
 use borrow.Author.Tests.{eqb-true, not-false}
-use Rattle.ground.specs.Refusals.{refuseIf-passed}
+use Rattle.ground.specs.Laws.Refusals.{refuseIf-passed}
 use Rattle.batch.specs.Laws.Answers.{numbered-goes, numbered-stops}
 use borrow.Author.Needs.{needs}
 use Rattle.batch.proofs.check_batch.Statement.{statement}

@@ -1,7 +1,7 @@
 -- `batch::check_end` meets its contract: nothing may be left over. Assumes nothing.
 use mathlib.Core.Path.{refl, _≡_}
 use lib.ListN.{drop}
-use Rattle.ground.specs.Buffers.{rest-part}
+use Rattle.ground.specs.Laws.Buffers.{rest-part}
 use Rattle.batch.specs.Laws.Answers.{numbered-goes, numbered-stops}
 use Rattle.batch.specs.Tables.{leftOverChecks}
 use borrow.Author.Needs.{needs}

@@ -1,5 +1,5 @@
 -- `batch::check_from` meets its contract: the parts from the place on are handed on. Assumes nothing.
-use Rattle.ground.specs.Buffers.{rest-part}
+use Rattle.ground.specs.Laws.Buffers.{rest-part}
 use borrow.Author.Needs.{needs}
 use Rattle.batch.proofs.check_from.Statement.{statement}
 use Rattle.batch.proofs.check_from.Tie as tie

@@ -2,8 +2,8 @@
 use mathlib.Core.Path.{sym, _∙_}
 use native.Mathlib.Omega.{arith}
 use lib.ListN.{take}
-use Rattle.ground.specs.Refusals.{then-goes, then-stops}
-use Rattle.links.specs.LinkChecks.{Sized}
+use Rattle.ground.specs.Laws.Refusals.{then-goes, then-stops}
+use Rattle.links.specs.Laws.LinkChecks.{Sized}
 use Rattle.batch.specs.Laws.Next.{next-sized}
 use borrow.Author.Needs.{needs}
 use Rattle.batch.proofs.check_next.Statement.{statement}

@@ -1,5 +1,5 @@
 -- `batch::check_run_out` meets its contract: the first refusal is the answer. Assumes nothing.
-use Rattle.ground.specs.Refusals.{then-goes, then-stops}
+use Rattle.ground.specs.Laws.Refusals.{then-goes, then-stops}
 use borrow.Author.Needs.{needs}
 use Rattle.batch.proofs.check_run_out.Statement.{statement}
 use Rattle.batch.proofs.check_run_out.Tie as tie

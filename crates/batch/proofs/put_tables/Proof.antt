@@ -3,7 +3,8 @@ use mathlib.Core.Path.{refl, sym, _≡_}
 use Prim.Native.Nat.{ℕ, _+_, _-_, _≤_}
 use native.Mathlib.Omega.{arith}
 use lib.ListN.{drop, length, length-drop}
-use Rattle.ground.specs.Buffers.{front, rest-part}
+use Rattle.ground.specs.Buffers.{front}
+use Rattle.ground.specs.Laws.Buffers.{rest-part}
 use Rattle.theory.specs.Tables.{limit}
 use Rattle.stored_links.specs.Form.{linkUsed}
 use Rattle.batch.specs.Batch.{batchBytes}

@@ -10,8 +10,10 @@ use lib.Dec.{eqb}
 use lib.ListN.{drop, length, length-append, take}
 use borrow.Author.Tests.{eq-eqb, eqb-true, not-false}
 use Rattle.ground.specs.Buffers.{front}
-use Rattle.ground.specs.Outcomes.{Left, left-once}
-use Rattle.ground.specs.Refusals.{refusal, refuseIf, refuseIf-passed}
+use Rattle.ground.specs.Outcomes.{Left}
+use Rattle.ground.specs.Laws.Outcomes.{left-once}
+use Rattle.ground.specs.Refusals.{refusal, refuseIf}
+use Rattle.ground.specs.Laws.Refusals.{refuseIf-passed}
 use Rattle.ground.specs.declared.Check.{Check}
 use Rattle.ground.specs.declared.Check.the-variants.{Passed, Refused}
 use Rattle.ground.specs.declared.Refusal.{Refusal}

@@ -5,7 +5,8 @@ use Prim.Native.Nat.{ℕ, _+_, _-_, _<_, _≤_}
 use native.Mathlib.Omega.{arith}
 use lib.ListN.{drop, getD, length, length-append, take, take-append-drop}
 use lib.Seq.{drop-at, drop-drop, length-take-le, take-at}
-use Rattle.ground.specs.Buffers.{front, rest-part, rest-put}
+use Rattle.ground.specs.Buffers.{front}
+use Rattle.ground.specs.Laws.Buffers.{rest-part, rest-put}
 use Rattle.stored_links.specs.Form.{linkBytes, linkUsed}
 use Rattle.batch.specs.Batch.{batchBytes}
 use Rattle.batch.specs.Fitting.{Next}

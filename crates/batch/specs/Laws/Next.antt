@@ -7,13 +7,14 @@ use lib.Dec.{ltb}
 use lib.ListN.{length, length-take, take}
 use lib.Seq.{length-take-le}
 use borrow.Author.Tests.{le-ltb, ltb-false}
-use Rattle.ground.specs.Refusals.{refusal, refuseIf, refuseIf-passed, then-passed, _then_}
+use Rattle.ground.specs.Refusals.{refusal, refuseIf, _then_}
+use Rattle.ground.specs.Laws.Refusals.{refuseIf-passed, then-passed}
 use Rattle.ground.specs.declared.Check.the-variants.{Passed}
 use Rattle.links.specs.Checks.{countChecks, lengthChecks, sizeChecks}
-use Rattle.links.specs.LinkChecks.{Sized, count-passed, passed-sizes}
+use Rattle.links.specs.Laws.LinkChecks.{Sized, count-passed, passed-sizes}
 use Rattle.stored_links.specs.Form.{linkBytes, linkUsed}
 use Rattle.stored_links.specs.Laws.Form.{length-links}
-use Rattle.link_writer.specs.Accepted.{passed-write, write-passed}
+use Rattle.link_writer.specs.Laws.Accepted.{passed-write, write-passed}
 use Rattle.link_writer.specs.Writing.{RoomFor, fitChecks}
 use Rattle.batch.specs.Fitting.{Next}
 use Rattle.batch.specs.Tables.{leftOverChecks, nextChecks, runOutChecks}

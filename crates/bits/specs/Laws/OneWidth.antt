@@ -11,7 +11,8 @@ use Rattle.bits.specs.Forms.{fieldValue, fieldsOf, formBits}
 use Rattle.bits.specs.Laws.Numbers.{all-bits-part, bits-value, length-bitsOf, value-bits}
 use Rattle.bits.specs.Laws.Parts.{length-part, over-at-none, over-at-twice, part-cut, part-more}
 use Rattle.bits.specs.Laws.Turns.{value-part-lt}
-use Rattle.bits.specs.Listed.{length-listed, listed, listed-more}
+use Rattle.bits.specs.Listed.{listed}
+use Rattle.bits.specs.Laws.Listed.{length-listed, listed-more}
 
 pub length-fields : (w : ℕ) (vs : List ℕ) → length (formBits (fieldsOf w vs)) ≡ w * length vs
 unfolding formBits

@@ -10,7 +10,8 @@ use lib.Seq.{getD-take, length-take-le, set-split}
 use Rattle.ground.specs.Buffers.{front}
 use Rattle.bits.specs.Bits.{overAt}
 use Rattle.bits.specs.Laws.Parts.{over-at-none, over-at-twice}
-use Rattle.bits.specs.Listed.{length-listed, listed, listed-add, listed-at, listed-more}
+use Rattle.bits.specs.Listed.{listed}
+use Rattle.bits.specs.Laws.Listed.{length-listed, listed-add, listed-at, listed-more}
 
 -- one store writes one place over
 pub set-over : (l : List ℕ) (p v : ℕ) → p < length l → set l p v ≡ overAt l p (v ∷ [])

@@ -1,18 +1,18 @@
 -- `choice::against_second` meets its contract: the refusal with number 2, then 15, then one of the two tables. Assumes nothing.
 use mathlib.Core.List.{List}
 use mathlib.Core.Path.{ap, ap₂, sym, _∙_, _≡_}
-use Prim.Native.Nat.{ℕ, _^_}
+use Prim.Native.Nat.{ℕ}
 use native.Mathlib.Omega.{arith}
 use lib.Seq.{length-take-le}
 use borrow.Author.Needs.{needs}
-use Rattle.ground.specs.Ascending.{Between}
 use Rattle.ground.specs.declared.Refusal.{Refusal}
 use Rattle.theory.specs.Comparison.{inners}
 use Rattle.theory.specs.Tables.{limit}
 use Rattle.stored_links.specs.Said.{imagesOf}
 use Rattle.choice.specs.Call.{sidesOf, taken}
-use Rattle.choice.specs.Chain.{images-differ, images-same, numbered-goes, numbered-stops}
-use Rattle.choice.specs.Read.{Listed, read-listed, read-refused}
+use Rattle.choice.specs.Laws.Chain.{images-differ, images-same, numbered-goes, numbered-stops}
+use Rattle.choice.specs.Read.{Listed}
+use Rattle.choice.specs.Laws.Read.{read-listed, read-refused}
 use Rattle.choice.specs.declared.Chosen.the-variants as answer
 use Rattle.choice.proofs.against_second.Statement.{statement}
 use Rattle.choice.proofs.against_second.Tie as tie

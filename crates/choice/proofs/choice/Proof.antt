@@ -7,8 +7,9 @@ use lib.Seq.{length-take-le}
 use borrow.Author.Needs.{needs}
 use Rattle.theory.specs.Tables.{limit}
 use Rattle.choice.specs.Call.{againstSecond, sidesOf}
-use Rattle.choice.specs.Chain.{numbered-goes, numbered-stops}
-use Rattle.choice.specs.Read.{Listed, read-listed, read-refused}
+use Rattle.choice.specs.Laws.Chain.{numbered-goes, numbered-stops}
+use Rattle.choice.specs.Read.{Listed}
+use Rattle.choice.specs.Laws.Read.{read-listed, read-refused}
 use Rattle.choice.proofs.choice.Statement.{statement}
 use Rattle.choice.proofs.choice.Tie as tie
 

@@ -5,7 +5,7 @@ use lib.Seq.{length-take-le}
 use borrow.Author.Needs.{needs}
 use Rattle.theory.specs.Tables.{limit}
 use Rattle.choice.specs.Call.{choiceOf}
-use Rattle.choice.specs.Parts.{first-fits, part-first, part-refused, part-second, second-fits}
+use Rattle.choice.specs.Laws.Parts.{first-fits, part-first, part-refused, part-second, second-fits}
 use Rattle.choice.specs.declared.Chosen.the-variants.{Table}
 use Rattle.choice.proofs.choose.Statement.{statement}
 use Rattle.choice.proofs.choose.Tie as tie

@@ -3,7 +3,7 @@ use mathlib.Core.Path.{refl}
 use lib.ListN.{replicate}
 use borrow.Author.Needs.{needs}
 use Rattle.theory.specs.Tables.{limit}
-use Rattle.choice.specs.Read.{read-is}
+use Rattle.choice.specs.Laws.Read.{read-is}
 use Rattle.choice.proofs.read.Statement.{statement}
 use Rattle.choice.proofs.read.Tie as tie
 

@@ -3,7 +3,7 @@ use mathlib.Core.Path.{ap, _∙_}
 use Prim.Native.Nat.{_^_}
 use borrow.Author.Needs.{needs}
 use Rattle.ground.specs.declared.Refusal.{Refusal}
-use Rattle.choice.specs.Chain.{takes-first, takes-none, takes-second}
+use Rattle.choice.specs.Laws.Chain.{takes-first, takes-none, takes-second}
 use Rattle.choice.specs.declared.Chosen.the-variants as answer
 use Rattle.choice.proofs.take_one.Statement.{statement}
 use Rattle.choice.proofs.take_one.Tie as tie

@@ -7,8 +7,9 @@ use lib.Seq.{length-take-le}
 use borrow.Author.Needs.{needs}
 use Rattle.theory.specs.Tables.{limit}
 use Rattle.counts.specs.Differ.{differ}
-use Rattle.compare.specs.Chain.{numbered-goes, numbered-stops}
-use Rattle.compare.specs.Read.{Listed, read-listed, read-refused}
+use Rattle.compare.specs.Laws.Chain.{numbered-goes, numbered-stops}
+use Rattle.compare.specs.Read.{Listed}
+use Rattle.compare.specs.Laws.Read.{read-listed, read-refused}
 use Rattle.compare.specs.declared.Comparison.the-variants.{Compared}
 use Rattle.compare.proofs.against_second.Statement.{statement}
 use Rattle.compare.proofs.against_second.Tie as tie

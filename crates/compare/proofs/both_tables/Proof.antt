@@ -7,8 +7,9 @@ use lib.Seq.{length-take-le}
 use borrow.Author.Needs.{needs}
 use Rattle.theory.specs.Tables.{limit}
 use Rattle.compare.specs.Call.{againstSecond}
-use Rattle.compare.specs.Chain.{numbered-goes, numbered-stops}
-use Rattle.compare.specs.Read.{Listed, read-listed, read-refused}
+use Rattle.compare.specs.Laws.Chain.{numbered-goes, numbered-stops}
+use Rattle.compare.specs.Read.{Listed}
+use Rattle.compare.specs.Laws.Read.{read-listed, read-refused}
 use Rattle.compare.proofs.both_tables.Statement.{statement}
 use Rattle.compare.proofs.both_tables.Tie as tie
 

@@ -1,8 +1,8 @@
 -- `compare::compare` meets its contract: refusal 1 with number 0 before both tables. Assumes nothing.
 use mathlib.Core.Path.{sym, _∙_}
 use borrow.Author.Needs.{needs}
-use Rattle.theory.specs.Checks.{images-passed}
-use Rattle.compare.specs.Chain.{numbered-goes, numbered-stops}
+use Rattle.theory.specs.Laws.Checks.{images-passed}
+use Rattle.compare.specs.Laws.Chain.{numbered-goes, numbered-stops}
 use Rattle.compare.proofs.compare.Statement.{statement}
 use Rattle.compare.proofs.compare.Tie as tie
 

@@ -3,7 +3,7 @@ use mathlib.Core.Path.{refl}
 use lib.ListN.{replicate}
 use borrow.Author.Needs.{needs}
 use Rattle.theory.specs.Tables.{limit}
-use Rattle.compare.specs.Read.{read-is}
+use Rattle.compare.specs.Laws.Read.{read-is}
 use Rattle.compare.proofs.read.Statement.{statement}
 use Rattle.compare.proofs.read.Tie as tie
 

@@ -1,8 +1,9 @@
 -- `cost_writer::check_write` meets its contract: the first refusal is the answer; the bytes are counted once n is at most 64. Assumes nothing.
 use mathlib.Core.Path.{sym, _∙_}
 use native.Mathlib.Omega.{arith}
-use Rattle.ground.specs.Refusals.{then-goes, then-stops}
-use Rattle.tables.specs.Formed.{Sized, size-passed}
+use Rattle.ground.specs.Laws.Refusals.{then-goes, then-stops}
+use Rattle.tables.specs.Formed.{Sized}
+use Rattle.tables.specs.Laws.Formed.{size-passed}
 use Rattle.stored_costs.specs.Sizes.{Small}
 use Rattle.stored_costs.specs.Laws.Sizes.{end-le}
 use borrow.Author.Needs.{needs}

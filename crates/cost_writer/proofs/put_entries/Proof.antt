@@ -11,7 +11,7 @@ use Rattle.bits.specs.Forms.{fieldsOf, formBits}
 use Rattle.bits.specs.Laws.Bytes.{length-bits}
 use Rattle.stored_costs.specs.Entries.{entriesTo, entryCount, rowEntries, rowStart}
 use Rattle.stored_costs.specs.Laws.Entries.{row-next, row-none, row-within}
-use Rattle.cost_writer.specs.Putting.{rows-put-more, rows-put-none}
+use Rattle.cost_writer.specs.Laws.Putting.{rows-put-more, rows-put-none}
 use borrow.Author.Needs.{needs}
 use Rattle.cost_writer.proofs.put_entries.Statement.{statement}
 use Rattle.cost_writer.proofs.put_entries.Tie as tie

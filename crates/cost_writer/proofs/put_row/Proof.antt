@@ -11,7 +11,7 @@ use Rattle.bits.specs.Forms.{fieldsOf, formBits}
 use Rattle.bits.specs.Laws.Bytes.{length-bits}
 use Rattle.bits.specs.Laws.OneWidth.{field-end, over-at-listed, times-more}
 use Rattle.bits.specs.Listed.{listed}
-use Rattle.cost_writer.specs.Putting.{row-put-end, row-put-none}
+use Rattle.cost_writer.specs.Laws.Putting.{row-put-end, row-put-none}
 use borrow.Author.Needs.{needs}
 use Rattle.cost_writer.proofs.put_row.Statement.{statement}
 use Rattle.cost_writer.proofs.put_row.Tie as tie

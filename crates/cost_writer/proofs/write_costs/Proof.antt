@@ -6,9 +6,9 @@ use lib.ListN.{length}
 use Rattle.theory.specs.Tables.{CostTable, limit}
 use Rattle.stored_costs.specs.Form.{costUsed}
 use Rattle.stored_costs.specs.Sizes.{Small}
-use Rattle.cost_writer.specs.Accepted.{write-passed}
+use Rattle.cost_writer.specs.Laws.Accepted.{write-passed}
 use borrow.Author.Needs.{needs}
-use Rattle.ground.specs.Outcomes.{front-goes, front-stops, places-goes, places-stops}
+use Rattle.ground.specs.Laws.Outcomes.{front-goes, front-stops, places-goes, places-stops}
 use Rattle.cost_writer.proofs.write_costs.Statement.{statement}
 use Rattle.cost_writer.proofs.write_costs.Tie as tie
 

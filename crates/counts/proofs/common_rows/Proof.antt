@@ -6,7 +6,8 @@ use lib.ListN.{getD, length}
 use borrow.Author.Needs.{needs}
 use borrow.Author.Tests.{ltb-false, ltb-true}
 use Rattle.theory.specs.Comparison.{common, inners}
-use Rattle.counts.specs.Merge.{first-ends, oneCommon-le, second-ends, shared, shared-all, shared-turn, step-le, step-some}
+use Rattle.counts.specs.Merge.{shared}
+use Rattle.counts.specs.Laws.Merge.{first-ends, oneCommon-le, second-ends, shared-all, shared-turn, step-le, step-some}
 use Rattle.counts.proofs.common_rows.Statement.{statement}
 use Rattle.counts.proofs.common_rows.Tie as tie
 

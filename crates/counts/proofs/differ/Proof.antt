@@ -1,7 +1,7 @@
 -- `counts::differ` meets its contract: the count is the sum of the inner far sides less twice the common ones. Assumes nothing.
 use native.Mathlib.Omega.{arith}
 use borrow.Author.Needs.{needs}
-use Rattle.counts.specs.Formula.{difference-is, formula, inners-le}
+use Rattle.counts.specs.Laws.Formula.{difference-is, formula, inners-le}
 use Rattle.counts.proofs.differ.Statement.{statement}
 use Rattle.counts.proofs.differ.Tie as tie
 

@@ -4,7 +4,8 @@ use Prim.Native.Nat.{_-_, _≤_}
 use native.Mathlib.Omega.{arith}
 use lib.ListN.{length}
 use borrow.Author.Needs.{needs}
-use Rattle.counts.specs.Tally.{oneInner-le, tally, tally-end, tally-more, tally-none}
+use Rattle.counts.specs.Tally.{tally}
+use Rattle.counts.specs.Laws.Tally.{oneInner-le, tally-end, tally-more, tally-none}
 use Rattle.counts.proofs.inner_rows.Statement.{statement}
 use Rattle.counts.proofs.inner_rows.Tie as tie
 

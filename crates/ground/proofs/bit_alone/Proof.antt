@@ -1,6 +1,6 @@
 -- `ground::bit_alone` meets its contract: the bit is within 64 bits. Assumes nothing.
 use borrow.Author.Needs.{needs}
-use Rattle.ground.specs.Shifts.{shift-one}
+use Rattle.ground.specs.Laws.Shifts.{shift-one}
 use Rattle.ground.proofs.bit_alone.Statement.{statement}
 use Rattle.ground.proofs.bit_alone.Tie as tie
 

@@ -1,5 +1,4 @@
 -- `ground::refuse_if` meets its contract. Assumes nothing.
-use borrow.Author.Needs.{needs}
 use Rattle.ground.proofs.refuse_if.Statement.{statement}
 use Rattle.ground.proofs.refuse_if.Tie as tie
 

@@ -3,7 +3,7 @@ use mathlib.Core.Path.{_∙_}
 use Prim.Native.Nat.{_/_, _^_}
 use lib.Bits.{and-mask}
 use borrow.Author.Needs.{needs}
-use Rattle.ground.specs.Bits.{bit-shift}
+use Rattle.ground.specs.Laws.Bits.{bit-shift}
 use Rattle.ground.proofs.side.Statement.{statement}
 use Rattle.ground.proofs.side.Tie as tie
 

@@ -1,8 +1,9 @@
 -- `index::check_index` meets its contract: the first refusal is the answer. Assumes nothing.
 use mathlib.Core.Path.{_∙_, sym}
 use borrow.Author.Needs.{needs}
-use Rattle.ground.specs.Refusals.{then-goes, then-stops}
-use Rattle.tables.specs.Formed.{Sized, size-passed}
+use Rattle.ground.specs.Laws.Refusals.{then-goes, then-stops}
+use Rattle.tables.specs.Formed.{Sized}
+use Rattle.tables.specs.Laws.Formed.{size-passed}
 use Rattle.index.proofs.check_index.Statement.{statement}
 use Rattle.index.proofs.check_index.Tie as tie
 

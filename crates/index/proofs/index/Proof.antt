@@ -2,8 +2,8 @@
 use mathlib.Core.Path.{_∙_, ap, sym}
 use Prim.Native.Nat.{_*_, _-_}
 use borrow.Author.Needs.{needs}
-use Rattle.ground.specs.Refusals.{value-goes, value-stops}
-use Rattle.index.specs.Passed.{index-passed}
+use Rattle.ground.specs.Laws.Refusals.{value-goes, value-stops}
+use Rattle.index.specs.Laws.Passed.{index-passed}
 use Rattle.theory.specs.Tables.{limit}
 use Rattle.index.proofs.index.Statement.{statement}
 use Rattle.index.proofs.index.Tie as tie

@@ -2,7 +2,7 @@
 use mathlib.Core.Path.{_∙_, sym}
 use borrow.Author.Needs.{needs}
 use borrow.Author.Tests.{eq-eqb, ne-eqb}
-use Rattle.ground.specs.Shifts.{all-within, beyond}
+use Rattle.ground.specs.Laws.Shifts.{all-within, beyond}
 use Rattle.index.proofs.is_bad_far_side.Statement.{statement}
 use Rattle.index.proofs.is_bad_far_side.Tie as tie
 

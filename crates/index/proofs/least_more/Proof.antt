@@ -2,9 +2,10 @@
 use mathlib.Core.Path.{_≡_, ap}
 use Prim.Native.Nat.{_*_, _-_, _≤_, max}
 use native.Mathlib.Omega.{arith}
-use Rattle.ground.specs.Least.{leastOn-end, leastOn-fewer, leastOn-none, leastOn-turn}
+use Rattle.ground.specs.Laws.Least.{leastOn-end, leastOn-fewer, leastOn-none, leastOn-turn}
 use Rattle.theory.specs.Tables.{cost, limit}
-use Rattle.index.specs.Sides.{floored, leastAt, quadsAt}
+use Rattle.index.specs.Sides.{leastAt, quadsAt}
+use Rattle.index.specs.Laws.Sides.{floored}
 use borrow.Author.Needs.{needs}
 use Rattle.index.proofs.least_more.Statement.{statement}
 use Rattle.index.proofs.least_more.Tie as tie

@@ -2,7 +2,7 @@
 use mathlib.Core.Path.{_≡_}
 use Prim.Native.Nat.{_*_, _+_, _-_, _≤_}
 use native.Mathlib.Omega.{arith}
-use Rattle.ground.specs.Least.{leastOn-end, leastOn-none, leastOn-turn}
+use Rattle.ground.specs.Laws.Least.{leastOn-end, leastOn-none, leastOn-turn}
 use Rattle.theory.specs.Tables.{cost, limit}
 use Rattle.index.specs.Sides.{leastAt}
 use borrow.Author.Needs.{needs}

@@ -2,10 +2,12 @@
 use mathlib.Core.Path.{_∙_, _≡_, ap}
 use Prim.Native.Nat.{_+_, max}
 use native.Mathlib.Omega.{arith}
-use Rattle.ground.specs.Bits.{bit, bit-lt}
+use Rattle.ground.specs.Bits.{bit}
+use Rattle.ground.specs.Laws.Bits.{bit-lt}
 use Rattle.theory.specs.Laws.FewSteps.{extFast}
 use Rattle.theory.specs.Tables.{cost, limit}
-use Rattle.index.specs.Sides.{Split, images-wider, more-at}
+use Rattle.index.specs.Sides.{Split}
+use Rattle.index.specs.Laws.Sides.{images-wider, more-at}
 use borrow.Author.Needs.{needs}
 use Rattle.index.proofs.one_more.Statement.{statement}
 use Rattle.index.proofs.one_more.Tie as tie

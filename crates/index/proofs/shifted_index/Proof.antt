@@ -5,7 +5,7 @@ use borrow.Author.Needs.{needs}
 use Rattle.ground.specs.Bits.{bit}
 use Rattle.theory.specs.Index.{shifted}
 use Rattle.theory.specs.Tables.{cost, limit}
-use Rattle.index.specs.Grown.{grown-end, grown-more, grown-none}
+use Rattle.index.specs.Laws.Grown.{grown-end, grown-more, grown-none}
 use Rattle.index.proofs.shifted_index.Statement.{statement}
 use Rattle.index.proofs.shifted_index.Tie as tie
 

@@ -4,7 +4,8 @@ use lib.ListN.{length}
 use mathlib.Core.Path.{_≡_}
 use native.Mathlib.Omega.{arith}
 use Rattle.ground.specs.Bits.{bit}
-use Rattle.index.specs.Sides.{Split, split-none}
+use Rattle.index.specs.Sides.{Split}
+use Rattle.index.specs.Laws.Sides.{split-none}
 use borrow.Author.Needs.{needs}
 use Rattle.index.proofs.sides.Statement.{statement}
 use Rattle.index.proofs.sides.Tie as tie

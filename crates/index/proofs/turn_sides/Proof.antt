@@ -1,8 +1,9 @@
 -- `index::turn_sides` meets its contract: image b is stored behind both, and counted on its own side. Assumes nothing.
 use mathlib.Core.Path.{_∙_, sym}
 use native.Mathlib.Omega.{arith}
-use Rattle.ground.specs.Bits.{bit, bit-lt}
-use Rattle.index.specs.Sides.{split-mine, split-rest}
+use Rattle.ground.specs.Bits.{bit}
+use Rattle.ground.specs.Laws.Bits.{bit-lt}
+use Rattle.index.specs.Laws.Sides.{split-mine, split-rest}
 use borrow.Author.Needs.{needs}
 use Rattle.index.proofs.turn_sides.Statement.{statement}
 use Rattle.index.proofs.turn_sides.Tie as tie

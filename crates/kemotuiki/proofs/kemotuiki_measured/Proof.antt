@@ -1,7 +1,7 @@
 -- `kemotuiki::kemotuiki_measured` meets its contract: the numbers of what the call promises, and the lent slices as it leaves them. Assumes nothing.
 use borrow.Author.Needs.{needs}
 use Rattle.numbers.specs.Numbers.{ofWritten}
-use Rattle.kemotuiki.specs.Crossing.{left-rows}
+use Rattle.kemotuiki.specs.Laws.Crossing.{left-rows}
 use Rattle.kemotuiki.proofs.kemotuiki_measured.Statement.{statement}
 use Rattle.kemotuiki.proofs.kemotuiki_measured.Tie as tie
 

@@ -1,7 +1,7 @@
 -- `kemotuiki::kemotuiki_read_links` meets its contract: the numbers of what the call promises, and the lent slices as it leaves them. Assumes nothing.
 use borrow.Author.Needs.{needs}
 use Rattle.numbers.specs.Stored.{ofStoredLinks}
-use Rattle.kemotuiki.specs.Crossing.{left-rows}
+use Rattle.kemotuiki.specs.Laws.Crossing.{left-rows}
 use Rattle.kemotuiki.proofs.kemotuiki_read_links.Statement.{statement}
 use Rattle.kemotuiki.proofs.kemotuiki_read_links.Tie as tie
 

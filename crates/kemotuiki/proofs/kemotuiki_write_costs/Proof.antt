@@ -1,7 +1,7 @@
 -- `kemotuiki::kemotuiki_write_costs` meets its contract: the numbers of what the call promises, and the lent slice as it leaves it. Assumes nothing.
 use borrow.Author.Needs.{needs}
 use Rattle.numbers.specs.Numbers.{ofWritten}
-use Rattle.kemotuiki.specs.Crossing.{left-crossed}
+use Rattle.kemotuiki.specs.Laws.Crossing.{left-crossed}
 use Rattle.kemotuiki.proofs.kemotuiki_write_costs.Statement.{statement}
 use Rattle.kemotuiki.proofs.kemotuiki_write_costs.Tie as tie
 

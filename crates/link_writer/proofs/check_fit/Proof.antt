@@ -1,7 +1,7 @@
 -- `link_writer::check_fit` meets its contract: the first refusal is the answer. Assumes nothing.
 use native.Mathlib.Omega.{arith}
 use lib.ListN.{length}
-use Rattle.ground.specs.Refusals.{then-goes, then-stops}
+use Rattle.ground.specs.Laws.Refusals.{then-goes, then-stops}
 use Rattle.stored_links.specs.Laws.Sizes.{end-le}
 use borrow.Author.Needs.{needs}
 use Rattle.link_writer.proofs.check_fit.Statement.{statement}

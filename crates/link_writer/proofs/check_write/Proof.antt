@@ -1,8 +1,8 @@
 -- `link_writer::check_write` meets its contract: the rows are looked at once they are as many as counted. Assumes nothing.
 use mathlib.Core.Path.{sym, _∙_}
 use native.Mathlib.Omega.{arith}
-use Rattle.ground.specs.Refusals.{then-goes, then-stops}
-use Rattle.links.specs.LinkChecks.{sizes-passed}
+use Rattle.ground.specs.Laws.Refusals.{then-goes, then-stops}
+use Rattle.links.specs.Laws.LinkChecks.{sizes-passed}
 use borrow.Author.Needs.{needs}
 use Rattle.link_writer.proofs.check_write.Statement.{statement}
 use Rattle.link_writer.proofs.check_write.Tie as tie

@@ -1,5 +1,4 @@
 -- `link_writer::put_row` meets its contract: two writes, one behind the other, make a row. Assumes nothing.
-use Prim.Native.Nat.{_+_}
 use native.Mathlib.Omega.{arith}
 use Rattle.bits.specs.Bits.{bits}
 use Rattle.bits.specs.Laws.Bytes.{length-bits}

@@ -1,5 +1,4 @@
 -- `link_writer::put_rows` meets its contract: each row is put directly behind the one before. Assumes nothing.
-use mathlib.Core.List.{List}
 use mathlib.Core.Path.{ap, refl, _∙_, _≡_}
 use Prim.Native.Nat.{ℕ, _*_, _+_, _-_, _≤_}
 use native.Mathlib.Omega.{arith}
@@ -7,7 +6,7 @@ use lib.ListN.{getD, length}
 use Rattle.bits.specs.Bits.{bits, overAt}
 use Rattle.bits.specs.Forms.{formBits}
 use Rattle.bits.specs.Laws.Bytes.{length-bits}
-use Rattle.stored_links.specs.Form.{rowAt, rowFields, rowsTo, rowWidth}
+use Rattle.stored_links.specs.Form.{rowsTo, rowWidth}
 use Rattle.stored_links.specs.Laws.Rows.{rows-over-more, rows-over-none}
 use Rattle.stored_links.specs.Laws.Sizes.{end-le, row-within}
 use borrow.Author.Needs.{needs}

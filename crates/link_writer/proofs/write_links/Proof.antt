@@ -1,11 +1,11 @@
 -- `link_writer::write_links` meets its contract: the form is put once all checks passed. Assumes nothing.
-use mathlib.Core.Path.{sym, _∙_, _≡_}
+use mathlib.Core.Path.{sym, _∙_}
 use native.Mathlib.Omega.{arith}
 use lib.ListN.{length}
 use Rattle.theory.specs.Tables.{limit}
-use Rattle.link_writer.specs.Accepted.{passed-room}
+use Rattle.link_writer.specs.Laws.Accepted.{passed-room}
 use borrow.Author.Needs.{needs}
-use Rattle.ground.specs.Outcomes.{front-goes, front-stops, places-goes, places-stops}
+use Rattle.ground.specs.Laws.Outcomes.{front-goes, front-stops, places-goes, places-stops}
 use Rattle.link_writer.proofs.write_links.Statement.{statement}
 use Rattle.link_writer.proofs.write_links.Tie as tie
 

@@ -3,8 +3,8 @@ use mathlib.Core.Path.{_∙_, sym}
 use Prim.Native.Nat.{_≤_}
 use native.Mathlib.Omega.{arith}
 use borrow.Author.Needs.{needs}
-use Rattle.ground.specs.Refusals.{then-goes, then-stops}
-use Rattle.theory.specs.Checks.{images-passed}
+use Rattle.ground.specs.Laws.Refusals.{then-goes, then-stops}
+use Rattle.theory.specs.Laws.Checks.{images-passed}
 use Rattle.links.proofs.check_count.Statement.{statement}
 use Rattle.links.proofs.check_count.Tie as tie
 

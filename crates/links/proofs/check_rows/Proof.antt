@@ -3,8 +3,8 @@ use mathlib.Core.Path.{_≡_}
 use native.Mathlib.Omega.{arith}
 use lib.ListN.{length}
 use borrow.Author.Needs.{needs}
-use Rattle.ground.specs.First.{first-le}
-use Rattle.ground.specs.Refusals.{then-goes, then-stops}
+use Rattle.ground.specs.Laws.First.{first-le}
+use Rattle.ground.specs.Laws.Refusals.{then-goes, then-stops}
 use Rattle.links.specs.BadRows.{badRow, missing}
 use Rattle.links.specs.FirstChecks.{firstCheck}
 use Rattle.links.proofs.check_rows.Statement.{statement}

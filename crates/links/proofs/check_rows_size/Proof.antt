@@ -1,6 +1,6 @@
 -- `links::check_rows_size` meets its contract: it stops at the first refusal, as the chain does. Assumes nothing.
 use borrow.Author.Needs.{needs}
-use Rattle.ground.specs.Refusals.{then-goes, then-stops}
+use Rattle.ground.specs.Laws.Refusals.{then-goes, then-stops}
 use Rattle.links.proofs.check_rows_size.Statement.{statement}
 use Rattle.links.proofs.check_rows_size.Tie as tie
 

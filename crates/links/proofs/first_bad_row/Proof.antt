@@ -3,7 +3,8 @@ use Prim.Native.Nat.{_-_, _≤_}
 use lib.ListN.{length}
 use borrow.Author.Count.{below-more, below-none}
 use borrow.Author.Needs.{needs}
-use Rattle.ground.specs.First.{NoneBelow, first-here, first-none}
+use Rattle.ground.specs.First.{NoneBelow}
+use Rattle.ground.specs.Laws.First.{first-here, first-none}
 use Rattle.links.specs.BadRows.{badRow}
 use Rattle.links.proofs.first_bad_row.Statement.{statement}
 use Rattle.links.proofs.first_bad_row.Tie as tie

@@ -2,7 +2,7 @@
 use Prim.Native.Nat.{_^_}
 use borrow.Author.Needs.{needs}
 use borrow.Author.Tests.{eq-eqb, le-leb, lt-leb, ne-eqb}
-use Rattle.ground.specs.Shifts.{beyond}
+use Rattle.ground.specs.Laws.Shifts.{beyond}
 use Rattle.links.proofs.is_bad_side.Statement.{statement}
 use Rattle.links.proofs.is_bad_side.Tie as tie
 

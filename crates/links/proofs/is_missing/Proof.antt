@@ -2,7 +2,7 @@
 use borrow.Author.Needs.{needs}
 use Rattle.theory.specs.FarSides.{own}
 use Rattle.links.specs.BadRows.{missing}
-use Rattle.links.specs.Searches.{place-none}
+use Rattle.links.specs.Laws.Searches.{place-none}
 use Rattle.links.proofs.is_missing.Statement.{statement}
 use Rattle.links.proofs.is_missing.Tie as tie
 

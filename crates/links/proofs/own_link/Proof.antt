@@ -3,8 +3,8 @@ use mathlib.Core.Path.{_∙_}
 use Prim.Native.Nat.{_-_}
 use lib.Pow.{pow-pos}
 use borrow.Author.Needs.{needs}
-use Rattle.ground.specs.Shifts.{shift-one}
-use Rattle.links.specs.Shifts.{full-fits, full-side, one-side}
+use Rattle.ground.specs.Laws.Shifts.{shift-one}
+use Rattle.links.specs.Laws.Shifts.{full-fits, full-side, one-side}
 use Rattle.links.proofs.own_link.Statement.{statement}
 use Rattle.links.proofs.own_link.Tie as tie
 

@@ -4,7 +4,7 @@ use Prim.Native.Nat.{suc, _-_, _≤_}
 use lib.ListN.{drop, length}
 use borrow.Author.Needs.{needs}
 use Rattle.ground.specs.Members.{placeOf}
-use Rattle.links.specs.Searches.{place-end, place-here, place-on}
+use Rattle.links.specs.Laws.Searches.{place-end, place-here, place-on}
 use Rattle.links.proofs.place_of.Statement.{statement}
 use Rattle.links.proofs.place_of.Tie as tie
 

@@ -1,16 +1,17 @@
 -- `listing_text::put_number` meets its contract: the digits of a tenth, then the last. What falls is the number. Assumes nothing.
 use mathlib.Core.List.{[], _∷_}
-use mathlib.Core.Path.{ap, sym, _∙_, _≡_}
-use Prim.Native.Nat.{ℕ, _%_, _/_, _<_, _≤_}
+use mathlib.Core.Path.{ap}
+use Prim.Native.Nat.{ℕ, _%_, _/_, _<_}
 use native.Mathlib.Omega.{arith}
 use lib.ListN.{length}
 use borrow.Author.Needs.{needs}
 use borrow.Fn.Kinds.{In}
 use borrow.Fn.PlainCycle.{Measures, is, falls, and}
 use Rattle.listing_text.specs.Decimal.{decimal, digit}
-use Rattle.listing_text.specs.Numbers.{decimal-more, decimal-small}
-use Rattle.listing_text.specs.Putting.{Rest, byte-last-fits, fits-left, rest-begin, rest-last, rest-step}
-use Rattle.listing_text.specs.Pieces.{rest-same}
+use Rattle.listing_text.specs.Laws.Numbers.{decimal-more, decimal-small}
+use Rattle.listing_text.specs.Putting.{Rest}
+use Rattle.listing_text.specs.Laws.Putting.{byte-last-fits, fits-left, rest-begin, rest-last, rest-step}
+use Rattle.listing_text.specs.Laws.Pieces.{rest-same}
 use Rattle.listing_text.proofs.put_number.Reads as put-number
 use Rattle.listing_text.proofs.put_number.Kinds as put-number-kinds
 use Rattle.listing_text.proofs.+put_number.Lts-put_number as put-number-lts

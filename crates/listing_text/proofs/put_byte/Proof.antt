@@ -1,6 +1,6 @@
 -- `listing_text::put_byte` meets its contract: one store. Assumes nothing.
 use borrow.Author.Needs.{needs}
-use Rattle.listing_text.specs.Putting.{put-one}
+use Rattle.listing_text.specs.Laws.Putting.{put-one}
 use Rattle.listing_text.proofs.put_byte.Statement.{statement}
 use Rattle.listing_text.proofs.put_byte.Tie as tie
 

@@ -1,9 +1,10 @@
 -- `listing_text::put_field` meets its contract: one blank, then the number. Assumes nothing.
-use mathlib.Core.List.{[], _++_, _∷_}
+use mathlib.Core.List.{[], _∷_}
 use borrow.Author.Needs.{needs}
 use Rattle.listing_text.specs.Decimal.{decimal}
 use Rattle.listing_text.specs.Lines.{field}
-use Rattle.listing_text.specs.Putting.{Rest, byte-fits, last-fits, rest-begin, rest-last, rest-step}
+use Rattle.listing_text.specs.Putting.{Rest}
+use Rattle.listing_text.specs.Laws.Putting.{byte-fits, last-fits, rest-begin, rest-last, rest-step}
 use Rattle.listing_text.proofs.put_field.Statement.{statement}
 use Rattle.listing_text.proofs.put_field.Tie as tie
 

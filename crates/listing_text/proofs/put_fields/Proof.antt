@@ -3,8 +3,9 @@ use Prim.Native.Nat.{_-_, _≤_}
 use lib.ListN.{drop, getD, length}
 use borrow.Author.Needs.{needs}
 use Rattle.listing_text.specs.Lines.{field, fields}
-use Rattle.listing_text.specs.Pieces.{fields-end, fields-turn, rest-same}
-use Rattle.listing_text.specs.Putting.{Rest, rest-begin, rest-end, rest-fits, rest-step}
+use Rattle.listing_text.specs.Laws.Pieces.{fields-end, fields-turn, rest-same}
+use Rattle.listing_text.specs.Putting.{Rest}
+use Rattle.listing_text.specs.Laws.Putting.{rest-begin, rest-end, rest-fits, rest-step}
 use Rattle.listing_text.proofs.put_fields.Statement.{statement}
 use Rattle.listing_text.proofs.put_fields.Tie as tie
 

@@ -1,8 +1,9 @@
 -- `listing_text::put_refusal` meets its contract: a word, five numbers, and the end of the line. Assumes nothing.
 use mathlib.Core.List.{[], _++_, _∷_}
 use borrow.Author.Needs.{needs}
-use Rattle.listing_text.specs.Lines.{field, newline, refusedLine, refusedWord}
-use Rattle.listing_text.specs.Putting.{Rest, byte-last-fits, rest-begin, rest-fits, rest-last, rest-step}
+use Rattle.listing_text.specs.Lines.{field, refusedLine, refusedWord}
+use Rattle.listing_text.specs.Putting.{Rest}
+use Rattle.listing_text.specs.Laws.Putting.{byte-last-fits, rest-begin, rest-fits, rest-last, rest-step}
 use Rattle.listing_text.proofs.put_refusal.Statement.{statement}
 use Rattle.listing_text.proofs.put_refusal.Tie as tie
 

@@ -2,8 +2,9 @@
 use mathlib.Core.List.{[], _++_, _∷_}
 use borrow.Author.Needs.{needs}
 use Rattle.listing_text.specs.Decimal.{decimal}
-use Rattle.listing_text.specs.Lines.{field, newline, rowLine}
-use Rattle.listing_text.specs.Putting.{Rest, byte-last-fits, rest-begin, rest-fits, rest-last, rest-step}
+use Rattle.listing_text.specs.Lines.{field, rowLine}
+use Rattle.listing_text.specs.Putting.{Rest}
+use Rattle.listing_text.specs.Laws.Putting.{byte-last-fits, rest-begin, rest-fits, rest-last, rest-step}
 use Rattle.listing_text.proofs.put_row.Statement.{statement}
 use Rattle.listing_text.proofs.put_row.Tie as tie
 

@@ -3,8 +3,9 @@ use Prim.Native.Nat.{_-_, _≤_}
 use lib.ListN.{drop, length}
 use borrow.Author.Needs.{needs}
 use Rattle.listing_text.specs.Lines.{rowLine, rowLines}
-use Rattle.listing_text.specs.Pieces.{rest-same, rows-end, rows-turn}
-use Rattle.listing_text.specs.Putting.{Rest, rest-begin, rest-end, rest-fits, rest-step}
+use Rattle.listing_text.specs.Laws.Pieces.{rest-same, rows-end, rows-turn}
+use Rattle.listing_text.specs.Putting.{Rest}
+use Rattle.listing_text.specs.Laws.Putting.{rest-begin, rest-end, rest-fits, rest-step}
 use Rattle.listing_text.proofs.put_rows.Statement.{statement}
 use Rattle.listing_text.proofs.put_rows.Tie as tie
 

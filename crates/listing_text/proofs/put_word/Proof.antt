@@ -3,8 +3,9 @@ use mathlib.Core.List.{[], _∷_}
 use Prim.Native.Nat.{_-_, _≤_}
 use lib.ListN.{drop, length}
 use borrow.Author.Needs.{needs}
-use Rattle.listing_text.specs.Pieces.{drop-none, rest-same, word-turn}
-use Rattle.listing_text.specs.Putting.{Rest, byte-fits, rest-begin, rest-end, rest-step}
+use Rattle.listing_text.specs.Laws.Pieces.{drop-none, rest-same, word-turn}
+use Rattle.listing_text.specs.Putting.{Rest}
+use Rattle.listing_text.specs.Laws.Putting.{byte-fits, rest-begin, rest-end, rest-step}
 use Rattle.listing_text.proofs.put_word.Statement.{statement}
 use Rattle.listing_text.proofs.put_word.Tie as tie
 

@@ -1,16 +1,16 @@
 -- `listing_text::write_stored` meets its contract: the reader leaves a cost table, or its refusal. Assumes nothing.
-use mathlib.Core.Path.{ap, sym, _∙_, _≡_}
-use Prim.Native.Nat.{ℕ, _*_}
+use mathlib.Core.Path.{sym, _≡_}
+use Prim.Native.Nat.{ℕ}
 use native.Mathlib.Omega.{arith}
-use lib.ListN.{length, length-replicate, replicate}
+use lib.ListN.{length-replicate, replicate}
 use lib.Seq.{length-take-le}
 use borrow.Author.Needs.{needs}
 use Rattle.stored_costs.specs.Laws.Sizes.{square-le}
-use Rattle.listing_text.specs.Lengths.{refused-fits}
+use Rattle.listing_text.specs.Laws.Lengths.{refused-fits}
 use Rattle.listing_text.specs.Lines.{refusedLine}
 use Rattle.listing_text.specs.Listing.{listingText}
-use Rattle.listing_text.specs.Pieces.{put-same}
-use Rattle.listing_text.specs.Stored.{StoredTable, stored-refused, stored-table}
+use Rattle.listing_text.specs.Laws.Pieces.{put-same}
+use Rattle.listing_text.specs.Laws.Stored.{StoredTable, stored-refused, stored-table}
 use Rattle.listing_text.proofs.write_stored.Statement.{statement}
 use Rattle.listing_text.proofs.write_stored.Tie as tie
 

@@ -4,11 +4,11 @@ use Prim.Native.Nat.{ℕ}
 use native.Mathlib.Omega.{arith}
 use lib.ListN.{length-replicate, replicate}
 use borrow.Author.Needs.{needs}
-use Rattle.listing_text.specs.Accepted.{Read, table-read, table-refused}
-use Rattle.listing_text.specs.Lengths.{refused-fits}
+use Rattle.listing_text.specs.Laws.Accepted.{Read, table-read, table-refused}
+use Rattle.listing_text.specs.Laws.Lengths.{refused-fits}
 use Rattle.listing_text.specs.Lines.{refusedLine}
 use Rattle.listing_text.specs.Listing.{tableText}
-use Rattle.listing_text.specs.Pieces.{put-same}
+use Rattle.listing_text.specs.Laws.Pieces.{put-same}
 use Rattle.listing_text.proofs.write_table.Statement.{statement}
 use Rattle.listing_text.proofs.write_table.Tie as tie
 

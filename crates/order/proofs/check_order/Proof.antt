@@ -1,8 +1,8 @@
 -- `order::check_order` meets its contract: the first refusal is the answer. Assumes nothing.
 use mathlib.Core.Path.{sym, _∙_}
 use borrow.Author.Needs.{needs}
-use Rattle.ground.specs.Refusals.{then-goes, then-stops}
-use Rattle.tables.specs.Formed.{size-passed}
+use Rattle.ground.specs.Laws.Refusals.{then-goes, then-stops}
+use Rattle.tables.specs.Laws.Formed.{size-passed}
 use Rattle.order.specs.Outcome.{orderChecks}
 use Rattle.order.proofs.check_order.Statement.{statement}
 use Rattle.order.proofs.check_order.Tie as tie

@@ -1,12 +1,11 @@
 -- `order::gap` meets its contract: the difference of two entries fits, also below zero. Assumes nothing.
-use mathlib.Core.Path.{_≡_}
 use Prim.Native.Nat.{_<_, _^_}
 use native.Mathlib.Omega.{arith}
 use lib.IntN.{pos, _-ℤ_}
 use mir.Facts.{toZ-ofZ, toZ-pos}
 use mir.Syntax.{w64}
 use borrow.Author.Needs.{needs}
-use Rattle.order.specs.Gap.{gap-small}
+use Rattle.order.specs.Laws.Gap.{gap-small}
 use Rattle.order.proofs.gap.Statement.{statement}
 use Rattle.order.proofs.gap.Tie as tie
 

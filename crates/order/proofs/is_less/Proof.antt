@@ -2,7 +2,7 @@
 use mir.Facts.{toZ-ofZ}
 use mir.Syntax.{w64}
 use borrow.Author.Needs.{needs}
-use Rattle.ground.specs.Signed.{signed-less}
+use Rattle.ground.specs.Laws.Signed.{signed-less}
 use Rattle.order.proofs.is_less.Statement.{statement}
 use Rattle.order.proofs.is_less.Tie as tie
 

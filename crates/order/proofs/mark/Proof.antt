@@ -1,6 +1,6 @@
 -- `order::mark` meets its contract: the bit of an image below 64 is within 64 bits. Assumes nothing.
 use borrow.Author.Needs.{needs}
-use Rattle.ground.specs.Shifts.{shift-one}
+use Rattle.ground.specs.Laws.Shifts.{shift-one}
 use Rattle.order.proofs.mark.Statement.{statement}
 use Rattle.order.proofs.mark.Tie as tie
 

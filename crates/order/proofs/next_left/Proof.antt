@@ -2,9 +2,11 @@
 use mathlib.Core.Path.{_≡_}
 use Prim.Native.Nat.{_-_, _<_, _≤_}
 use borrow.Author.Needs.{needs}
-use Rattle.ground.specs.Folds.{fold, fold-end, fold-more, fold-none}
+use Rattle.ground.specs.Folds.{fold}
+use Rattle.ground.specs.Laws.Folds.{fold-end, fold-more, fold-none}
 use Rattle.theory.specs.Tables.{cost}
-use Rattle.order.specs.Next.{nextLeft, turnNext, turn-lt}
+use Rattle.order.specs.Next.{nextLeft, turnNext}
+use Rattle.order.specs.Laws.Next.{turn-lt}
 use Rattle.order.proofs.next_left.Statement.{statement}
 use Rattle.order.proofs.next_left.Tie as tie
 

@@ -3,8 +3,8 @@ use mathlib.Core.Path.{sym, _∙_}
 use native.Mathlib.Omega.{arith}
 use borrow.Author.Needs.{needs}
 use Rattle.theory.specs.Tables.{limit}
-use Rattle.order.specs.Asked.{passed-asked}
-use Rattle.order.specs.Promise.{left-refused, left-written}
+use Rattle.order.specs.Laws.Asked.{passed-asked}
+use Rattle.order.specs.Promises.{left-refused, left-written}
 use Rattle.order.proofs.order.Statement.{statement}
 use Rattle.order.proofs.order.Tie as tie
 

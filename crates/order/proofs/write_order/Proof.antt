@@ -4,7 +4,7 @@ use native.Mathlib.Omega.{arith}
 use lib.ListN.{length, length-set}
 use borrow.Author.Needs.{needs}
 use Rattle.theory.specs.Tables.{cost}
-use Rattle.order.specs.Backward.{Walked, walked-begins, walked-ends, walked-more, walked-next}
+use Rattle.order.specs.Laws.Backward.{Walked, walked-begins, walked-ends, walked-more, walked-next}
 use Rattle.order.proofs.write_order.Statement.{statement}
 use Rattle.order.proofs.write_order.Tie as tie
 

@@ -8,8 +8,9 @@ use lib.ListN.{length, length-set}
 use borrow.Author.Needs.{needs}
 use borrow.Fn.Kinds.{In}
 use borrow.Fn.PlainCycle.{Measures, is, falls, and}
-use Rattle.routes.specs.Climbs.{climb-last, climb-next, climbFrom}
-use Rattle.routes.specs.UpperRows.{upper-later, upper-most}
+use Rattle.routes.specs.Climbs.{climbFrom}
+use Rattle.routes.specs.Laws.Climbs.{climb-last, climb-next}
+use Rattle.routes.specs.Laws.UpperRows.{upper-later, upper-most}
 use Rattle.routes.proofs.climb.Reads as climb
 use Rattle.routes.proofs.climb.Kinds as climb-kinds
 use Rattle.routes.proofs.+climb.Lts-climb as climb-lts

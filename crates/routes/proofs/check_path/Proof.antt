@@ -1,8 +1,8 @@
 -- `routes::check_path` meets its contract: it stops at the first refusal, as the chain does. Assumes nothing.
 use native.Mathlib.Omega.{arith}
 use borrow.Author.Needs.{needs}
-use Rattle.ground.specs.Refusals.{then-goes, then-stops}
-use Rattle.links.specs.LinkChecks.{Sized, sizes-passed}
+use Rattle.ground.specs.Laws.Refusals.{then-goes, then-stops}
+use Rattle.links.specs.Laws.LinkChecks.{Sized, sizes-passed}
 use Rattle.routes.proofs.check_path.Statement.{statement}
 use Rattle.routes.proofs.check_path.Tie as tie
 

@@ -1,6 +1,6 @@
 -- `routes::check_route` meets its contract: it stops at the first refusal, as the chain does. Assumes nothing.
 use borrow.Author.Needs.{needs}
-use Rattle.ground.specs.Refusals.{then-goes, then-stops}
+use Rattle.ground.specs.Laws.Refusals.{then-goes, then-stops}
 use Rattle.routes.proofs.check_route.Statement.{statement}
 use Rattle.routes.proofs.check_route.Tie as tie
 

@@ -2,10 +2,10 @@
 use Prim.Native.Nat.{_-_}
 use native.Mathlib.Omega.{arith}
 use borrow.Author.Needs.{needs}
-use Rattle.ground.specs.Refusals.{value-goes, value-stops}
+use Rattle.ground.specs.Laws.Refusals.{value-goes, value-stops}
 use Rattle.theory.specs.Tables.{limit}
-use Rattle.routes.specs.Accepted.{PathTaken, path-passed}
-use Rattle.routes.specs.PathSums.{path-fits}
+use Rattle.routes.specs.Laws.Accepted.{PathTaken, path-passed}
+use Rattle.routes.specs.Laws.PathSums.{path-fits}
 use Rattle.routes.proofs.path.Statement.{statement}
 use Rattle.routes.proofs.path.Tie as tie
 

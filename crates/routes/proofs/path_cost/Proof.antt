@@ -5,7 +5,7 @@ use native.Mathlib.Omega.{arith}
 use lib.ListN.{drop, length}
 use borrow.Author.Needs.{needs}
 use Rattle.theory.specs.LinkTables.{path, rowsOf}
-use Rattle.routes.specs.PathSums.{path-end, path-more}
+use Rattle.routes.specs.Laws.PathSums.{path-end, path-more}
 use Rattle.routes.proofs.path_cost.Statement.{statement}
 use Rattle.routes.proofs.path_cost.Tie as tie
 

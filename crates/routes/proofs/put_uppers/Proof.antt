@@ -4,9 +4,10 @@ use Prim.Native.Nat.{_-_, _≤_}
 use native.Mathlib.Omega.{arith}
 use lib.ListN.{length, length-set}
 use borrow.Author.Needs.{needs}
-use Rattle.ground.specs.Buffers.{over, over-end, over-more, over-none}
+use Rattle.ground.specs.Buffers.{over}
+use Rattle.ground.specs.Laws.Buffers.{over-end, over-more, over-none}
 use Rattle.theory.specs.Routes.{uppers}
-use Rattle.routes.specs.UpperRows.{upper-most, uppers-length}
+use Rattle.routes.specs.Laws.UpperRows.{upper-most, uppers-length}
 use Rattle.routes.proofs.put_uppers.Statement.{statement}
 use Rattle.routes.proofs.put_uppers.Tie as tie
 

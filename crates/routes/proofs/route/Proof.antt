@@ -5,12 +5,13 @@ use native.Mathlib.Omega.{arith}
 use lib.ListN.{length}
 use borrow.Author.Needs.{needs}
 use Rattle.ground.specs.Members.{placeOf}
-use Rattle.ground.specs.Buffers.{sets-front}
-use Rattle.ground.specs.Outcomes.{written-goes, written-stops}
+use Rattle.ground.specs.Laws.Buffers.{sets-front}
+use Rattle.ground.specs.Laws.Outcomes.{written-goes, written-stops}
 use Rattle.theory.specs.FarSides.{own}
 use Rattle.theory.specs.Tables.{limit}
-use Rattle.routes.specs.Accepted.{RouteTaken, few-rows, own-place, route-passed}
-use Rattle.routes.specs.Climbs.{climb-most, climbFrom}
+use Rattle.routes.specs.Laws.Accepted.{RouteTaken, few-rows, own-place, route-passed}
+use Rattle.routes.specs.Climbs.{climbFrom}
+use Rattle.routes.specs.Laws.Climbs.{climb-most}
 use Rattle.routes.proofs.route.Statement.{statement}
 use Rattle.routes.proofs.route.Tie as tie
 

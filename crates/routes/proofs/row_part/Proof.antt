@@ -1,7 +1,7 @@
 -- `routes::row_part` meets its contract: the far side holds exactly one image where the bits differ. Assumes nothing.
 use borrow.Author.Needs.{needs}
 use borrow.Author.Tests.{eq-eqb, ne-eqb}
-use Rattle.routes.specs.PathSums.{apart-bits}
+use Rattle.routes.specs.Laws.PathSums.{apart-bits}
 use Rattle.routes.proofs.row_part.Statement.{statement}
 use Rattle.routes.proofs.row_part.Tie as tie
 

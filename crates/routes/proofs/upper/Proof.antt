@@ -4,7 +4,7 @@ use Prim.Native.Nat.{suc, _-_, _≤_}
 use lib.ListN.{drop, getD, length}
 use borrow.Author.Needs.{needs}
 use Rattle.theory.specs.Routes.{upperFrom, uppers}
-use Rattle.routes.specs.UpperRows.{upper-end, upper-here, upper-on, uppers-at}
+use Rattle.routes.specs.Laws.UpperRows.{upper-end, upper-here, upper-on, uppers-at}
 use Rattle.routes.proofs.upper.Statement.{statement}
 use Rattle.routes.proofs.upper.Tie as tie
 

@@ -3,12 +3,12 @@ use mathlib.Core.Path.{sym, _∙_, _≡_}
 use native.Mathlib.Omega.{arith}
 use lib.ListN.{length}
 use borrow.Author.Needs.{needs}
-use Rattle.ground.specs.Buffers.{over-all}
-use Rattle.ground.specs.Outcomes.{written-goes, written-stops}
+use Rattle.ground.specs.Laws.Buffers.{over-all}
+use Rattle.ground.specs.Laws.Outcomes.{written-goes, written-stops}
 use Rattle.theory.specs.Routes.{uppers}
 use Rattle.theory.specs.Tables.{limit}
-use Rattle.routes.specs.Accepted.{UppersTaken, few-rows, upper-passed}
-use Rattle.routes.specs.UpperRows.{uppers-length}
+use Rattle.routes.specs.Laws.Accepted.{UppersTaken, few-rows, upper-passed}
+use Rattle.routes.specs.Laws.UpperRows.{uppers-length}
 use Rattle.routes.proofs.upper_rows.Statement.{statement}
 use Rattle.routes.proofs.upper_rows.Tie as tie
 

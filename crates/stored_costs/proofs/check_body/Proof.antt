@@ -5,7 +5,7 @@ use native.Mathlib.Omega.{arith}
 use lib.Dec.{ltb}
 use lib.ListN.{length}
 use borrow.Author.Tests.{ltb-false}
-use Rattle.ground.specs.Refusals.{refuseIf-passed, then-goes, then-stops}
+use Rattle.ground.specs.Laws.Refusals.{refuseIf-passed, then-goes, then-stops}
 use Rattle.stored_costs.specs.Form.{fillOf}
 use Rattle.stored_costs.specs.Laws.Sizes.{end-le}
 use borrow.Author.Needs.{needs}

@@ -1,7 +1,8 @@
 -- `stored_costs::check_entries` meets its contract: what is left answers as the whole does. Assumes nothing.
 use mathlib.Core.Path.{_≡_}
 use Prim.Native.Nat.{_+_, _-_, _≤_}
-use Rattle.ground.specs.Lowest.{all-begins, all-ends, all-goes, all-stops, checkAll}
+use Rattle.ground.specs.Lowest.{checkAll}
+use Rattle.ground.specs.Laws.Lowest.{all-begins, all-ends, all-goes, all-stops}
 use Rattle.tables.specs.Checks.{entryCheck}
 use Rattle.stored_costs.specs.Entries.{costOf}
 use Rattle.stored_costs.specs.Form.{entryOf}

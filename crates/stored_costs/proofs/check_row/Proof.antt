@@ -2,7 +2,8 @@
 use mathlib.Core.Path.{ap, refl, sym, _∙_, _≡_}
 use Prim.Native.Nat.{ℕ, _*_, _+_, _-_, _<_, _≤_}
 use native.Mathlib.Omega.{arith}
-use Rattle.ground.specs.Lowest.{all-ends, all-goes, all-stops, checkAll}
+use Rattle.ground.specs.Lowest.{checkAll}
+use Rattle.ground.specs.Laws.Lowest.{all-ends, all-goes, all-stops}
 use Rattle.tables.specs.Checks.{entryCheck}
 use Rattle.bits.specs.Bits.{bits, part, valueOf}
 use Rattle.bits.specs.Forms.{fieldValue}
@@ -64,7 +65,10 @@ entry-at-requires c κs =
     let h = begun c .pre .0 in
     let a = begun c .args in
     let l = c .before .loop .inv in
-    (h .small .narrow, omega (arith, ends c, h .within, l .2), omega (arith, ends c, end-le (a .head) (a .w) (a .n) (h .small), l .2))
+    let e = end-le (a .head) (a .w) (a .n) (h .small) in (
+      h .small .narrow,
+      record { width = omega (arith, h .small .narrow); within = omega (arith, ends c, h .within, l .2); counted = omega (arith, ends c, e, l .2) },
+    )
 
 add-refuse-if : tie.Need-add-refuse-if Inv-loop μ-loop
 add-refuse-if c = search needs

@@ -1,7 +1,7 @@
 -- `stored_costs::check_stored` meets its contract: the first refusal is the answer; each part is looked at once those before it passed. Assumes nothing.
 use mathlib.Core.Path.{_∙_, sym}
 use native.Mathlib.Omega.{arith}
-use Rattle.ground.specs.Refusals.{then-goes, then-stops}
+use Rattle.ground.specs.Laws.Refusals.{then-goes, then-stops}
 use Rattle.stored_costs.specs.Laws.Passed.{body-passed, start-passed}
 use borrow.Author.Needs.{needs}
 use Rattle.stored_costs.proofs.check_stored.Statement.{statement}

@@ -10,7 +10,7 @@ get-requires c κs = search needs
 cast-result : tie.Need-cast-result
 cast-result c =
     let a = c .before .before in
-    rw (c .get .ensures) (record { fits = value-part-lt (a .args .bytes .now) (a .args .position) (a .args .w) 32 (a .pre .1) (a .pre .0) })
+    rw (c .get .ensures) (record { fits = value-part-lt (a .args .bytes .now) (a .args .position) (a .args .w) 32 (a .pre .1 .within) (a .pre .0) })
 
 returns : tie.Need-returns
 returns c = search needs

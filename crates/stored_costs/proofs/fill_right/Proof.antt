@@ -33,7 +33,7 @@ entry-at-requires : tie.Need-entry-at-requires Inv-loop μ-loop
 entry-at-requires c κs =
     let s = c .before .before .before .before .pre .0 in
     let l = c .before .loop .inv in
-    (s .narrow, omega (arith, ends c, s .within, l .2), omega (arith, ends c, s .counted, l .2))
+    (s .narrow, record { width = omega (arith, s .narrow); within = omega (arith, ends c, s .within, l .2); counted = omega (arith, ends c, s .counted, l .2) })
 
 add-out : tie.Need-add-out Inv-loop μ-loop
 add-out c = search needs

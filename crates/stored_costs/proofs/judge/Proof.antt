@@ -3,7 +3,7 @@ use mathlib.Core.Path.{_∙_, _≡_, sym}
 use Prim.Native.Nat.{_%_, _/_, _≤_}
 use native.Mathlib.Omega.{arith}
 use lib.ListN.{drop, length}
-use Rattle.ground.specs.Buffers.{rest-part}
+use Rattle.ground.specs.Laws.Buffers.{rest-part}
 use Rattle.stored_costs.specs.Laws.Outcomes.{table-goes, table-stops}
 use Rattle.stored_costs.specs.Laws.Passed.{Readable, read-at-passed}
 use Rattle.stored_costs.specs.Laws.Sizes.{end-le}

@@ -2,11 +2,11 @@
 use mathlib.Core.Path.{sym, _∙_}
 use Prim.Native.Nat.{_/_}
 use lib.ListN.{length}
-use Rattle.ground.specs.Buffers.{rest-part}
+use Rattle.ground.specs.Laws.Buffers.{rest-part}
 use Rattle.theory.specs.Tables.{limit}
 use Rattle.stored_costs.specs.Laws.Passed.{TableAt, judged-refused, readable-held, table-at}
 use borrow.Author.Needs.{needs}
-use Rattle.ground.specs.Outcomes.{front-goes, front-stops}
+use Rattle.ground.specs.Laws.Outcomes.{front-goes, front-stops}
 use Rattle.stored_costs.proofs.read_costs.Statement.{statement}
 use Rattle.stored_costs.proofs.read_costs.Tie as tie
 

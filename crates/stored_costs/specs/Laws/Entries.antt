@@ -10,7 +10,8 @@ use lib.ListN.{List·getD-append, getD, length, length-append}
 use lib.Seq.{getD-append-add}
 use borrow.Author.Tests.{ltb-false, ltb-true}
 use borrow.Table.Steps.{cases}
-use Rattle.bits.specs.Listed.{length-listed, listed, listed-add, listed-at, listed-same}
+use Rattle.bits.specs.Listed.{listed}
+use Rattle.bits.specs.Laws.Listed.{length-listed, listed-add, listed-at, listed-same}
 use Rattle.stored_costs.specs.Entries.{entries, entriesTo, entryCount, entryNumber, rowEntries, rowStart}
 
 -- ## Where the rows begin

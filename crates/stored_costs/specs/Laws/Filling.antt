@@ -12,7 +12,8 @@ use Rattle.theory.specs.Tables.{cost}
 use Rattle.bits.specs.Bits.{bits, overAt, part, valueOf}
 use Rattle.bits.specs.Forms.{fieldValue}
 use Rattle.bits.specs.Laws.Places.{listed-front-add, listed-front-at, listed-over-add, listed-over-more}
-use Rattle.bits.specs.Listed.{listed, listed-front-none, listed-same}
+use Rattle.bits.specs.Listed.{listed}
+use Rattle.bits.specs.Laws.Listed.{listed-front-none, listed-same}
 use Rattle.stored_costs.specs.Entries.{Above, costOf, rowStart, tableOf}
 use Rattle.stored_costs.specs.Form.{entryOf, rowAt}
 use Rattle.stored_costs.specs.Laws.Tables.{cost-of-same, cost-of-self, cost-of-up}

@@ -6,14 +6,17 @@ use native.Mathlib.Omega.{arith}
 use lib.Dec.{ltb}
 use lib.ListN.{drop, length}
 use borrow.Author.Tests.{le-ltb, ltb-false}
-use Rattle.ground.specs.Lowest.{all-passed, checkAll, passed-all}
-use Rattle.ground.specs.Refusals.{refuseIf-passed, roomCheck, then-passed, _then_}
-use Rattle.ground.specs.Tests.{or-false}
+use Rattle.ground.specs.Lowest.{checkAll}
+use Rattle.ground.specs.Laws.Lowest.{all-passed, passed-all}
+use Rattle.ground.specs.Refusals.{roomCheck, _then_}
+use Rattle.ground.specs.Laws.Refusals.{refuseIf-passed, then-passed}
+use Rattle.ground.specs.Laws.Tests.{or-false}
 use Rattle.ground.specs.declared.Check.{Check}
 use Rattle.ground.specs.declared.Check.the-variants.{Passed, Refused}
 use Rattle.ground.specs.declared.Refusal.{Refusal}
 use Rattle.bits.specs.Kinds.{endCheck, fillCheck, misplaced, positionCheck}
-use Rattle.theory.specs.Checks.{images-passed, imagesCheck}
+use Rattle.theory.specs.Checks.{imagesCheck}
+use Rattle.theory.specs.Laws.Checks.{images-passed}
 use Rattle.tables.specs.Checks.{entryCheck}
 use Rattle.bits.specs.Forms.{bytesFor}
 use Rattle.stored_costs.specs.Entries.{costOf, entryNumber}

@@ -17,7 +17,7 @@ use Rattle.bits.specs.Laws.Numbers.{length-bitsOf, value-bits}
 use Rattle.bits.specs.Laws.OneWidth.{field-value}
 use Rattle.bits.specs.Laws.Packed.{bits-packed-then}
 use Rattle.bits.specs.Laws.Parts.{part-cut}
-use Rattle.bits.specs.Listed.{listed-at}
+use Rattle.bits.specs.Laws.Listed.{listed-at}
 use Rattle.stored_costs.specs.Entries.{entries, entriesTo, entryCount, entryNumber, rowEntries}
 use Rattle.stored_costs.specs.Form.{costBytes, costEnd, costsOf, entryOf, fillOf, imagesOf}
 use Rattle.stored_costs.specs.Laws.Entries.{entry-is, length-entries, length-row, number-lt}

@@ -10,7 +10,8 @@ use lib.ListN.{getD, length}
 use borrow.Author.Tests.{eq-eqb, eqb-false, eqb-true, ltb-false, ltb-true, ne-eqb}
 use borrow.Table.Steps.{cases}
 use Rattle.theory.specs.Tables.{CostTable, cost}
-use Rattle.bits.specs.Listed.{length-listed, listed, listed-at, listed-is}
+use Rattle.bits.specs.Listed.{listed}
+use Rattle.bits.specs.Laws.Listed.{length-listed, listed-at, listed-is}
 use Rattle.stored_costs.specs.Entries.{costOf, entries, entryCount, entryNumber, tableOf}
 use Rattle.stored_costs.specs.Laws.Entries.{entries-listed, entry-is, number-lt}
 

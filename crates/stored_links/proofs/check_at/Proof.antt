@@ -4,9 +4,9 @@ use Prim.Native.Nat.{_%_, _/_, _≤_}
 use lib.Dec.{ltb}
 use lib.ListN.{length}
 use borrow.Author.Tests.{ltb-false}
-use Rattle.ground.specs.Buffers.{rest-part}
-use Rattle.ground.specs.Refusals.{refuseIf-passed, then-goes, then-stops}
-use Rattle.ground.specs.Tests.{or-false}
+use Rattle.ground.specs.Laws.Buffers.{rest-part}
+use Rattle.ground.specs.Laws.Refusals.{refuseIf-passed, then-goes, then-stops}
+use Rattle.ground.specs.Laws.Tests.{or-false}
 use borrow.Author.Needs.{needs}
 use Rattle.bits.specs.Kinds.{misplaced}
 use Rattle.stored_links.proofs.check_at.Statement.{statement}

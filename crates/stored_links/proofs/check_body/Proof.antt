@@ -3,7 +3,7 @@ use mathlib.Core.Path.{_∙_, sym}
 use Prim.Native.Nat.{_+_, _/_, _≤_}
 use native.Mathlib.Omega.{arith}
 use lib.ListN.{length}
-use Rattle.ground.specs.Refusals.{then-goes, then-stops}
+use Rattle.ground.specs.Laws.Refusals.{then-goes, then-stops}
 use Rattle.stored_links.specs.Said.{fillOf}
 use Rattle.stored_links.specs.Laws.Passed.{end-passed}
 use Rattle.stored_links.specs.Laws.Sizes.{end-le}

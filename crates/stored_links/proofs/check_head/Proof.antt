@@ -1,10 +1,9 @@
 -- `stored_links::check_head` meets its contract: n and the row count are read once they are there. Assumes nothing.
 use mathlib.Core.Path.{_∙_, sym}
 use Prim.Native.Nat.{_+_, _≤_}
-use native.Mathlib.Omega.{arith}
 use lib.ListN.{length}
 use Rattle.bits.specs.Forms.{bytesFor}
-use Rattle.ground.specs.Refusals.{then-goes, then-stops}
+use Rattle.ground.specs.Laws.Refusals.{then-goes, then-stops}
 use Rattle.stored_links.specs.Laws.Passed.{end-passed}
 use borrow.Author.Needs.{needs}
 use Rattle.stored_links.proofs.check_head.Statement.{statement}

@@ -2,7 +2,7 @@
 use mathlib.Core.List.{List}
 use mathlib.Core.Path.{ap₂, _∙_}
 use Prim.Native.Nat.{ℕ}
-use Rattle.bits.specs.Listed.{length-listed}
+use Rattle.bits.specs.Laws.Listed.{length-listed}
 use Rattle.links.specs.Checks.{rowChecks}
 use Rattle.stored_links.specs.Said.{costOf, farOf}
 use Rattle.stored_links.specs.Laws.Outcomes.{front-taken}

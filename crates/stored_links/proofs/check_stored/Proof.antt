@@ -1,9 +1,7 @@
 -- `stored_links::check_stored` meets its contract: the first refusal is the answer; each part is looked at once those before it passed. Assumes nothing.
 use mathlib.Core.Path.{_∙_, sym, _≡_}
-use Prim.Native.Nat.{_*_, _+_, _-_, _≤_}
 use native.Mathlib.Omega.{arith}
-use lib.ListN.{length}
-use Rattle.ground.specs.Refusals.{then-goes, then-stops}
+use Rattle.ground.specs.Laws.Refusals.{then-goes, then-stops}
 use Rattle.ground.specs.declared.Check.the-variants.{Passed}
 use Rattle.stored_links.specs.Reading.{headChecks}
 use Rattle.stored_links.specs.Laws.Passed.{head-passed}

@@ -1,5 +1,4 @@
 -- `stored_links::cost_at` meets its contract: one field of w bits, which fits 32. Assumes nothing.
-use native.Mathlib.Omega.{arith}
 use Rattle.bits.specs.Laws.Turns.{value-part-lt}
 use borrow.Author.Needs.{needs}
 use Rattle.stored_links.proofs.cost_at.Statement.{statement}

@@ -1,12 +1,13 @@
 -- `stored_links::fill` meets its contract: the front of both slices is written row by row. Assumes nothing.
 use mathlib.Core.Path.{ap, refl, _∙_, _≡_}
-use Prim.Native.Nat.{ℕ, _+_, _-_, _*_, _<_, _≤_}
+use Prim.Native.Nat.{ℕ, _+_, _-_, _*_, _≤_}
 use native.Mathlib.Omega.{arith}
 use lib.ListN.{length, length-set}
 use Rattle.ground.specs.Buffers.{front}
 use Rattle.bits.specs.Bits.{bits, part, valueOf}
-use Rattle.bits.specs.Listed.{listed, listed-front-end, listed-front-more, listed-front-none}
-use Rattle.stored_links.specs.Form.{rowAt, rowWidth}
+use Rattle.bits.specs.Listed.{listed}
+use Rattle.bits.specs.Laws.Listed.{listed-front-end, listed-front-more, listed-front-none}
+use Rattle.stored_links.specs.Form.{rowWidth}
 use Rattle.stored_links.specs.Said.{costOf, farOf}
 use Rattle.stored_links.specs.Laws.Sizes.{end-le, row-within}
 use borrow.Author.Needs.{needs}

@@ -2,9 +2,8 @@
 use mathlib.Core.List.{List}
 use mathlib.Core.Path.{_∙_, sym}
 use Prim.Native.Nat.{ℕ, _/_}
-use native.Mathlib.Omega.{arith}
 use lib.ListN.{drop}
-use Rattle.ground.specs.Buffers.{rest-part}
+use Rattle.ground.specs.Laws.Buffers.{rest-part}
 use Rattle.stored_links.specs.Said.{countOf, imagesOf, usedOf}
 use Rattle.stored_links.specs.Laws.Outcomes.{table-goes, table-stops}
 use Rattle.stored_links.specs.Laws.Passed.{stored-held}

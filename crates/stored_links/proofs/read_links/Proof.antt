@@ -3,7 +3,7 @@ use mathlib.Core.Path.{ap, _∙_, _≡_, sym}
 use Prim.Native.Nat.{min, ℕ, _*_, _-_, _/_, _≤_}
 use native.Mathlib.Omega.{arith}
 use lib.ListN.{length}
-use Rattle.ground.specs.Buffers.{rest-part}
+use Rattle.ground.specs.Laws.Buffers.{rest-part}
 use Rattle.ground.specs.declared.Check.the-variants.{Passed}
 use Rattle.theory.specs.Tables.{limit}
 use Rattle.stored_links.specs.Outcomes.{judged}
@@ -11,7 +11,7 @@ use Rattle.stored_links.specs.Reading.{readAtChecks}
 use Rattle.stored_links.specs.Laws.Passed.{stored-held}
 use Rattle.stored_links.specs.Laws.Positions.{TableAt, refused-at, table-at}
 use borrow.Author.Needs.{needs}
-use Rattle.ground.specs.Outcomes.{front-goes, front-stops}
+use Rattle.ground.specs.Laws.Outcomes.{front-goes, front-stops}
 use Rattle.stored_links.proofs.read_links.Statement.{statement}
 use Rattle.stored_links.proofs.read_links.Tie as tie
 

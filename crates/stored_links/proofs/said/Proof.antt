@@ -1,9 +1,7 @@
 -- `stored_links::said` meets its contract: two fields, and the bytes used by so many rows. Assumes nothing.
-use mathlib.Core.Path.{ap, ap₂, _∙_, sym}
 use native.Mathlib.Omega.{arith}
 use Rattle.stored_links.specs.Sizes.{Small}
 use Rattle.stored_links.specs.Laws.Sizes.{end-le}
-use borrow.Author.Needs.{needs}
 use Rattle.stored_links.proofs.said.Statement.{statement}
 use Rattle.stored_links.proofs.said.Tie as tie
 

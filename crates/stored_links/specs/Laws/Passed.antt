@@ -6,15 +6,16 @@ use native.Mathlib.Omega.{arith}
 use lib.Dec.{ltb}
 use lib.ListN.{length}
 use borrow.Author.Tests.{le-ltb, ltb-false}
-use Rattle.ground.specs.Refusals.{refuseIf-passed, roomCheck, then-passed, _then_}
+use Rattle.ground.specs.Refusals.{roomCheck, _then_}
+use Rattle.ground.specs.Laws.Refusals.{refuseIf-passed, then-passed}
 use Rattle.ground.specs.declared.Check.{Check}
 use Rattle.ground.specs.declared.Check.the-variants.{Passed, Refused}
 use Rattle.bits.specs.Kinds.{endCheck, fillCheck}
 use Rattle.theory.specs.LinkTables.{LinkTable, rowsOf}
 use Rattle.bits.specs.Forms.{bytesFor}
-use Rattle.bits.specs.Listed.{length-listed}
+use Rattle.bits.specs.Laws.Listed.{length-listed}
 use Rattle.links.specs.Checks.{countChecks, rowChecks}
-use Rattle.links.specs.LinkChecks.{count-passed, row-checks}
+use Rattle.links.specs.Laws.LinkChecks.{count-passed, row-checks}
 use Rattle.stored_links.specs.Form.{linkUsed}
 use Rattle.stored_links.specs.Reading.{bodyChecks, headChecks, readChecks, tableChecks}
 use Rattle.stored_links.specs.Said.{costOf, costsOf, countOf, farOf, farsOf, fillOf, imagesOf}

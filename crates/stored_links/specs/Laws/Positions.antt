@@ -6,8 +6,9 @@ use native.Mathlib.Omega.{arith}
 use lib.Dec.{ltb}
 use lib.ListN.{drop, length}
 use borrow.Author.Tests.{le-ltb, ltb-false}
-use Rattle.ground.specs.Refusals.{refuseIf-passed, then-passed, _then_}
-use Rattle.ground.specs.Tests.{or-false}
+use Rattle.ground.specs.Refusals.{_then_}
+use Rattle.ground.specs.Laws.Refusals.{refuseIf-passed, then-passed}
+use Rattle.ground.specs.Laws.Tests.{or-false}
 use Rattle.ground.specs.declared.Check.{Check}
 use Rattle.ground.specs.declared.Check.the-variants.{Passed, Refused}
 use Rattle.ground.specs.declared.Refusal.{Refusal}

@@ -1,6 +1,6 @@
 -- `tables::check_costs` meets its contract: the first refusal is the answer. Assumes nothing.
 use borrow.Author.Needs.{needs}
-use Rattle.ground.specs.Refusals.{then-goes, then-stops}
+use Rattle.ground.specs.Laws.Refusals.{then-goes, then-stops}
 use Rattle.tables.proofs.check_costs.Statement.{statement}
 use Rattle.tables.proofs.check_costs.Tie as tie
 

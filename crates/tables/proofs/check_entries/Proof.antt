@@ -2,7 +2,8 @@
 use mathlib.Core.Path.{_≡_}
 use Prim.Native.Nat.{_-_, _≤_}
 use borrow.Author.Needs.{needs}
-use Rattle.ground.specs.Lowest.{all-begins, all-ends, all-goes, all-stops, checkAll}
+use Rattle.ground.specs.Lowest.{checkAll}
+use Rattle.ground.specs.Laws.Lowest.{all-begins, all-ends, all-goes, all-stops}
 use Rattle.theory.specs.Tables.{cost}
 use Rattle.tables.specs.Checks.{entryCheck}
 use Rattle.tables.proofs.check_entries.Statement.{statement}

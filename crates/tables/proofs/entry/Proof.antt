@@ -1,5 +1,4 @@
 -- `tables::entry` meets its contract: the entries of a cost table are at most the limit. Assumes nothing.
-use borrow.Author.Needs.{needs}
 use native.Mathlib.Omega.{arith}
 use Rattle.tables.proofs.entry.Statement.{statement}
 use Rattle.tables.proofs.entry.Tie as tie

@@ -9,9 +9,10 @@ use native.Mathlib.Omega.{arith}
 use lib.Dec.{eqb}
 use borrow.Author.Tests.{eqb-false, eqb-true}
 use borrow.Table.Steps.{cases}
-use Rattle.ground.specs.Ascending.{Between, between-le, between-mem}
+use Rattle.ground.specs.Ascending.{Between}
+use Rattle.ground.specs.Laws.Ascending.{between-le, between-mem}
 use Rattle.ground.specs.Filters.{Each}
-use Rattle.ground.specs.Maps.{mem-map}
+use Rattle.ground.specs.Laws.Maps.{mem-map}
 use Rattle.ground.specs.Sums.{sum}
 use Rattle.theory.specs.LinkTables.{Row, far, fars}
 

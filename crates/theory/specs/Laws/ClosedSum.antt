@@ -9,7 +9,8 @@ use borrow.Author.Tests.{ltb-false, ltb-true}
 use borrow.Table.Steps.{cases}
 use Rattle.ground.specs.Counts.{one-if}
 use Rattle.ground.specs.Filters.{Each}
-use Rattle.ground.specs.Sums.{sum, sum-add, sum-same, when}
+use Rattle.ground.specs.Sums.{sum, when}
+use Rattle.ground.specs.Laws.Sums.{sum-add, sum-same}
 use Rattle.theory.specs.Laws.Paths.{row-far}
 use Rattle.theory.specs.Laws.Ring.{one-run}
 use Rattle.theory.specs.Laws.RowsFound.{row-low}

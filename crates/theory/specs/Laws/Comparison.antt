@@ -7,9 +7,12 @@ use Prim.Native.Nat.{ℕ, _*_, _+_}
 use native.Mathlib.Omega.{arith}
 use lib.ListN.{length}
 use borrow.Table.Steps.{cases}
-use Rattle.ground.specs.Ascending.{Between, between-ext, between-filter}
-use Rattle.ground.specs.Filters.{filter, filter-mem, mem-filter}
-use Rattle.ground.specs.Members.{isIn, isIn-mem, mem-isIn}
+use Rattle.ground.specs.Ascending.{Between}
+use Rattle.ground.specs.Laws.Ascending.{between-ext, between-filter}
+use Rattle.ground.specs.Filters.{filter}
+use Rattle.ground.specs.Laws.Filters.{filter-mem, mem-filter}
+use Rattle.ground.specs.Members.{isIn}
+use Rattle.ground.specs.Laws.Members.{isIn-mem, mem-isIn}
 use Rattle.theory.specs.Comparison.{common, differing}
 
 -- what passes a test and what does not

@@ -5,7 +5,8 @@ use Prim.Native.Nat.{ℕ, _<_, _^_}
 use native.Mathlib.Omega.{arith}
 use lib.Bits.{and-le-l, bitAnd}
 use borrow.Table.Steps.{cases}
-use Rattle.ground.specs.Bits.{bit, bit-and, bit-ext, bit-lt}
+use Rattle.ground.specs.Bits.{bit}
+use Rattle.ground.specs.Laws.Bits.{bit-and, bit-ext, bit-lt}
 use Rattle.theory.specs.FarSides.{Within, holds}
 use Rattle.theory.specs.Laws.Nested.{bit-holds, holds-false, holds-true}
 

@@ -9,10 +9,12 @@ use lib.Dec.{eqb, ltb}
 use lib.Pow.{pow-pos}
 use borrow.Author.Tests.{eqb-false, eqb-true, ltb-false, ltb-true}
 use borrow.Table.Steps.{cases}
-use Rattle.ground.specs.Ascending.{Between, between-append, between-map}
-use Rattle.ground.specs.Bits.{bit, bit-some}
+use Rattle.ground.specs.Ascending.{Between}
+use Rattle.ground.specs.Laws.Ascending.{between-append, between-map}
+use Rattle.ground.specs.Bits.{bit}
+use Rattle.ground.specs.Laws.Bits.{bit-some}
 use Rattle.ground.specs.Filters.{Each}
-use Rattle.ground.specs.Maps.{map-mem, mem-map}
+use Rattle.ground.specs.Laws.Maps.{map-mem, mem-map}
 use Rattle.theory.specs.FarSides.{FarSide, sides}
 
 pub sides-between : (n : ℕ) → Between 1 (sides n) (2 ^ n)

@@ -4,7 +4,8 @@ use mathlib.Core.Path.{_≡_}
 use Prim.Native.Nat.{suc, ℕ, _*_, _+_, _-_, _<_, _≤_}
 use native.Mathlib.Nat.{le-antisymm, le-trans}
 use native.Mathlib.Omega.{arith}
-use Rattle.ground.specs.Least.{On, le-leastOn, leastOn, leastOn-cap, leastOn-le}
+use Rattle.ground.specs.Least.{On, leastOn}
+use Rattle.ground.specs.Laws.Least.{le-leastOn, leastOn-cap, leastOn-le}
 use Rattle.theory.specs.Laws.OneMore.{ext, ext-cap, ext-le, le-ext}
 use Rattle.theory.specs.Tables.{WellFormed}
 

@@ -11,7 +11,8 @@ use native.Mathlib.Omega.{arith}
 use lib.Dec.{leb}
 use borrow.Author.Tests.{leb-false, leb-true, ltb-false}
 use borrow.Table.Steps.{cases}
-use Rattle.ground.specs.Filters.{filter, none-in}
+use Rattle.ground.specs.Filters.{filter}
+use Rattle.ground.specs.Laws.Filters.{none-in}
 use Rattle.ground.specs.First.{first}
 use Rattle.theory.specs.FourPoint.{FourPoint, fails, four, fours₁}
 use Rattle.theory.specs.Laws.FourPoint.{four-point, none-above}

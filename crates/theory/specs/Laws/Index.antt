@@ -5,7 +5,8 @@ use mathlib.Core.Path.{refl, _≡_}
 use Prim.Native.Nat.{ℕ, _*_, _+_, _<_, _≤_}
 use native.Mathlib.Nat.{le-trans}
 use native.Mathlib.Omega.{arith}
-use Rattle.ground.specs.Least.{On, le-leastOn, leastOn-cap, leastOn-le, leastOn-same}
+use Rattle.ground.specs.Least.{On}
+use Rattle.ground.specs.Laws.Least.{le-leastOn, leastOn-cap, leastOn-le, leastOn-same}
 use Rattle.theory.specs.Index.{AtLeast, clipped, gain, shifted}
 use Rattle.theory.specs.Tables.{WellFormed}
 

@@ -8,8 +8,9 @@ use native.Mathlib.Omega.{arith}
 use lib.Dec.{eqb}
 use borrow.Author.Tests.{eq-eqb, eqb-false, eqb-true, ne-eqb, not-true}
 use borrow.Table.Steps.{cases}
-use Rattle.ground.specs.Bits.{bit, bit-lt}
-use Rattle.ground.specs.Tests.{and-l, and-not-both, and-not-not, and-r}
+use Rattle.ground.specs.Bits.{bit}
+use Rattle.ground.specs.Laws.Bits.{bit-lt}
+use Rattle.ground.specs.Laws.Tests.{and-l, and-not-both, and-not-not, and-r}
 use Rattle.theory.specs.FarSides.{Nested, holds}
 
 pub holds-true : (S i : ℕ) → holds S i ≡ true → bit S i ≡ 1

@@ -8,7 +8,8 @@ use native.Mathlib.Omega.{arith}
 use lib.Dec.{eqb}
 use borrow.Author.Tests.{eqb-false, eqb-true}
 use borrow.Table.Steps.{cases}
-use Rattle.ground.specs.Least.{On, le-leastOn, leastOn, leastOn-cap, leastOn-le}
+use Rattle.ground.specs.Least.{On, leastOn}
+use Rattle.ground.specs.Laws.Least.{le-leastOn, leastOn-cap, leastOn-le}
 use Rattle.theory.specs.Index.{gain, shifted}
 use Rattle.theory.specs.Laws.Index.{le-shifted, shifted-cap, shifted-le}
 use Rattle.theory.specs.Tables.{WellFormed}

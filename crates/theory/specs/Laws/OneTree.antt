@@ -8,11 +8,13 @@ use Prim.Native.Nat.{suc, ℕ, _<_, _^_}
 use native.Mathlib.Omega.{arith}
 use lib.Dec.{ltb}
 use borrow.Author.Tests.{lt-ltb, ltb-true, not-true}
-use Rattle.ground.specs.Ascending.{Between, between-filter}
+use Rattle.ground.specs.Ascending.{Between}
+use Rattle.ground.specs.Laws.Ascending.{between-filter}
 use Rattle.ground.specs.Bits.{bit}
-use Rattle.ground.specs.Filters.{Each, filter-mem, mem-filter}
-use Rattle.ground.specs.Maps.{map-mem}
-use Rattle.ground.specs.Tests.{false-not, or-cases, or-l, or-r}
+use Rattle.ground.specs.Filters.{Each}
+use Rattle.ground.specs.Laws.Filters.{filter-mem, mem-filter}
+use Rattle.ground.specs.Laws.Maps.{map-mem}
+use Rattle.ground.specs.Laws.Tests.{false-not, or-cases, or-l, or-r}
 use Rattle.theory.specs.FarSides.{FarSide, inner, own, sides}
 use Rattle.theory.specs.Index.{AtLeast, clipped}
 use Rattle.theory.specs.Laws.Divisions.{crossing}

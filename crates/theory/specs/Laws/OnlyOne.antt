@@ -8,10 +8,10 @@ use Prim.Native.Nat.{suc, ℕ, _<_, _^_, _≤_}
 use native.Mathlib.Nat.{le-trans}
 use native.Mathlib.Omega.{arith}
 use borrow.Table.Steps.{cases}
-use Rattle.ground.specs.Ascending.{between-ext}
+use Rattle.ground.specs.Laws.Ascending.{between-ext}
 use Rattle.ground.specs.Bits.{bit}
 use Rattle.ground.specs.Filters.{Each}
-use Rattle.ground.specs.Maps.{map-mem}
+use Rattle.ground.specs.Laws.Maps.{map-mem}
 use Rattle.ground.specs.Sums.{sum, when}
 use Rattle.theory.specs.FarSides.{FarSide, inner}
 use Rattle.theory.specs.FourPoint.{FourPoint}

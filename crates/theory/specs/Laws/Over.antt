@@ -8,11 +8,14 @@ use native.Mathlib.Omega.{arith}
 use lib.Dec.{eqb, leb}
 use borrow.Author.Tests.{eq-eqb, eqb-false, eqb-true, le-ltb, leb-false, leb-true, lt-ltb}
 use borrow.Table.Steps.{cases}
-use Rattle.ground.specs.Bits.{bit, bit-lt, bit-none}
-use Rattle.ground.specs.Counts.{count-row, count-within, sum-count-all}
-use Rattle.ground.specs.Filters.{filter, filter-mem, mem-filter}
+use Rattle.ground.specs.Bits.{bit}
+use Rattle.ground.specs.Laws.Bits.{bit-lt, bit-none}
+use Rattle.ground.specs.Laws.Counts.{count-row, count-within, sum-count-all}
+use Rattle.ground.specs.Filters.{filter}
+use Rattle.ground.specs.Laws.Filters.{filter-mem, mem-filter}
 use Rattle.ground.specs.Least.{On}
-use Rattle.ground.specs.Sums.{sum, sum-filter, sum-le, sum-map, when}
+use Rattle.ground.specs.Sums.{sum, when}
+use Rattle.ground.specs.Laws.Sums.{sum-filter, sum-le, sum-map}
 use Rattle.theory.specs.FarSides.{FarSide}
 use Rattle.theory.specs.FourPoint.{FourPoint}
 use Rattle.theory.specs.Index.{AtLeast, clipped}

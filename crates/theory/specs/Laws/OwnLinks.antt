@@ -10,7 +10,7 @@ use lib.Dec.{eqb, leb, ltb}
 use lib.Pow.{pow-lt, pow-pos}
 use borrow.Author.Tests.{eqb-false, eqb-true, leb-false, lt-leb, ltb-false, ltb-true}
 use borrow.Table.Steps.{cases}
-use Rattle.ground.specs.Ones.{ones-all, ones-full, ones-in, ones-in-two, ones-none, ones-one, ones-out, ones-out-two, ones-pow}
+use Rattle.ground.specs.Laws.Ones.{ones-all, ones-full, ones-in, ones-in-two, ones-none, ones-one, ones-out, ones-out-two, ones-pow}
 use Rattle.theory.specs.FarSides.{FarSide, holds, inner, own}
 use Rattle.theory.specs.Laws.FarSides.{far-image}
 use Rattle.theory.specs.Laws.Nested.{Uncrossed, holds-false, holds-true}

@@ -8,11 +8,14 @@ use Prim.Native.Nat.{max, ℕ, _+_, _<_, _^_, _≤_}
 use native.Mathlib.Omega.{arith}
 use lib.ListN.{length}
 use borrow.Table.Steps.{cases}
-use Rattle.ground.specs.Ascending.{between-mem}
-use Rattle.ground.specs.Filters.{Each, any}
-use Rattle.ground.specs.Maps.{mem-map}
-use Rattle.ground.specs.Sums.{sum-add, sum-le, sum-same, when}
-use Rattle.ground.specs.Tests.{and-l, and-r, not-one-of, one-of, one-of-not, one-of-self, one-of-sym}
+use Rattle.ground.specs.Laws.Ascending.{between-mem}
+use Rattle.ground.specs.Filters.{Each}
+use Rattle.ground.specs.Laws.Filters.{any}
+use Rattle.ground.specs.Laws.Maps.{mem-map}
+use Rattle.ground.specs.Sums.{when}
+use Rattle.ground.specs.Laws.Sums.{sum-add, sum-le, sum-same}
+use Rattle.ground.specs.Tests.{one-of}
+use Rattle.ground.specs.Laws.Tests.{and-l, and-r, not-one-of, one-of-not, one-of-self, one-of-sym}
 use Rattle.theory.specs.FarSides.{FarSide, holds}
 use Rattle.theory.specs.FourPoint.{FourPoint}
 use Rattle.theory.specs.Laws.FourPoint.{NoneAbove, four-point}

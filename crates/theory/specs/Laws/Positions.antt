@@ -7,7 +7,8 @@ use native.Mathlib.Omega.{arith}
 use lib.Dec.{eqb, ltb}
 use borrow.Author.Tests.{ltb-false, ltb-true}
 use borrow.Table.Steps.{cases}
-use Rattle.ground.specs.Bits.{bit, num, num-bit, num-lt}
+use Rattle.ground.specs.Bits.{bit, num}
+use Rattle.ground.specs.Laws.Bits.{num-bit, num-lt}
 use Rattle.ground.specs.Counts.{count, one-if}
 use Rattle.ground.specs.Tests.{one-of}
 use Rattle.theory.specs.FarSides.{holds}

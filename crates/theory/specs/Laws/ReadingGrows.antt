@@ -6,9 +6,10 @@ use mathlib.Core.Path.{ap, ap₂, refl, sym, _∙_, _≡_}
 use Prim.Native.Nat.{min, suc, ℕ, _*_, _+_, _-_, _<_, _^_}
 use native.Mathlib.Omega.{arith}
 use lib.Dec.{ltb}
-use Rattle.ground.specs.Bits.{bit, bit-lt, bit-pow-other, bit-same}
+use Rattle.ground.specs.Bits.{bit}
+use Rattle.ground.specs.Laws.Bits.{bit-lt, bit-pow-other, bit-same}
 use Rattle.ground.specs.Filters.{filter}
-use Rattle.ground.specs.Maps.{filter-map, map-append, map-same}
+use Rattle.ground.specs.Laws.Maps.{filter-map, map-append, map-same}
 use Rattle.theory.specs.FarSides.{inner}
 use Rattle.theory.specs.Index.{clipped}
 use Rattle.theory.specs.Laws.FewSteps.{ext-fast, extFast}

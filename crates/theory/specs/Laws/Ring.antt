@@ -12,7 +12,8 @@ use borrow.Table.Steps.{cases}
 use Rattle.ground.specs.Bits.{bit}
 use Rattle.ground.specs.Counts.{one-if}
 use Rattle.ground.specs.Members.{occurs}
-use Rattle.ground.specs.Tests.{one-of, one-of-from, one-of-self, one-of-sym}
+use Rattle.ground.specs.Tests.{one-of}
+use Rattle.ground.specs.Laws.Tests.{one-of-from, one-of-self, one-of-sym}
 use Rattle.theory.specs.FarSides.{FarSide, holds}
 use Rattle.theory.specs.Index.{AtLeast}
 use Rattle.theory.specs.Laws.Divisions.{stay-far, stay-near}

@@ -12,10 +12,12 @@ use lib.ListN.{getD, length}
 use lib.Pow.{pow-pos}
 use borrow.Author.Tests.{eqb-false, eqb-true}
 use borrow.Table.Steps.{cases}
-use Rattle.ground.specs.Ascending.{Between, between-from}
-use Rattle.ground.specs.Bits.{bit, bit-full}
+use Rattle.ground.specs.Ascending.{Between}
+use Rattle.ground.specs.Laws.Ascending.{between-from}
+use Rattle.ground.specs.Bits.{bit}
+use Rattle.ground.specs.Laws.Bits.{bit-full}
 use Rattle.ground.specs.Filters.{Each}
-use Rattle.ground.specs.Maps.{map-mem}
+use Rattle.ground.specs.Laws.Maps.{map-mem}
 use Rattle.ground.specs.Members.{placeOf}
 use Rattle.theory.specs.FarSides.{FarSide, Within, own}
 use Rattle.theory.specs.Laws.Contained.{within-and}

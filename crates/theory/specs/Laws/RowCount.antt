@@ -11,9 +11,11 @@ use lib.ListN.{length, length-map}
 use lib.Pow.{pow-lt, pow-mono, pow-pos}
 use borrow.Author.Tests.{eqb-true}
 use borrow.Table.Steps.{cases}
-use Rattle.ground.specs.Counts.{count, sum-count-all}
-use Rattle.ground.specs.Maps.{map-mem}
-use Rattle.ground.specs.Sums.{sum, sum-le, when}
+use Rattle.ground.specs.Counts.{count}
+use Rattle.ground.specs.Laws.Counts.{sum-count-all}
+use Rattle.ground.specs.Laws.Maps.{map-mem}
+use Rattle.ground.specs.Sums.{sum, when}
+use Rattle.ground.specs.Laws.Sums.{sum-le}
 use Rattle.theory.specs.FarSides.{own}
 use Rattle.theory.specs.Laws.OnlyOne.{unique}
 use Rattle.theory.specs.Laws.Paths.{path-same, path-self}

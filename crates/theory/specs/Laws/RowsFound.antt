@@ -9,7 +9,8 @@ use borrow.Table.Steps.{cases}
 use Rattle.ground.specs.Bits.{bit}
 use Rattle.ground.specs.Filters.{Each}
 use Rattle.ground.specs.Least.{On}
-use Rattle.ground.specs.Sums.{sum-add, sum-spare, when}
+use Rattle.ground.specs.Sums.{when}
+use Rattle.ground.specs.Laws.Sums.{sum-add, sum-spare}
 use Rattle.theory.specs.FarSides.{holds}
 use Rattle.theory.specs.Index.{AtLeast}
 use Rattle.theory.specs.Laws.Nested.{bit-holds, bit-holds-not, nested-uncrossed}

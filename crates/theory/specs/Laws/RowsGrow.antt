@@ -11,12 +11,14 @@ use lib.Dec.{eqb, leb}
 use lib.ListN.{length, length-append, length-map}
 use borrow.Author.Tests.{lt-leb}
 use borrow.Table.Steps.{cases}
-use Rattle.ground.specs.Ascending.{filter-once}
-use Rattle.ground.specs.Bits.{bit, bit-above, bit-ext, bit-same, bit-top}
-use Rattle.ground.specs.Filters.{both, filter, filter-append, filter-filter, filter-two}
-use Rattle.ground.specs.Maps.{filter-map}
-use Rattle.ground.specs.Ones.{ones-in, ones-out, ones-pow}
-use Rattle.ground.specs.Tests.{and-l, and-r}
+use Rattle.ground.specs.Laws.Ascending.{filter-once}
+use Rattle.ground.specs.Bits.{bit}
+use Rattle.ground.specs.Laws.Bits.{bit-above, bit-ext, bit-same, bit-top}
+use Rattle.ground.specs.Filters.{both, filter}
+use Rattle.ground.specs.Laws.Filters.{filter-append, filter-filter, filter-two}
+use Rattle.ground.specs.Laws.Maps.{filter-map}
+use Rattle.ground.specs.Laws.Ones.{ones-in, ones-out, ones-pow}
+use Rattle.ground.specs.Laws.Tests.{and-l, and-r}
 use Rattle.theory.specs.FarSides.{FarSide, holds, inner, sides}
 use Rattle.theory.specs.Index.{clipped}
 use Rattle.theory.specs.Laws.Divisions.{at-least-less}

@@ -7,7 +7,8 @@ use Prim.Native.Nat.{ℕ}
 use native.Mathlib.Omega.{arith}
 use borrow.Table.Steps.{cases}
 use Rattle.ground.specs.Counts.{one-if}
-use Rattle.ground.specs.Filters.{Each, each-cons, each-nil}
+use Rattle.ground.specs.Filters.{Each}
+use Rattle.ground.specs.Laws.Filters.{each-cons, each-nil}
 use Rattle.ground.specs.Tests.{one-of}
 use Rattle.theory.specs.Laws.Ring.{away-self, turn, turn-away, turn-back}
 use Rattle.theory.specs.LinkTables.{apart}

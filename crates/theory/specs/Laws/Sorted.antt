@@ -8,9 +8,11 @@ use native.Mathlib.Omega.{arith}
 use lib.Dec.{leb}
 use borrow.Author.Tests.{le-ltb, leb-false, leb-true, ltb-false}
 use borrow.Table.Steps.{cases}
-use Rattle.ground.specs.Filters.{Each, filter-none, none-in}
-use Rattle.ground.specs.Maps.{map-mem, mem-map}
-use Rattle.ground.specs.Ranges.{from, from-mem, gather-mem, mem-from, mem-gather}
+use Rattle.ground.specs.Filters.{Each}
+use Rattle.ground.specs.Laws.Filters.{filter-none, none-in}
+use Rattle.ground.specs.Laws.Maps.{map-mem, mem-map}
+use Rattle.ground.specs.Ranges.{from}
+use Rattle.ground.specs.Laws.Ranges.{from-mem, gather-mem, mem-from, mem-gather}
 use Rattle.theory.specs.FourPoint.{Four, FourPoint, failing, fails, four, fours, fours₁, fours₂, fours₃, largest}
 use Rattle.theory.specs.Laws.FourPoint.{largest-left, largest-right, largest-same}
 use Rattle.theory.specs.Tables.{WellFormed}

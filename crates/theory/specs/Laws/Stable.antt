@@ -9,10 +9,12 @@ use native.Mathlib.Omega.{arith}
 use lib.Dec.{eqb, ltb}
 use borrow.Author.Tests.{eq-eqb, ltb-false, ltb-true, ne-eqb}
 use borrow.Table.Steps.{cases}
-use Rattle.ground.specs.Ascending.{Between, between-mem}
+use Rattle.ground.specs.Ascending.{Between}
+use Rattle.ground.specs.Laws.Ascending.{between-mem}
 use Rattle.ground.specs.Bits.{bit}
 use Rattle.ground.specs.Filters.{Each}
-use Rattle.ground.specs.Sums.{sum, sum-filter, sum-map, sum-same, when}
+use Rattle.ground.specs.Sums.{sum, when}
+use Rattle.ground.specs.Laws.Sums.{sum-filter, sum-map, sum-same}
 use Rattle.theory.specs.FarSides.{FarSide, sides}
 use Rattle.theory.specs.Index.{clipped}
 use Rattle.theory.specs.Laws.FarSides.{far-image, sides-all, sides-between}

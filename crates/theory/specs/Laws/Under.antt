@@ -9,11 +9,14 @@ use lib.Dec.{eqb, ltb}
 use borrow.Author.Tests.{eq-eqb, eqb-false, eqb-true, le-ltb, lt-ltb, ltb-false, ltb-true}
 use borrow.Table.Steps.{cases}
 use Rattle.ground.specs.Ascending.{Between}
-use Rattle.ground.specs.Bits.{bit, bit-ext, bit-lt}
-use Rattle.ground.specs.Counts.{count-row, sum-count}
+use Rattle.ground.specs.Bits.{bit}
+use Rattle.ground.specs.Laws.Bits.{bit-ext, bit-lt}
+use Rattle.ground.specs.Laws.Counts.{count-row, sum-count}
 use Rattle.ground.specs.Filters.{Each}
-use Rattle.ground.specs.Least.{On, le-leastOn, leastOn, leastOn-le}
-use Rattle.ground.specs.Sums.{sum, sum-le, sum-map, when}
+use Rattle.ground.specs.Least.{On, leastOn}
+use Rattle.ground.specs.Laws.Least.{le-leastOn, leastOn-le}
+use Rattle.ground.specs.Sums.{sum, when}
+use Rattle.ground.specs.Laws.Sums.{sum-le, sum-map}
 use Rattle.theory.specs.FarSides.{FarSide}
 use Rattle.theory.specs.Index.{AtLeast, clipped}
 use Rattle.theory.specs.Laws.Index.{clipped-low}

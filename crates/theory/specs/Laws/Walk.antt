@@ -13,7 +13,8 @@ use borrow.Table.Steps.{cases}
 use Rattle.ground.specs.Buffers.{front}
 use Rattle.ground.specs.Filters.{Each}
 use Rattle.ground.specs.Members.{occurs}
-use Rattle.ground.specs.Totals.{total, total-each, total-least, total-occurs}
+use Rattle.ground.specs.Totals.{total}
+use Rattle.ground.specs.Laws.Totals.{total-each, total-least, total-occurs}
 use Rattle.theory.specs.Laws.Next.{Least, None, next-is}
 use Rattle.theory.specs.Laws.ReadingGrows.{step}
 use Rattle.theory.specs.Order.{AllOnce, grow, lastOf, next, order}

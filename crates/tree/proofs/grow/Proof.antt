@@ -2,7 +2,7 @@
 use mathlib.Core.Path.{refl}
 use borrow.Author.Needs.{needs}
 use Rattle.theory.specs.Tables.{limit}
-use Rattle.tree.specs.Held.{held-more, room-inside, room-outside, room-own}
+use Rattle.tree.specs.Laws.Held.{held-more, room-inside, room-outside, room-own}
 use Rattle.tree.proofs.grow.Statement.{statement}
 use Rattle.tree.proofs.grow.Tie as tie
 

@@ -4,7 +4,8 @@ use mathlib.Core.Path.{_≡_, refl}
 use native.Mathlib.Omega.{arith}
 use borrow.Author.Needs.{needs}
 use Rattle.theory.specs.Tables.{cost, limit}
-use Rattle.tree.specs.Held.{Held, held-none}
+use Rattle.tree.specs.Held.{Held}
+use Rattle.tree.specs.Laws.Held.{held-none}
 use Rattle.tree.proofs.measured_rows.Statement.{statement}
 use Rattle.tree.proofs.measured_rows.Tie as tie
 

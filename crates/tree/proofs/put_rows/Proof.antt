@@ -4,9 +4,10 @@ use native.Mathlib.Omega.{arith}
 use lib.ListN.{getD, length}
 use borrow.Author.Needs.{needs}
 use Rattle.theory.specs.Tables.{cost, limit}
-use Rattle.tree.specs.Held.{held-row, with-image}
+use Rattle.tree.specs.Laws.Held.{held-row, with-image}
 use Rattle.tree.specs.LocalRows.{rowsIn}
-use Rattle.tree.specs.Putting.{PutAll, put-end, put-more, put-none, put-room}
+use Rattle.tree.specs.Putting.{PutAll}
+use Rattle.tree.specs.Laws.Putting.{put-end, put-more, put-none, put-room}
 use Rattle.tree.proofs.put_rows.Statement.{statement}
 use Rattle.tree.proofs.put_rows.Tie as tie
 

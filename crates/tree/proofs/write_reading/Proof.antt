@@ -3,7 +3,7 @@ use native.Mathlib.Nat.{le-trans}
 use native.Mathlib.Omega.{arith}
 use borrow.Author.Needs.{needs}
 use Rattle.theory.specs.Tables.{limit}
-use Rattle.tree.specs.Writing.{held-count, wrote}
+use Rattle.tree.specs.Laws.Writing.{held-count, wrote}
 use Rattle.tree.proofs.write_reading.Statement.{statement}
 use Rattle.tree.proofs.write_reading.Tie as tie
 

@@ -4,10 +4,12 @@ use mathlib.Core.Path.{_∙_, _≡_, refl}
 use Prim.Native.Nat.{ℕ, _-_, _≤_}
 use native.Mathlib.Omega.{arith}
 use borrow.Author.Needs.{needs}
-use Rattle.ground.specs.Lowest.{all-ends, all-goes, all-stops, checkAll}
+use Rattle.ground.specs.Lowest.{checkAll}
+use Rattle.ground.specs.Laws.Lowest.{all-ends, all-goes, all-stops}
 use Rattle.theory.specs.Tables.{CostTable, cost, limit}
 use Rattle.wiring.specs.Check.{wiringCheck}
-use Rattle.wiring.specs.Scan.{scan-wiring, secondScan, thirdScan}
+use Rattle.wiring.specs.Scan.{secondScan, thirdScan}
+use Rattle.wiring.specs.Laws.Scan.{scan-wiring}
 use Rattle.wiring.proofs.check_wiring.Statement.{statement}
 use Rattle.wiring.proofs.check_wiring.Tie as tie
 

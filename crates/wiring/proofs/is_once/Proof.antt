@@ -1,7 +1,7 @@
 -- `wiring::is_once` meets its contract: one of the three is above both others. Assumes nothing.
 use mathlib.Core.Path.{_∙_, sym}
 use borrow.Author.Needs.{needs}
-use Rattle.wiring.specs.Once.{once-first, once-second, once-third}
+use Rattle.wiring.specs.Laws.Once.{once-first, once-second, once-third}
 use Rattle.wiring.proofs.is_once.Statement.{statement}
 use Rattle.wiring.proofs.is_once.Tie as tie
 

@@ -2,7 +2,8 @@
 use mathlib.Core.Path.{_≡_, refl}
 use Prim.Native.Nat.{_-_, _≤_}
 use borrow.Author.Needs.{needs}
-use Rattle.ground.specs.Lowest.{all-ends, all-goes, all-stops, checkAll}
+use Rattle.ground.specs.Lowest.{checkAll}
+use Rattle.ground.specs.Laws.Lowest.{all-ends, all-goes, all-stops}
 use Rattle.theory.specs.Tables.{cost}
 use Rattle.wiring.specs.Scan.{fourCheck, lastScan}
 use Rattle.wiring.proofs.scan_last.Statement.{statement}

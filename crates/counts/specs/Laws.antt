@@ -1,0 +1,7 @@
+-- How the code counts.
+pub mod Tally
+pub mod Merge
+-- What the count is worth: the slip of document 01, the triangle inequality, how many inner rows there are.
+pub mod Formula
+pub mod Distance
+pub mod InnerRows

@@ -1,0 +1,23 @@
+-- Tests and numbers.
+pub mod Tests
+pub mod Bits
+pub mod Ones
+pub mod Shifts
+pub mod Least
+pub mod Signed
+-- Lists.
+pub mod Filters
+pub mod Maps
+pub mod Ascending
+pub mod Ranges
+pub mod Sums
+pub mod Counts
+pub mod Members
+pub mod Totals
+-- What code does: search, carry a number along, write a buffer, refuse.
+pub mod First
+pub mod Folds
+pub mod Buffers
+pub mod Refusals
+pub mod Lowest
+pub mod Outcomes

@@ -1,0 +1,5 @@
+-- When the call is accepted.
+pub mod Passed
+-- The lists of both sides, and the index over one image more.
+pub mod Sides
+pub mod Grown

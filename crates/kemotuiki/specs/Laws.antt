@@ -1,0 +1,2 @@
+-- What a call promises crosses unchanged.
+pub mod Crossing

@@ -1,0 +1,46 @@
+-- The writer's checks pass exactly for the link tables that the lent bytes have room for, and how the writer meets its outcome. Assumes nothing.
+use mathlib.Core.List.{List}
+use mathlib.Core.Path.{_≡_}
+use Prim.Native.Nat.{ℕ, _*_, _-_, _≤_}
+use native.Mathlib.Omega.{arith}
+use lib.ListN.{length}
+use borrow.Author.Tests.{le-ltb}
+use Rattle.ground.specs.Refusals.{roomCheck}
+use Rattle.ground.specs.Laws.Refusals.{then-passed}
+use Rattle.ground.specs.declared.Check.the-variants.{Passed}
+use Rattle.theory.specs.LinkTables.{LinkTable, rowsOf}
+use Rattle.link_writer.specs.Writing.{RoomFor, fitChecks, writeChecks}
+use Rattle.links.specs.Checks.{rowChecks, sizeChecks}
+use Rattle.links.specs.Laws.LinkChecks.{Links, link-checks, row-checks, sizes-passed}
+use Rattle.stored_links.specs.Form.{linkUsed}
+use Rattle.stored_links.specs.Laws.Passed.{room-passed}
+use Rattle.ground.specs.declared.Written.the-variants as written
+
+-- what passes the last three checks, where the rows are as many as counted
+pub fit-passed : (head w L n : ℕ) (l v : List ℕ) (room : ℕ) → length l ≡ length v → fitChecks head w L n l v room ≡ Passed
+    → LinkTable L n (rowsOf l v) × (linkUsed head w n (length l) ≤ room)
+fit-passed head w L n l v room h e =
+    let q = then-passed (rowChecks L n l v) (roomCheck (linkUsed head w n (length l)) room) e in
+    (row-checks L n l v h .0 (q .0), room-passed (linkUsed head w n (length l)) room (q .1))
+
+module _ (head w L n N : ℕ) (l v : List ℕ) (room : ℕ) where
+  pub write-passed : writeChecks head w L n N l v room ≡ Passed → Links L n N l v × (n ≤ N) × (N ≤ 2 * n - 3) × (linkUsed head w n (length l) ≤ room)
+  write-passed e =
+      let p = then-passed (sizeChecks n N l v) (fitChecks head w L n l v room) e in
+      let q = then-passed (rowChecks L n l v) (roomCheck (linkUsed head w n (length l)) room) (p .1) in
+      let s = sizes-passed n N l v (p .0) in
+      (link-checks L n N l v .0 (rw (p .0) (q .0)), s .least, s .most, room-passed (linkUsed head w n (length l)) room (q .1))
+
+  pub passed-write : Links L n N l v → linkUsed head w n (length l) ≤ room → writeChecks head w L n N l v room ≡ Passed
+  passed-write t h =
+      let p = then-passed (sizeChecks n N l v) (rowChecks L n l v) (link-checks L n N l v .1 t) in
+      rw (p .0, p .1, le-ltb room (linkUsed head w n (length l)) h)
+
+  -- so the raw writer may be called
+  pub passed-room : head ≤ 7 → w ≤ 32 → writeChecks head w L n N l v room ≡ Passed → RoomFor head w n (length l) room × (length v ≡ length l)
+  passed-room h k e =
+      let t = write-passed e in
+      let s = t .0 in (
+        record { small = record { short = h; narrow = k; some = s .some; few = s .few; rows = omega (arith, s .counted, s .few, t .2) }; fits = t .3 },
+        omega (arith, s .counted, s .costed),
+      )

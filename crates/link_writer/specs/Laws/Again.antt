@@ -1,0 +1,42 @@
+-- Writing what was read, for any form. Assumes nothing.
+use mathlib.Core.List.{List}
+use mathlib.Core.Path.{ap, ap₂, _∙_, _≡_}
+use Prim.Native.Nat.{ℕ, _/_, _≤_}
+use native.Mathlib.Omega.{arith}
+use lib.ListN.{drop, length, take}
+use Rattle.ground.specs.Buffers.{front}
+use Rattle.ground.specs.declared.Written.{Written}
+use Rattle.ground.specs.declared.Written.the-variants.{Places}
+use Rattle.ground.specs.Outcomes.{Outcome}
+use Rattle.bits.specs.Bits.{AllBytes}
+use Rattle.link_writer.specs.Laws.Accepted.{passed-write}
+use Rattle.link_writer.specs.Writing.{writeOutcome}
+use Rattle.links.specs.Laws.LinkChecks.{Links}
+use Rattle.stored_links.specs.Form.{linkBytes, linkUsed}
+use Rattle.stored_links.specs.Laws.Positions.{TableAt}
+use Rattle.stored_links.specs.Laws.ReadAt.{used-bytes}
+use Rattle.stored_links.specs.Laws.WriteBack.{read-links}
+use Rattle.stored_links.specs.Said.{costsOf, farsOf, markOf}
+
+-- an accepted writing of the bytes m into the lent ones
+abbrev pub wroteInto : ℕ → List ℕ → List ℕ → Outcome Written
+wroteInto used m out = record { answer = Places used; places = front m out }
+
+module _ (head w L : ℕ) where
+  -- a link table is written where there is room for it
+  pub written-is : (mark n N : ℕ) (l v out : List ℕ) → Links L n N l v → linkUsed head w n N ≤ length out
+      → writeOutcome head mark w L n N l v out ≡ wroteInto (linkUsed head w n N) (linkBytes head mark w n l v) out
+  written-is mark n N l v out t h =
+      let e : linkUsed head w n (length l) ≡ linkUsed head w n N = ap (linkUsed head w n) (t .counted) in
+      let p = passed-write head w L n N l v (length out) t (rw e h) in
+      rw p (ap (λ (x : ℕ). wroteInto x (linkBytes head mark w n l v) out) e)
+
+  -- writing what was read gives the same used bytes
+  pub read-again : (bytes : List ℕ) (position n N used : ℕ) (out : List ℕ) → AllBytes bytes → TableAt head w L bytes position n N used → used ≤ length out
+      → writeOutcome head (markOf head (drop (position / 8) bytes)) w L n N (farsOf head w n N (drop (position / 8) bytes)) (costsOf head w n N (drop (position / 8) bytes)) out
+      ≡ wroteInto used (take used (drop (position / 8) bytes)) out
+  read-again bytes position n N used out b t h =
+      let s = drop (position / 8) bytes in
+      let e = t .used-is in
+      written-is (markOf head s) n N (farsOf head w n N s) (costsOf head w n N s) out (read-links head w L n N s (t .stored)) (omega (arith, e, h))
+      ∙ ap₂ (λ (x : ℕ) (m : List ℕ). wroteInto x m out) e (used-bytes head w L bytes position n N used b t)

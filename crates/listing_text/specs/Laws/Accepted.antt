@@ -1,0 +1,109 @@
+-- What the calls that a listing makes have shown by then, and what they have left. Assumes nothing.
+use mathlib.Core.List.{List}
+use mathlib.Core.Path.{ap, refl, sym, _∙_, _≡_}
+use Prim.Native.Nat.{ℕ, _≤_}
+use native.Mathlib.Omega.{arith}
+use lib.ListN.{length, length-map, take}
+use lib.Seq.{length-take-le, take-at}
+use Rattle.ground.specs.Buffers.{front}
+use Rattle.ground.specs.declared.Check.{Check}
+use Rattle.ground.specs.declared.Check.the-variants.{Passed, Refused}
+use Rattle.ground.specs.declared.Refusal.{Refusal}
+use Rattle.ground.specs.Outcomes.{Left, Outcome}
+use Rattle.ground.specs.declared.Written.{Written}
+use Rattle.ground.specs.declared.Written.the-variants.{Places}
+use Rattle.ground.specs.declared.Written.the-variants as written
+use Rattle.theory.specs.Laws.RowCount.{row-count}
+use Rattle.theory.specs.LinkTables.{costs, far, fars, rowsOf}
+use Rattle.theory.specs.Outcomes.{LeftRows}
+use Rattle.theory.specs.Readings.{measured}
+use Rattle.theory.specs.Routes.{uppers}
+use Rattle.theory.specs.Tables.{CostTable, cost, limit}
+use Rattle.wiring.specs.Check.{wiringCheck}
+use Rattle.links.specs.Laws.LinkChecks.{Links, rows-length}
+use Rattle.routes.specs.Outcomes.{upperOutcome}
+use Rattle.routes.specs.Promises.{upper-answer}
+use Rattle.routes.specs.Laws.UpperRows.{uppers-length}
+use Rattle.order.specs.Laws.Asked.{Asked}
+use Rattle.order.specs.Outcome.{images, orderOutcome}
+use Rattle.order.specs.Promises.{order-accepted, order-wrote}
+use Rattle.tree.specs.Promises.{exact-answer}
+use Rattle.tree.specs.Readings.{exactCheck, exactOutcome, outcome}
+use Rattle.tree.specs.Laws.Writing.{measured-passed}
+use Rattle.listing_text.specs.Lines.{refusedLine}
+use Rattle.listing_text.specs.Listing.{readingText, tableText, textIf}
+
+-- ## Upper rows and order of a table that was read
+
+-- a link table has at most 125 rows
+pub links-few : (n : ℕ) (l v : List ℕ) → Links limit n (length l) l v → length l ≤ 125
+links-few n l v t =
+    let e : length l ≡ length v = sym (t .costed) in
+    omega (arith, t .few, row-count limit n (rowsOf l v) (t .some) (t .table), rows-length l v e)
+
+-- the upper rows that were left
+pub uppers-left : (n : ℕ) (l v o e : List ℕ) (r : Written) → Links limit n (length l) l v → 125 ≤ length o → Left (upperOutcome limit n (length l) l v o) r e
+    → take (length l) e ≡ uppers l
+uppers-left n l v o e r t h p =
+    let k = upper-answer limit n (length l) l v o (record { table = t; spare = omega (arith, t .few) }) in
+    ap (take (length l)) (p .left ∙ ap (λ (w : Outcome Written). w .places) k) ∙ take-at (uppers l) _ (length l) (uppers-length 1 l)
+
+pub order-asked : (n : ℕ) (t o : List ℕ) → CostTable limit n t → 64 ≤ length o → Asked limit n t 1 n (length o)
+order-asked n t o c h = record {
+  table = c;
+  space = omega (arith, c .few);
+  first-low = omega arith;
+  first-high = omega (arith, c .some);
+  last-low = omega (arith, c .some);
+  last-high = omega arith;
+  differ = λ e. omega (arith, c .some);
+}
+
+-- the order that was left
+pub order-left : (n : ℕ) (t o e : List ℕ) (r : Written) → CostTable limit n t → 64 ≤ length o → Left (orderOutcome limit n t 1 n o) r e
+    → (take n e ≡ images n t 1 n) × (length (images n t 1 n) ≡ n)
+order-left n t o e r c h p =
+    let a = order-accepted limit n t 1 n o r e p (order-asked n t o c h) in
+    let w = order-wrote limit n t 1 n o r e n p a .1 in
+    (w .wrote, sym (ap length (w .wrote)) ∙ length-take-le n e (omega (arith, w .size, c .few)))
+
+-- ## The exact reading of a cost table
+
+-- only 7 is left to refuse
+exact-wiring : (n : ℕ) (t f v : List ℕ) → CostTable limit n t → 125 ≤ length f → 125 ≤ length v → exactCheck limit n t (length f) (length v) ≡ wiringCheck (cost t n) n
+exact-wiring n t f v c a b =
+    rw (measured-passed limit n t (length f) (length v) .1 (record { table = c; far-room = omega (arith, c .few); cost-room = omega (arith, c .few) })) refl
+
+pub table-refused : (n : ℕ) (t f v f′ v′ : List ℕ) (q : Refusal) → CostTable limit n t → 125 ≤ length f → 125 ≤ length v
+    → LeftRows (exactOutcome limit n t f v) (written.Refused q) f′ v′ → tableText n t ≡ refusedLine q
+table-refused n t f v f′ v′ q c a b l = go (wiringCheck (cost t n) n) _ (rw (exact-wiring n t f v c a b) at (l .answered))
+  where
+    go : (k : Check) (m : List ℕ) → written.Refused q ≡ outcome k (measured limit (cost t n) n) f v .answer → textIf k m ≡ refusedLine q
+    go Passed m e = absurd (let z : _≡_ {A = ℕ} 0 1 = cc in omega arith)
+    go (Refused p) m e = let s : p ≡ q = cc in ap refusedLine s
+
+-- the rows r that were left in front: a link table, and the text of the table is theirs
+pub record Read (n : ℕ) (t : List ℕ) (r : ℕ) (f v : List ℕ) : Type 0 where
+  pub few : r ≤ 125
+  pub far-length : length (take r f) ≡ r
+  pub cost-length : length (take r v) ≡ r
+  pub links : Links limit n (length (take r f)) (take r f) (take r v)
+  pub text : tableText n t ≡ readingText n (take r f) (take r v) (uppers (take r f)) (images n t 1 n)
+
+pub table-read : (n : ℕ) (t f v f′ v′ : List ℕ) (r : ℕ) → CostTable limit n t → 125 ≤ length f → 125 ≤ length v → LeftRows (exactOutcome limit n t f v) (Places r) f′ v′ → Read n t r f′ v′
+table-read n t f v f′ v′ r c a b l =
+    let T = measured limit (cost t n) n in
+    let g = go (wiringCheck (cost t n) n) _ (rw (exact-wiring n t f v c a b) at (l .answered)) (rw (exact-wiring n t f v c a b) at (l .far-sides)) (rw (exact-wiring n t f v c a b) at (l .doubled)) in
+    let x : length (take r f′) ≡ r = ap length (g .1) ∙ length-map T far ∙ sym (g .0) in
+    let y : length (take r v′) ≡ r = ap length (g .2) ∙ length-map T (λ q. q .1) ∙ sym (g .0) in
+    let k : Links limit n (length (take r f′)) (take r f′) (take r v′) =
+    record { some = c .some; few = c .few; counted = refl; costed = y ∙ sym x; table = exact-answer limit n t f v r f′ v′ l .exact .tree } in
+    record { few = omega (arith, x, links-few n (take r f′) (take r v′) k); far-length = x; cost-length = y; links = k; text = g .3 ∙ rw (g .1, g .2) refl }
+  where
+    go : (k : Check) (m : List ℕ) → Places r ≡ outcome k (measured limit (cost t n) n) f v .answer → f′ ≡ outcome k (measured limit (cost t n) n) f v .far-list → v′ ≡ outcome k (measured limit (cost t n) n) f v .cost-list
+        → (r ≡ length (measured limit (cost t n) n)) × (take r f′ ≡ fars (measured limit (cost t n) n)) × (take r v′ ≡ costs (measured limit (cost t n) n)) × (textIf k m ≡ m)
+    go Passed m e x y =
+        let T = measured limit (cost t n) n in
+        let s : r ≡ length T = cc in
+        (s, ap (take r) x ∙ take-at (fars T) _ r (length-map T far ∙ sym s), ap (take r) y ∙ take-at (costs T) _ r (length-map T (λ q. q .1) ∙ sym s), refl)
+    go (Refused p) m e x y = absurd (let z : _≡_ {A = ℕ} 0 1 = cc in omega arith)

@@ -1,0 +1,2 @@
+-- The checks pass exactly for cost tables.
+pub mod Formed

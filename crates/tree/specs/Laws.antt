@@ -1,0 +1,6 @@
+-- Rows in local arrays, one image more, and the rows written.
+pub mod LocalRows
+pub mod Growing
+pub mod Putting
+pub mod Held
+pub mod Writing

@@ -1,0 +1,3 @@
+-- One test, and that the scan finds the first of all.
+pub mod Once
+pub mod Scan
