@@ -7,9 +7,8 @@ use lib.Dec.{eqb}
 use lib.ListN.{drop, length, take}
 use Rattle.ground.specs.Buffers.{front}
 use Rattle.ground.specs.Outcomes.{Outcome}
-use Rattle.ground.specs.Refusals.{refusal, refuseIf}
+use Rattle.ground.specs.Refusals.{ifPassed, refusal, refuseIf}
 use Rattle.ground.specs.declared.Check.{Check}
-use Rattle.ground.specs.declared.Check.the-variants.{Passed, Refused}
 use Rattle.stored_links.specs.Form.{linkBytes, linkUsed}
 use Rattle.batch.specs.Tables.{Table, leftOverChecks, nextChecks, tables}
 use Rattle.batch.specs.declared.Batched.{Batched}
@@ -18,8 +17,7 @@ use Rattle.batch.specs.declared.Batched.the-variants as batched
 
 -- the answer b where the check passed, else its refusal with the table's number k beside it
 abbrev pub numbered : ℕ → Check → Batched → Batched
-numbered k Passed b = b
-numbered k (Refused r) b = batched.Refused k r
+numbered k c b = ifPassed (batched.Refused k) c b
 
 -- the answer for the tables that follow the first k, which used so many bytes and left the rows l and v and so much room
 unfoldable pub batchFrom : ℕ → ℕ → ℕ → ℕ → ℕ → List Table → List ℕ → List ℕ → ℕ → Batched

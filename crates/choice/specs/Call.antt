@@ -5,9 +5,8 @@ use mathlib.Core.List.{List, []}
 use Prim.Native.Nat.{ℕ}
 use lib.Dec.{eqb}
 use lib.ListN.{take}
-use Rattle.ground.specs.Refusals.{refusal, refuseIf}
+use Rattle.ground.specs.Refusals.{ifPassed, refusal, refuseIf}
 use Rattle.ground.specs.declared.Check.{Check}
-use Rattle.ground.specs.declared.Check.the-variants.{Passed, Refused}
 use Rattle.theory.specs.Comparison.{inners}
 use Rattle.stored_links.specs.Reading.{tableChecks}
 use Rattle.stored_links.specs.Said.{countOf, farsOf, imagesOf, usedOf}
@@ -26,8 +25,7 @@ innersOf head w s = inners (imagesOf head s) (sidesOf head w s)
 
 -- a refusal with the table's number m beside the places, or what follows where the check passed
 abbrev pub numbered : ℕ → Check → Chosen → Chosen
-numbered m Passed y = y
-numbered m (Refused r) y = answer.Refused m r
+numbered m c y = ifPassed (answer.Refused m) c y
 
 -- 15: stored tables of different n
 abbrev pub imagesAgree : ℕ → ℕ → Check

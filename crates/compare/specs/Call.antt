@@ -1,9 +1,8 @@
 -- What the comparison answers, in document 01's words.
 use mathlib.Core.List.{List}
 use Prim.Native.Nat.{ℕ}
-use Rattle.ground.specs.Refusals.{_then_}
+use Rattle.ground.specs.Refusals.{ifPassed, _then_}
 use Rattle.ground.specs.declared.Check.{Check}
-use Rattle.ground.specs.declared.Check.the-variants.{Passed, Refused}
 use Rattle.theory.specs.LinkTables.{fars}
 use Rattle.theory.specs.Readings.{measured}
 use Rattle.theory.specs.Tables.{cost}
@@ -21,8 +20,7 @@ tableCheck L n t = lengthCheck n t then costsCheck L (cost t n) n then wiringChe
 
 -- a refusal with the table's number m beside the places, or what follows where the check passed
 abbrev pub numbered : ℕ → Check → Comparison → Comparison
-numbered m Passed y = y
-numbered m (Refused r) y = answer.Refused m r
+numbered m c y = ifPassed (answer.Refused m) c y
 
 -- the far sides of the table's tree; on an accepted table this is the exact reading
 abbrev pub sidesOf : ℕ → ℕ → List ℕ → List ℕ

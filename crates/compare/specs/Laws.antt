@@ -1,5 +1,4 @@
 -- How the code meets the answer.
-pub mod Chain
 pub mod Read
 -- When both tables are accepted.
 pub mod Accepted

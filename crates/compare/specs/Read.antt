@@ -8,7 +8,6 @@ use Rattle.ground.specs.Ascending.{Between}
 use Rattle.ground.specs.Refusals.{placesIf}
 use Rattle.ground.specs.declared.Check.the-variants.{Passed}
 use Rattle.ground.specs.declared.Written.{Written}
-use Rattle.ground.specs.declared.Written.the-variants as written
 use Rattle.theory.specs.LinkTables.{far}
 use Rattle.compare.specs.Call.{sidesOf, tableCheck}
 

@@ -8,7 +8,6 @@ use Rattle.ground.specs.Refusals.{placesIf}
 use Rattle.ground.specs.declared.Check.{Check}
 use Rattle.ground.specs.declared.Check.the-variants.{Passed, Refused}
 use Rattle.ground.specs.declared.Written.{Written}
-use Rattle.ground.specs.declared.Written.the-variants as written
 
 pub record Outcome (A : Type 0) : Type 0 where
   pub answer : A

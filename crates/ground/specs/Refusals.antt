@@ -35,12 +35,15 @@ outside low high m = ltb m low || ltb high m
 abbrev pub roomCheck : ℕ → ℕ → Check
 roomCheck needed room = refuseIf (ltb room needed) (refusal 3 0 0 0 0)
 
+-- y where the check passed; else its refusal, as the answer has it
+abbrev pub ifPassed : {A : Type 0} → (Refusal → A) → Check → A → A
+ifPassed refused Passed y = y
+ifPassed refused (Refused r) y = refused r
+
 -- the value where the check passed
 abbrev pub valueIf : Check → ℕ → Answer
-valueIf Passed v = Value v
-valueIf (Refused r) v = answer.Refused r
+valueIf c v = ifPassed answer.Refused c (Value v)
 
 -- the number of places written where the check passed
 abbrev pub placesIf : Check → ℕ → Written
-placesIf Passed v = Places v
-placesIf (Refused r) v = written.Refused r
+placesIf c v = ifPassed written.Refused c (Places v)

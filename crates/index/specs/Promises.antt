@@ -8,7 +8,7 @@ use lib.Dec.{ltb}
 use borrow.Author.Tests.{ltb-false, ltb-true}
 use borrow.Table.Steps.{cases}
 use Rattle.ground.specs.Bits.{bit}
-use Rattle.ground.specs.Laws.Refusals.{value-accepted}
+use Rattle.ground.specs.Laws.Refusals.{if-accepted}
 use Rattle.ground.specs.declared.Answer.{Answer}
 use Rattle.ground.specs.declared.Answer.the-variants.{Value}
 use Rattle.theory.specs.FarSides.{FarSide}
@@ -18,6 +18,7 @@ use Rattle.theory.specs.Laws.Index.{clipped-cap, clipped-low, low-clipped}
 use Rattle.theory.specs.Tables.{WellFormed, cost}
 use Rattle.index.specs.Call.{indexAnswer, indexCheck}
 use Rattle.index.specs.Laws.Passed.{Accepted, index-passed}
+use Rattle.ground.specs.declared.Answer.the-variants as answer
 
 -- v is the most that all choices of images on the two sides support, or 0 where they support nothing
 pub record IndexIs (d : ℕ → ℕ → ℕ) (n S v : ℕ) : Type 0 where
@@ -40,12 +41,13 @@ pub record Answered (L n : ℕ) (t : List ℕ) (S v : ℕ) : Type 0 where
 
 pub index-answered : (L n : ℕ) (t : List ℕ) (S v : ℕ) → indexAnswer L n t S ≡ Value v → Answered L n t S v
 index-answered L n t S v e =
-    let p = value-accepted (indexCheck L n t S) (clipped L (cost t n) n (bit S)) v e in
+    let p = if-accepted answer.Refused (indexCheck L n t S) (Value (clipped L (cost t n) n (bit S))) (λ r q. absurd (let z : _≡_ {A = ℕ} 0 1 = cc in omega arith)) e in
+    let same : clipped L (cost t n) n (bit S) ≡ v = let q = p .1 in cc in
     let a = index-passed L n t S .0 (p .0) in
     record {
       accepted = a;
-      value = subst (IndexIs (cost t n) n S) (p .1) (index-is L (cost t n) n S (a .table .formed) (a .side));
-      most = omega (arith, clipped-cap L (cost t n) n (bit S), p .1);
+      value = subst (IndexIs (cost t n) n S) same (index-is L (cost t n) n S (a .table .formed) (a .side));
+      most = omega (arith, clipped-cap L (cost t n) n (bit S), same);
     }
 
 -- no second answer meets the promise, and no second number is the index

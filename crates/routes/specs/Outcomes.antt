@@ -10,7 +10,6 @@ use Rattle.ground.specs.declared.Written.{Written}
 use Rattle.theory.specs.LinkTables.{path, rowsOf}
 use Rattle.theory.specs.Routes.{route, uppers}
 use Rattle.routes.specs.Orders.{pathChecks, routeChecks, upperChecks}
-use Rattle.ground.specs.declared.Written.the-variants as written
 
 -- the path cost of images i and j
 abbrev pub pathOutcome : ℕ → ℕ → ℕ → List ℕ → List ℕ → ℕ → ℕ → Answer

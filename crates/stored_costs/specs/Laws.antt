@@ -4,7 +4,6 @@ pub mod Tables
 pub mod Filling
 pub mod Sizes
 pub mod Passed
-pub mod Outcomes
 pub mod Form
 pub mod ReadBack
 pub mod WriteBack

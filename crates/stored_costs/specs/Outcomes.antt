@@ -4,17 +4,16 @@ use Prim.Native.Nat.{ℕ, _/_}
 use lib.ListN.{drop, length}
 use Rattle.ground.specs.Outcomes.{Outcome, frontIf}
 use Rattle.ground.specs.declared.Check.{Check}
-use Rattle.ground.specs.declared.Check.the-variants.{Passed, Refused}
 use Rattle.stored_costs.specs.Form.{costUsed, costsOf, imagesOf}
 use Rattle.stored_costs.specs.Reading.{readAtChecks}
 use Rattle.stored_costs.specs.declared.StoredCosts.{StoredCosts}
 use Rattle.stored_costs.specs.declared.StoredCosts.the-variants.{Table}
+use Rattle.ground.specs.Refusals.{ifPassed}
 use Rattle.stored_costs.specs.declared.StoredCosts.the-variants as stored
 
 -- n and the bytes used where the check passed
 abbrev pub tableIf : Check → ℕ → ℕ → StoredCosts
-tableIf Passed n used = Table n used
-tableIf (Refused r) n used = stored.Refused r
+tableIf c n used = ifPassed stored.Refused c (Table n used)
 
 -- what reading at the position answers, where so many places are lent: n and the bytes used by this table alone, or the first refusal
 abbrev pub judged : ℕ → ℕ → ℕ → List ℕ → ℕ → ℕ → StoredCosts

@@ -4,18 +4,17 @@ use Prim.Native.Nat.{min, ℕ, _/_}
 use lib.ListN.{drop, length}
 use Rattle.ground.specs.Outcomes.{frontIf}
 use Rattle.ground.specs.declared.Check.{Check}
-use Rattle.ground.specs.declared.Check.the-variants.{Passed, Refused}
 use Rattle.theory.specs.Outcomes.{RowsOutcome}
 use Rattle.stored_links.specs.Reading.{readAtChecks, tableAtChecks}
 use Rattle.stored_links.specs.Said.{costsOf, countOf, farsOf, imagesOf, usedOf}
 use Rattle.stored_links.specs.declared.StoredLinks.{StoredLinks}
 use Rattle.stored_links.specs.declared.StoredLinks.the-variants.{Table}
+use Rattle.ground.specs.Refusals.{ifPassed}
 use Rattle.stored_links.specs.declared.StoredLinks.the-variants as stored
 
 -- n, the row count and the bytes used where the check passed
 abbrev pub tableIf : Check → ℕ → ℕ → ℕ → StoredLinks
-tableIf Passed n N used = Table n N used
-tableIf (Refused r) n N used = stored.Refused r
+tableIf c n N used = ifPassed stored.Refused c (Table n N used)
 
 -- the answer for the bytes s, by the check
 abbrev pub saidIf : Check → ℕ → ℕ → List ℕ → StoredLinks

@@ -5,7 +5,8 @@ use lib.Dec.{eqb}
 use lib.ListN.{length}
 use borrow.Author.Tests.{eqb-true, not-false}
 use Rattle.ground.specs.Laws.Refusals.{refuseIf-passed}
-use Rattle.batch.specs.Laws.Answers.{numbered-goes, numbered-stops}
+use Rattle.ground.specs.Laws.Refusals.{if-goes, if-stops}
+use Rattle.batch.specs.declared.Batched.the-variants as batched
 use borrow.Author.Needs.{needs}
 use Rattle.batch.proofs.check_batch.Statement.{statement}
 use Rattle.batch.proofs.check_batch.Tie as tie
@@ -27,10 +28,10 @@ check-tables-requires c κs =
     eqb-true _ _ (not-false b (refuseIf-passed (not b) _ (sym (e .refuse-if .ensures) ∙ c .enum-told .given .1)))
 
 returns : tie.Need-returns
-returns c = numbered-stops _ _ _ (c .before .r .given .1) (c .before .before .before .refuse-if .ensures)
+returns c = if-stops (batched.Refused _) _ _ (c .before .r .given .1) (c .before .before .before .refuse-if .ensures)
 
 returns-2 : tie.Need-returns-2
-returns-2 c = let d = c .before in numbered-goes _ _ _ (d .enum-told .given .1) (d .before .before .refuse-if .ensures) (c .check-tables .ensures)
+returns-2 c = let d = c .before in if-goes (batched.Refused _) _ _ (d .enum-told .given .1) (d .before .before .refuse-if .ensures) (c .check-tables .ensures)
 
 pub check-batch-spec : {M : Type 1} → statement M
 check-batch-spec =

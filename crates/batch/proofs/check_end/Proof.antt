@@ -2,7 +2,8 @@
 use mathlib.Core.Path.{refl, _≡_}
 use lib.ListN.{drop}
 use Rattle.ground.specs.Laws.Buffers.{rest-part}
-use Rattle.batch.specs.Laws.Answers.{numbered-goes, numbered-stops}
+use Rattle.ground.specs.Laws.Refusals.{if-goes, if-stops}
+use Rattle.batch.specs.declared.Batched.the-variants as batched
 use Rattle.batch.specs.Tables.{leftOverChecks}
 use borrow.Author.Needs.{needs}
 use Rattle.batch.proofs.check_end.Statement.{statement}
@@ -51,10 +52,10 @@ enum-told : tie.Need-enum-told
 enum-told c = search needs
 
 returns : tie.Need-returns
-returns c = numbered-stops _ _ _ (c .before .r .given .1) (looked (c .before .before .before))
+returns c = if-stops (batched.Refused _) _ _ (c .before .r .given .1) (looked (c .before .before .before))
 
 returns-2 : tie.Need-returns-2
-returns-2 c = numbered-goes _ _ _ (c .enum-told .given .1) (looked (c .before .before)) refl
+returns-2 c = if-goes (batched.Refused _) _ _ (c .enum-told .given .1) (looked (c .before .before)) refl
 
 pub check-end-spec : {M : Type 1} → statement M
 check-end-spec =

@@ -3,7 +3,7 @@
 use mathlib.Core.Bool.{not}
 use mathlib.Core.List.{List, [], _∷_}
 use mathlib.Core.Logic.{_↔_}
-use mathlib.Core.Path.{ap, refl, _∙_, _≡_}
+use mathlib.Core.Path.{ap, _∙_, _≡_}
 use Prim.Native.Nat.{ℕ, _+_, _-_}
 use native.Mathlib.Omega.{arith}
 use lib.Dec.{eqb}
@@ -15,8 +15,9 @@ use Rattle.ground.specs.Laws.Outcomes.{left-once}
 use Rattle.ground.specs.Refusals.{refusal, refuseIf}
 use Rattle.ground.specs.Laws.Refusals.{refuseIf-passed}
 use Rattle.ground.specs.declared.Check.{Check}
-use Rattle.ground.specs.declared.Check.the-variants.{Passed, Refused}
+use Rattle.ground.specs.declared.Check.the-variants.{Passed}
 use Rattle.ground.specs.declared.Refusal.{Refusal}
+use Rattle.ground.specs.Laws.Refusals.{if-accepted}
 use Rattle.stored_links.specs.Form.{linkBytes, linkUsed}
 use Rattle.batch.specs.Batch.{batchAnswer, batchBytes, batchFrom, batchOutcome, frontBy, numbered}
 use Rattle.batch.specs.Fitting.{Fits}
@@ -28,15 +29,8 @@ use Rattle.batch.specs.declared.Batched.the-variants as batched
 
 -- ## A check with a table's number
 
-pub numbered-stops : {x : Check} {r : Refusal} (k : ℕ) (y : Check) (b : Batched) → x ≡ Refused r → x ≡ y → batched.Refused k r ≡ numbered k y b
-numbered-stops k y b e f = rw (← f, e)
-
-pub numbered-goes : {x : Check} {a : Batched} (k : ℕ) (y : Check) (b : Batched) → x ≡ Passed → x ≡ y → a ≡ b → a ≡ numbered k y b
-numbered-goes k y b e f g = rw (← f, e) g
-
 pub numbered-bytes : (k : ℕ) (y : Check) (b : Batched) (u : ℕ) → numbered k y b ≡ Bytes u → (y ≡ Passed) × (b ≡ Bytes u)
-numbered-bytes k Passed b u e = (refl, e)
-numbered-bytes k (Refused r) b u e = absurd (let q : _≡_ {A = ℕ} 0 1 = cc in omega arith)
+numbered-bytes k y b u = if-accepted (batched.Refused k) y b (λ r q. absurd (let z : _≡_ {A = ℕ} 0 1 = cc in omega arith))
 
 bytes-same : (x y : ℕ) → Bytes x ≡ Bytes y → x ≡ y
 bytes-same x y e = cc

@@ -9,10 +9,10 @@ use lib.Seq.{drop-drop}
 use Rattle.ground.specs.declared.Check.{Check}
 use Rattle.ground.specs.declared.Check.the-variants.{Passed, Refused}
 use Rattle.ground.specs.declared.Refusal.{Refusal}
+use Rattle.ground.specs.Laws.Refusals.{if-goes, if-stops}
 use Rattle.stored_links.specs.Form.{linkBytes, linkUsed}
 use Rattle.batch.specs.Batch.{batchBytes, batchFrom, numbered}
 use Rattle.batch.specs.Fitting.{Fits, Next}
-use Rattle.batch.specs.Laws.Answers.{numbered-goes, numbered-stops}
 use Rattle.batch.specs.Tables.{Table, leftOverChecks, nextChecks, tables}
 use Rattle.batch.specs.declared.Batched.{Batched}
 use Rattle.batch.specs.declared.Batched.the-variants.{Bytes}
@@ -76,14 +76,14 @@ module _ (head w L : ℕ) (ns counts l v : List ℕ) (room used rows i n N : ℕ
   pub answer-stops : {c : Check} {r : Refusal} → c ≡ Refused r → c ≡ nextChecks head w L n N (drop rows l) (drop rows v) (room - used)
       → batched.Refused (i + 1) r ≡ answerAt head w L ns counts l v room used rows i
   answer-stops p q =
-      numbered-stops (i + 1) (nextChecks head w L n N (drop rows l) (drop rows v) (room - used)) (answerAt head w L ns counts l v room (used + linkUsed head w n N) (rows + N) (i + 1)) p q
+      if-stops (batched.Refused (i + 1)) (nextChecks head w L n N (drop rows l) (drop rows v) (room - used)) (answerAt head w L ns counts l v room (used + linkUsed head w n N) (rows + N) (i + 1)) p q
       ∙ sym answer-step
 
   pub answer-goes : {c : Check} → c ≡ Passed → c ≡ nextChecks head w L n N (drop rows l) (drop rows v) (room - used)
       → answerAt head w L ns counts l v room used rows i ≡ answerAt head w L ns counts l v room (used + linkUsed head w n N) (rows + N) (i + 1)
   answer-goes p q =
       let b = answerAt head w L ns counts l v room (used + linkUsed head w n N) (rows + N) (i + 1) in
-      answer-step ∙ sym (numbered-goes {a = b} (i + 1) (nextChecks head w L n N (drop rows l) (drop rows v) (room - used)) b p q refl)
+      answer-step ∙ sym (if-goes (batched.Refused (i + 1)) {w = b} (nextChecks head w L n N (drop rows l) (drop rows v) (room - used)) b p q refl)
 
   pub fits-step : Fits head w L (drop i (tables ns counts)) (drop rows l) (drop rows v) (room - used)
       → Next head w L n N (drop rows l) (drop rows v) (room - used)

@@ -1,16 +1,17 @@
 -- `choice::against_second` meets its contract: the refusal with number 2, then 15, then one of the two tables. Assumes nothing.
 use mathlib.Core.List.{List}
-use mathlib.Core.Path.{ap, ap₂, sym, _∙_, _≡_}
+use mathlib.Core.Path.{ap, ap₂, sym, _∙_, _≡_, refl}
 use Prim.Native.Nat.{ℕ}
 use native.Mathlib.Omega.{arith}
 use lib.Seq.{length-take-le}
 use borrow.Author.Needs.{needs}
 use Rattle.ground.specs.declared.Refusal.{Refusal}
+use Rattle.ground.specs.Laws.Refusals.{if-goes, if-stops}
 use Rattle.theory.specs.Comparison.{inners}
 use Rattle.theory.specs.Tables.{limit}
 use Rattle.stored_links.specs.Said.{imagesOf}
 use Rattle.choice.specs.Call.{sidesOf, taken}
-use Rattle.choice.specs.Laws.Chain.{images-differ, images-same, numbered-goes, numbered-stops}
+use Rattle.choice.specs.Laws.Chain.{images-differ, images-same}
 use Rattle.choice.specs.Read.{Listed}
 use Rattle.choice.specs.Laws.Read.{read-listed, read-refused}
 use Rattle.choice.specs.declared.Chosen.the-variants as answer
@@ -46,7 +47,7 @@ returns c =
     let a = begun m .args in
     let q = listed m in
     ap (λ (r : Refusal). answer.Refused 0 r) (c .plain .ensures)
-    ∙ numbered-goes _ _ _ (q .passed) (images-differ (a .n) (imagesOf 0 (a .second .now)) _ (λ e. c .before .if1 .taken (e ∙ q .images)))
+    ∙ if-goes (answer.Refused 2) _ _ (q .passed) refl (images-differ (a .n) (imagesOf 0 (a .second .now)) _ (λ e. c .before .if1 .taken (e ∙ q .images)))
 
 array-share-prefix-fars : tie.Need-array-share-prefix-fars
 array-share-prefix-fars c =
@@ -67,7 +68,7 @@ take-one-requires c κs =
 returns-2 : tie.Need-returns-2
 returns-2 c =
     let e = c .before .before .before .before in
-    numbered-stops _ _ _ (read-refused 0 21 limit (e .before .before .before .before .args .second .now) (e .read .ensures) (c .before .r .given .1))
+    if-stops (answer.Refused 2) _ _ (read-refused 0 21 limit (e .before .before .before .before .args .second .now) (e .read .ensures) (c .before .r .given .1)) refl
 
 returns-3 : tie.Need-returns-3
 returns-3 c =
@@ -77,7 +78,7 @@ returns-3 c =
     let q = listed m in
     let l = inners (a .n) (a .first .now) in
     let h : a .n ≡ imagesOf 0 t = c .before .before .if1 .left ∙ sym (q .images) in
-    numbered-goes _ _ _ (q .passed)
+    if-goes (answer.Refused 2) _ _ (q .passed) refl
     (images-same (a .n) (imagesOf 0 t) _ h
     (c .take-one .ensures
     ∙ ap (λ (x : List ℕ). taken l (a .i) (inners (a .n) x) (m .m .given .0 .1 .1 .0)) (q .front)

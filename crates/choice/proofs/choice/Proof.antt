@@ -1,15 +1,16 @@
 -- `choice::choice` meets its contract: the refusal with number 1, or the first table against the second. Assumes nothing.
 use mathlib.Core.List.{List}
-use mathlib.Core.Path.{ap, ap₂, sym, _∙_}
+use mathlib.Core.Path.{ap, ap₂, sym, _∙_, refl}
 use Prim.Native.Nat.{ℕ}
 use native.Mathlib.Omega.{arith}
 use lib.Seq.{length-take-le}
 use borrow.Author.Needs.{needs}
 use Rattle.theory.specs.Tables.{limit}
 use Rattle.choice.specs.Call.{againstSecond, sidesOf}
-use Rattle.choice.specs.Laws.Chain.{numbered-goes, numbered-stops}
 use Rattle.choice.specs.Read.{Listed}
 use Rattle.choice.specs.Laws.Read.{read-listed, read-refused}
+use Rattle.ground.specs.Laws.Refusals.{if-goes, if-stops}
+use Rattle.choice.specs.declared.Chosen.the-variants as answer
 use Rattle.choice.proofs.choice.Statement.{statement}
 use Rattle.choice.proofs.choice.Tie as tie
 
@@ -46,7 +47,7 @@ against-second-requires c κs = let q = listed (c .before .before) in (q .least,
 returns : tie.Need-returns
 returns c =
     let e = c .before .before .before .before in
-    numbered-stops _ _ _ (read-refused 0 21 limit (e .before .before .before .before .args .first .now) (e .read .ensures) (c .before .r .given .1))
+    if-stops (answer.Refused 1) _ _ (read-refused 0 21 limit (e .before .before .before .before .args .first .now) (e .read .ensures) (c .before .r .given .1)) refl
 
 returns-2 : tie.Need-returns-2
 returns-2 c =
@@ -54,7 +55,7 @@ returns-2 c =
     let s = begun m .args .first .now in
     let t = begun m .args .second .now in
     let q = listed m in
-    numbered-goes _ _ _ (q .passed)
+    if-goes (answer.Refused 1) _ _ (q .passed) refl
     (c .against-second .ensures
     ∙ ap (λ (x : List ℕ). againstSecond 0 21 limit (m .n .given .0 .0) x (m .n .given .0 .1 .1 .0) t) (q .front)
     ∙ ap₂ (λ (x u : ℕ). againstSecond 0 21 limit x (sidesOf 0 21 s) u t) (sym (q .images)) (sym (q .ended)))

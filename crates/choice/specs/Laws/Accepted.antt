@@ -2,7 +2,7 @@
 use mathlib.Core.Bool.{cond, false, false≢true, not, _||_}
 use mathlib.Core.List.{List, List·Memᴰ}
 use mathlib.Core.Logic.{inl, inr, _↔_, _⊎_}
-use mathlib.Core.Path.{refl, sym, _∙_, _≡_}
+use mathlib.Core.Path.{sym, _∙_, _≡_}
 use Prim.Native.Nat.{ℕ}
 use native.Mathlib.Omega.{arith}
 use lib.Dec.{eqb}
@@ -11,13 +11,15 @@ use borrow.Table.Steps.{cases}
 use Rattle.ground.specs.Filters.{Each}
 use Rattle.ground.specs.Laws.Refusals.{refuseIf-passed}
 use Rattle.ground.specs.declared.Check.{Check}
-use Rattle.ground.specs.declared.Check.the-variants.{Passed, Refused}
+use Rattle.ground.specs.declared.Check.the-variants.{Passed}
+use Rattle.ground.specs.Laws.Refusals.{if-accepted}
 use Rattle.choice.specs.Call.{againstSecond, choiceOf, imagesAgree, inclusion, innersOf, numbered, sidesOf, taken}
 use Rattle.choice.specs.Inclusion.{includes}
 use Rattle.choice.specs.Laws.Inclusion.{each-includes, includes-each}
 use Rattle.choice.specs.Laws.Read.{table-stored}
 use Rattle.choice.specs.declared.Chosen.{Chosen}
 use Rattle.choice.specs.declared.Chosen.the-variants.{Table}
+use Rattle.choice.specs.declared.Chosen.the-variants as answer
 use Rattle.stored_links.specs.Laws.Passed.{Stored, passed-table}
 use Rattle.stored_links.specs.Reading.{tableChecks}
 use Rattle.stored_links.specs.Said.{countOf, imagesOf, usedOf}
@@ -31,8 +33,7 @@ abbrev pub Includes : ℕ → ℕ → List ℕ → List ℕ → Type 0
 Includes head w s t = Each (innersOf head w t) (λ S. List·Memᴰ S (innersOf head w s))
 
 numbered-table : (m : ℕ) (c : Check) (y : Chosen) {k u : ℕ} → numbered m c y ≡ Table k u → (c ≡ Passed) × (y ≡ Table k u)
-numbered-table m Passed y e = (refl, e)
-numbered-table m (Refused r) y e = absurd (let o : _≡_ {A = ℕ} 0 1 = cc in omega arith)
+numbered-table m c y = if-accepted (answer.Refused m) c y (λ r q. absurd (let o : _≡_ {A = ℕ} 0 1 = cc in omega arith))
 
 not-included : (head w : ℕ) (s t : List ℕ) → (Includes head w s t → ⊥) → includes (innersOf head w s) (innersOf head w t) ≡ false
 not-included head w s t h =

@@ -7,9 +7,6 @@ use borrow.Author.Tests.{eq-eqb, ne-eqb}
 use Rattle.ground.specs.Ascending.{Between}
 use Rattle.ground.specs.Laws.Ascending.{between-filter}
 use Rattle.ground.specs.Refusals.{refusal}
-use Rattle.ground.specs.declared.Check.{Check}
-use Rattle.ground.specs.declared.Check.the-variants.{Passed, Refused}
-use Rattle.ground.specs.declared.Refusal.{Refusal}
 use Rattle.theory.specs.Comparison.{inners}
 use Rattle.theory.specs.FarSides.{inner}
 use Rattle.choice.specs.Call.{imagesAgree, numbered, taken}
@@ -20,12 +17,6 @@ use Rattle.choice.specs.declared.Chosen.the-variants.{Table}
 use Rattle.counts.specs.Differ.{differ}
 use Rattle.counts.specs.declared.Difference.{Difference}
 use Rattle.choice.specs.declared.Chosen.the-variants as answer
-
-pub numbered-stops : (m : ℕ) (c : Check) (y : Chosen) {r : Refusal} → c ≡ Refused r → answer.Refused m r ≡ numbered m c y
-numbered-stops m c y e = rw e
-
-pub numbered-goes : (m : ℕ) (c : Check) (y : Chosen) {w : Chosen} → c ≡ Passed → w ≡ y → w ≡ numbered m c y
-numbered-goes m c y e f = rw e f
 
 -- ## Of two tables over the same images, where their difference was counted
 

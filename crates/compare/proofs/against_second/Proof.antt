@@ -1,16 +1,17 @@
 -- `compare::against_second` meets its contract: the refusal with number 2, or the difference of the two trees. Assumes nothing.
 use mathlib.Core.List.{List}
-use mathlib.Core.Path.{ap, sym, _∙_}
+use mathlib.Core.Path.{ap, sym, _∙_, refl}
 use Prim.Native.Nat.{ℕ}
 use native.Mathlib.Omega.{arith}
 use lib.Seq.{length-take-le}
 use borrow.Author.Needs.{needs}
 use Rattle.theory.specs.Tables.{limit}
 use Rattle.counts.specs.Differ.{differ}
-use Rattle.compare.specs.Laws.Chain.{numbered-goes, numbered-stops}
 use Rattle.compare.specs.Read.{Listed}
 use Rattle.compare.specs.Laws.Read.{read-listed, read-refused}
 use Rattle.compare.specs.declared.Comparison.the-variants.{Compared}
+use Rattle.ground.specs.Laws.Refusals.{if-goes, if-stops}
+use Rattle.compare.specs.declared.Comparison.the-variants as answer
 use Rattle.compare.proofs.against_second.Statement.{statement}
 use Rattle.compare.proofs.against_second.Tie as tie
 
@@ -51,13 +52,13 @@ returns : tie.Need-returns
 returns c =
     let e = c .before .before .before .before in
     let s = e .before .before .before .before in
-    numbered-stops _ _ _ (read-refused limit (s .args .n) (s .args .second .now) (s .pre .0) (s .pre .1) (e .read .ensures) (c .before .rows .given .1))
+    if-stops (answer.Refused 2) _ _ (read-refused limit (s .args .n) (s .args .second .now) (s .pre .0) (s .pre .1) (e .read .ensures) (c .before .rows .given .1)) refl
 
 returns-2 : tie.Need-returns-2
 returns-2 c =
     let s = c .before .before .before .before .before .before .before .before .before .before in
     let q = listed (c .before .before .before) in
-    numbered-goes _ _ _ (q .passed)
+    if-goes (answer.Refused 2) _ _ (q .passed) refl
     (ap Compared (c .differ .ensures) ∙ ap (λ (l : List ℕ). Compared (differ (s .args .n) (s .args .first .now) l)) (q .front))
 
 pub against-second-spec : {M : Type 1} → statement M

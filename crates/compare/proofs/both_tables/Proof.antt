@@ -1,15 +1,16 @@
 -- `compare::both_tables` meets its contract: the refusal with number 1, or the first tree against the second table. Assumes nothing.
 use mathlib.Core.List.{List}
-use mathlib.Core.Path.{ap, sym, _∙_}
+use mathlib.Core.Path.{ap, sym, _∙_, refl}
 use Prim.Native.Nat.{ℕ}
 use native.Mathlib.Omega.{arith}
 use lib.Seq.{length-take-le}
 use borrow.Author.Needs.{needs}
 use Rattle.theory.specs.Tables.{limit}
 use Rattle.compare.specs.Call.{againstSecond}
-use Rattle.compare.specs.Laws.Chain.{numbered-goes, numbered-stops}
 use Rattle.compare.specs.Read.{Listed}
 use Rattle.compare.specs.Laws.Read.{read-listed, read-refused}
+use Rattle.ground.specs.Laws.Refusals.{if-goes, if-stops}
+use Rattle.compare.specs.declared.Comparison.the-variants as answer
 use Rattle.compare.proofs.both_tables.Statement.{statement}
 use Rattle.compare.proofs.both_tables.Tie as tie
 
@@ -50,13 +51,13 @@ returns : tie.Need-returns
 returns c =
     let e = c .before .before .before .before in
     let s = e .before .before .before .before in
-    numbered-stops _ _ _ (read-refused limit (s .args .n) (s .args .first .now) (s .pre .0) (s .pre .1) (e .read .ensures) (c .before .rows .given .1))
+    if-stops (answer.Refused 1) _ _ (read-refused limit (s .args .n) (s .args .first .now) (s .pre .0) (s .pre .1) (e .read .ensures) (c .before .rows .given .1)) refl
 
 returns-2 : tie.Need-returns-2
 returns-2 c =
     let s = c .before .before .before .before .before .before .before .before .before .before in
     let q = listed (c .before .before .before) in
-    numbered-goes _ _ _ (q .passed)
+    if-goes (answer.Refused 1) _ _ (q .passed) refl
     (c .against-second .ensures ∙ ap (λ (l : List ℕ). againstSecond limit (s .args .n) l (s .args .second .now)) (q .front))
 
 pub both-tables-spec : {M : Type 1} → statement M

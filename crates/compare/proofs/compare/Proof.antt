@@ -2,7 +2,8 @@
 use mathlib.Core.Path.{sym, _∙_}
 use borrow.Author.Needs.{needs}
 use Rattle.theory.specs.Laws.Checks.{images-passed}
-use Rattle.compare.specs.Laws.Chain.{numbered-goes, numbered-stops}
+use Rattle.ground.specs.Laws.Refusals.{if-goes, if-stops}
+use Rattle.compare.specs.declared.Comparison.the-variants as answer
 use Rattle.compare.proofs.compare.Statement.{statement}
 use Rattle.compare.proofs.compare.Tie as tie
 
@@ -20,12 +21,12 @@ both-tables-requires c κs =
     images-passed _ (sym (c .before .before .check-images .ensures) ∙ c .enum-told .given .1)
 
 returns : tie.Need-returns
-returns c = numbered-stops _ _ _ (sym (c .before .before .before .check-images .ensures) ∙ c .before .images .given .1)
+returns c = if-stops (answer.Refused 0) _ _ (c .before .images .given .1) (c .before .before .before .check-images .ensures)
 
 returns-2 : tie.Need-returns-2
 returns-2 c =
     let e = c .before in
-    numbered-goes _ _ _ (sym (e .before .before .check-images .ensures) ∙ e .enum-told .given .1) (c .both-tables .ensures)
+    if-goes (answer.Refused 0) _ _ (e .enum-told .given .1) (e .before .before .check-images .ensures) (c .both-tables .ensures)
 
 pub compare-spec : {M : Type 1} → statement M
 compare-spec =

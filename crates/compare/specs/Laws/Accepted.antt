@@ -9,6 +9,7 @@ use borrow.Author.Tests.{eq-eqb, le-ltb}
 use Rattle.ground.specs.declared.Check.{Check}
 use Rattle.ground.specs.declared.Check.the-variants.{Passed, Refused}
 use Rattle.ground.specs.declared.Refusal.{Refusal}
+use Rattle.ground.specs.Laws.Refusals.{if-accepted}
 use Rattle.theory.specs.FourPoint.{FourPoint}
 use Rattle.theory.specs.Tables.{CostTable, cost}
 use Rattle.theory.specs.Checks.{imagesCheck}
@@ -39,8 +40,7 @@ accepted-table L n t a =
     rw (eq-eqb (length t) (n * n) (c .sized), passed-costs L (cost t n) n (c .formed)) (wiring-passed L (cost t n) n (c .formed) .1 (a .condition))
 
 numbered-compared : (m : ℕ) (c : Check) (y : Comparison) (x : Difference) → numbered m c y ≡ Compared x → (c ≡ Passed) × (y ≡ Compared x)
-numbered-compared m Passed y x e = (refl, e)
-numbered-compared m (Refused r) y x e = absurd (let o : _≡_ {A = ℕ} 0 1 = cc in omega arith)
+numbered-compared m c y x = if-accepted (answer.Refused m) c y (λ r q. absurd (let o : _≡_ {A = ℕ} 0 1 = cc in omega arith))
 
 module _ (L n : ℕ) (t u : List ℕ) where
   -- both tables are accepted, and the answer is the difference of their trees

@@ -1,5 +1,5 @@
 -- `cost_writer::write_costs` meets its contract: the form is put once all checks passed. Assumes nothing.
-use mathlib.Core.Path.{sym, _∙_}
+use mathlib.Core.Path.{ap, sym, _∙_}
 use Prim.Native.Nat.{_≤_}
 use native.Mathlib.Omega.{arith}
 use lib.ListN.{length}
@@ -8,7 +8,10 @@ use Rattle.stored_costs.specs.Form.{costUsed}
 use Rattle.stored_costs.specs.Sizes.{Small}
 use Rattle.cost_writer.specs.Laws.Accepted.{write-passed}
 use borrow.Author.Needs.{needs}
-use Rattle.ground.specs.Laws.Outcomes.{front-goes, front-stops, places-goes, places-stops}
+use Rattle.ground.specs.Laws.Outcomes.{front-goes, front-stops}
+use Rattle.ground.specs.Laws.Refusals.{if-goes, if-stops}
+use Rattle.ground.specs.declared.Written.the-variants.{Places}
+use Rattle.ground.specs.declared.Written.the-variants as written
 use Rattle.cost_writer.proofs.write_costs.Statement.{statement}
 use Rattle.cost_writer.proofs.write_costs.Tie as tie
 
@@ -44,7 +47,7 @@ returns : tie.Need-returns
 returns c =
     let k = c .before .before .before .check-write in
     record {
-      answered = places-stops _ _ (c .before .r .given .1) (k .ensures);
+      answered = if-stops written.Refused _ _ (c .before .r .given .1) (k .ensures);
       left = front-stops _ _ _ (sym (k .ensures) ∙ c .before .r .given .1);
     }
 
@@ -56,7 +59,7 @@ returns-2 c =
     let d = c .before .before .before .before .before in
     let k = d .before .before .check-write in
     record {
-      answered = places-goes _ _ (d .enum-told .given .1) (k .ensures) (rw (c .row-at .ensures));
+      answered = if-goes written.Refused _ _ (d .enum-told .given .1) (k .ensures) (ap Places (rw (c .row-at .ensures)));
       left = front-goes _ _ _ _ (sym (k .ensures) ∙ d .enum-told .given .1) (c .before .before .before .put-form .ensures);
     }
 

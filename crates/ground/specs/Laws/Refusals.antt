@@ -6,13 +6,11 @@ use native.Mathlib.Omega.{arith}
 use lib.Dec.{ltb}
 use borrow.Author.Tests.{ltb-false}
 use Rattle.ground.specs.Laws.Tests.{or-false}
-use Rattle.ground.specs.declared.Answer.the-variants.{Value}
 use Rattle.ground.specs.declared.Check.{Check}
 use Rattle.ground.specs.declared.Check.the-variants.{Passed, Refused}
 use Rattle.ground.specs.declared.Refusal.{Refusal}
 use Rattle.ground.specs.declared.Answer.the-variants as answer
-use Rattle.ground.specs.declared.Written.the-variants as written
-use Rattle.ground.specs.Refusals.{_then_, outside, refusal, refuseIf, valueIf}
+use Rattle.ground.specs.Refusals.{_then_, ifPassed, outside, refuseIf}
 
 -- ## How code that stops at the first refusal meets such a chain
 
@@ -22,11 +20,11 @@ then-stops y z e f = cc
 pub then-goes : {w x : Check} (y z : Check) → x ≡ Passed → x ≡ y → w ≡ z → w ≡ (y then z)
 then-goes y z e f g = rw (← f, e) g
 
-pub value-stops : {x : Check} {r : Refusal} (y : Check) (v : ℕ) → x ≡ Refused r → x ≡ y → answer.Refused r ≡ valueIf y v
-value-stops y v e f = rw (← f, e)
+pub if-stops : {A : Type 0} (refused : Refusal → A) {x : Check} {r : Refusal} (y : Check) (z : A) → x ≡ Refused r → x ≡ y → refused r ≡ ifPassed refused y z
+if-stops refused y z e f = rw (← f, e)
 
-pub value-goes : {x : Check} {u : ℕ} (y : Check) (v : ℕ) → x ≡ Passed → x ≡ y → u ≡ v → Value u ≡ valueIf y v
-value-goes y v e f g = rw (← f, e, g)
+pub if-goes : {A : Type 0} (refused : Refusal → A) {x : Check} {w : A} (y : Check) (z : A) → x ≡ Passed → x ≡ y → w ≡ z → w ≡ ifPassed refused y z
+if-goes refused y z e f g = rw (← f, e) g
 
 -- ## What a chain says
 
@@ -45,7 +43,8 @@ refuseIf-passed false r e = refl
 pub outside-false : (low high m : ℕ) → outside low high m ≡ false → (low ≤ m) × (m ≤ high)
 outside-false low high m e = let p = or-false (ltb m low) (ltb high m) e in (ltb-false m low (p .0), ltb-false high m (p .1))
 
--- an answer with a value is an accepted one, and its value is the one named
-pub value-accepted : (y : Check) (u v : ℕ) → valueIf y u ≡ Value v → (y ≡ Passed) × (u ≡ v)
-value-accepted Passed u v e = (refl, cc)
-value-accepted (Refused r) u v e = absurd (let q : _≡_ {A = ℕ} 0 1 = cc in omega arith)
+-- an answer that is no refusal is the one named, and the check passed
+pub if-accepted : {A : Type 0} (refused : Refusal → A) (y : Check) (z : A) {w : A} → ((r : Refusal) → refused r ≡ w → ⊥) → ifPassed refused y z ≡ w
+    → (y ≡ Passed) × (z ≡ w)
+if-accepted refused Passed z n e = (refl, e)
+if-accepted refused (Refused r) z n e = absurd (n r e)

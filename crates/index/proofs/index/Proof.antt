@@ -2,9 +2,11 @@
 use mathlib.Core.Path.{_∙_, ap, sym}
 use Prim.Native.Nat.{_*_, _-_}
 use borrow.Author.Needs.{needs}
-use Rattle.ground.specs.Laws.Refusals.{value-goes, value-stops}
+use Rattle.ground.specs.Laws.Refusals.{if-goes, if-stops}
 use Rattle.index.specs.Laws.Passed.{index-passed}
 use Rattle.theory.specs.Tables.{limit}
+use Rattle.ground.specs.declared.Answer.the-variants.{Value}
+use Rattle.ground.specs.declared.Answer.the-variants as answer
 use Rattle.index.proofs.index.Statement.{statement}
 use Rattle.index.proofs.index.Tie as tie
 
@@ -25,13 +27,13 @@ clip-requires : tie.Need-clip-requires
 clip-requires c κs = search needs
 
 returns : tie.Need-returns
-returns c = value-stops _ _ (c .before .c .given .1) (c .before .before .before .check-index .ensures)
+returns c = if-stops answer.Refused _ _ (c .before .c .given .1) (c .before .before .before .check-index .ensures)
 
 returns-2 : tie.Need-returns-2
 returns-2 c =
     let b = c .before .before in
-    value-goes _ _ (b .enum-told .given .1) (b .before .before .check-index .ensures)
-    (c .clip .ensures ∙ ap (λ v. v - 2 * limit) (c .before .shifted-index .ensures))
+    if-goes answer.Refused _ _ (b .enum-told .given .1) (b .before .before .check-index .ensures)
+    (ap Value (c .clip .ensures ∙ ap (λ v. v - 2 * limit) (c .before .shifted-index .ensures)))
 
 pub index-spec : {M : Type 1} → statement M
 index-spec =

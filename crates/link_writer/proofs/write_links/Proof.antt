@@ -1,11 +1,14 @@
 -- `link_writer::write_links` meets its contract: the form is put once all checks passed. Assumes nothing.
-use mathlib.Core.Path.{sym, _∙_}
+use mathlib.Core.Path.{ap, sym, _∙_}
 use native.Mathlib.Omega.{arith}
 use lib.ListN.{length}
 use Rattle.theory.specs.Tables.{limit}
 use Rattle.link_writer.specs.Laws.Accepted.{passed-room}
 use borrow.Author.Needs.{needs}
-use Rattle.ground.specs.Laws.Outcomes.{front-goes, front-stops, places-goes, places-stops}
+use Rattle.ground.specs.Laws.Outcomes.{front-goes, front-stops}
+use Rattle.ground.specs.Laws.Refusals.{if-goes, if-stops}
+use Rattle.ground.specs.declared.Written.the-variants.{Places}
+use Rattle.ground.specs.declared.Written.the-variants as written
 use Rattle.link_writer.proofs.write_links.Statement.{statement}
 use Rattle.link_writer.proofs.write_links.Tie as tie
 
@@ -28,7 +31,7 @@ put-links-requires c κs =
 returns : tie.Need-returns
 returns c =
     let k = c .before .before .before .check-write in
-    record { answered = places-stops _ _ (c .before .r .given .1) (k .ensures); left = front-stops _ _ _ (sym (k .ensures) ∙ c .before .r .given .1) }
+    record { answered = if-stops written.Refused _ _ (c .before .r .given .1) (k .ensures); left = front-stops _ _ _ (sym (k .ensures) ∙ c .before .r .given .1) }
 
 same-length : tie.Need-same-length
 same-length c = search needs
@@ -39,7 +42,7 @@ returns-2 c =
     let d = p .before .before in
     let k = d .before .before .check-write in
     record {
-      answered = places-goes _ _ (d .enum-told .given .1) (k .ensures) (p .put-links .ensures .0);
+      answered = if-goes written.Refused _ _ (d .enum-told .given .1) (k .ensures) (ap Places (p .put-links .ensures .0));
       left = front-goes _ _ _ _ (sym (k .ensures) ∙ d .enum-told .given .1) (p .put-links .ensures .1);
     }
 

@@ -14,7 +14,6 @@ use Rattle.links.specs.Checks.{rowChecks, sizeChecks}
 use Rattle.links.specs.Laws.LinkChecks.{Links, link-checks, row-checks, sizes-passed}
 use Rattle.stored_links.specs.Form.{linkUsed}
 use Rattle.stored_links.specs.Laws.Passed.{room-passed}
-use Rattle.ground.specs.declared.Written.the-variants as written
 
 -- what passes the last three checks, where the rows are as many as counted
 pub fit-passed : (head w L n : ℕ) (l v : List ℕ) (room : ℕ) → length l ≡ length v → fitChecks head w L n l v room ≡ Passed

@@ -1,11 +1,14 @@
 -- `routes::path` meets its contract: behind the checks stand a link table and two images. Assumes nothing.
+use mathlib.Core.Path.{ap}
 use Prim.Native.Nat.{_-_}
 use native.Mathlib.Omega.{arith}
 use borrow.Author.Needs.{needs}
-use Rattle.ground.specs.Laws.Refusals.{value-goes, value-stops}
+use Rattle.ground.specs.Laws.Refusals.{if-goes, if-stops}
 use Rattle.theory.specs.Tables.{limit}
 use Rattle.routes.specs.Laws.Accepted.{PathTaken, path-passed}
 use Rattle.routes.specs.Laws.PathSums.{path-fits}
+use Rattle.ground.specs.declared.Answer.the-variants.{Value}
+use Rattle.ground.specs.declared.Answer.the-variants as answer
 use Rattle.routes.proofs.path.Statement.{statement}
 use Rattle.routes.proofs.path.Tie as tie
 
@@ -32,10 +35,10 @@ path-cost-requires : tie.Need-path-cost-requires
 path-cost-requires c κs = let t = taken c in (omega (arith, t .table .few), omega (arith, t .table .few), omega (arith, t .table .counted, t .table .costed), path-fits _ _ _ _ (t .table) (c .before .before .before .before .before .args .i - 1) (c .before .before .before .before .before .args .j - 1))
 
 returns : tie.Need-returns
-returns c = value-stops _ _ (c .before .check .given .1) (c .before .before .before .check-path .ensures)
+returns c = if-stops answer.Refused _ _ (c .before .check .given .1) (c .before .before .before .check-path .ensures)
 
 returns-2 : tie.Need-returns-2
-returns-2 c = value-goes _ _ (c .before .enum-told .given .1) (c .before .before .before .check-path .ensures) (c .path-cost .ensures)
+returns-2 c = if-goes answer.Refused _ _ (c .before .enum-told .given .1) (c .before .before .before .check-path .ensures) (ap Value (c .path-cost .ensures))
 
 pub path-spec : {M : Type 1} → statement M
 path-spec =

@@ -1,10 +1,12 @@
 -- `stored_costs::judge` meets its contract: the answer is a table where all checks passed. Assumes nothing.
-use mathlib.Core.Path.{_∙_, _≡_, sym}
+use mathlib.Core.Path.{ap₂, _∙_, _≡_, sym}
 use Prim.Native.Nat.{_%_, _/_, _≤_}
 use native.Mathlib.Omega.{arith}
 use lib.ListN.{drop, length}
 use Rattle.ground.specs.Laws.Buffers.{rest-part}
-use Rattle.stored_costs.specs.Laws.Outcomes.{table-goes, table-stops}
+use Rattle.ground.specs.Laws.Refusals.{if-goes, if-stops}
+use Rattle.stored_costs.specs.declared.StoredCosts.the-variants.{Table}
+use Rattle.stored_costs.specs.declared.StoredCosts.the-variants as stored
 use Rattle.stored_costs.specs.Laws.Passed.{Readable, read-at-passed}
 use Rattle.stored_costs.specs.Laws.Sizes.{end-le}
 use Rattle.stored_costs.specs.Sizes.{Small}
@@ -62,14 +64,14 @@ add-t13 c =
     rw (c .row-at .ensures) (omega (arith, end-le (a .args .head) (a .args .w) (c .before .images .result) (small (c .before))))
 
 returns : tie.Need-returns
-returns c = table-stops _ _ _ (c .before .r .given .1) (c .before .before .before .check-at .ensures)
+returns c = if-stops stored.Refused _ _ (c .before .r .given .1) (c .before .before .before .check-at .ensures)
 
 returns-2 : tie.Need-returns-2
 returns-2 c =
     let d = c .before .before .before in
     let a = d .before .before .before .before in
     let n = rw (rest-part (a .args .bytes .now) (a .args .position / 8)) at (c .before .images .ensures) in
-    table-goes _ _ _ (d .enum-told .given .1) (d .before .before .check-at .ensures) n (rw (c .row-at .ensures, n))
+    if-goes stored.Refused _ _ (d .enum-told .given .1) (d .before .before .check-at .ensures) (ap₂ Table n (rw (c .row-at .ensures, n)))
 
 pub judge-spec : {M : Type 1} → statement M
 judge-spec =

@@ -4,8 +4,9 @@ use mathlib.Core.Path.{_∙_, sym}
 use Prim.Native.Nat.{ℕ, _/_}
 use lib.ListN.{drop}
 use Rattle.ground.specs.Laws.Buffers.{rest-part}
+use Rattle.ground.specs.Laws.Refusals.{if-goes, if-stops}
 use Rattle.stored_links.specs.Said.{countOf, imagesOf, usedOf}
-use Rattle.stored_links.specs.Laws.Outcomes.{table-goes, table-stops}
+use Rattle.stored_links.specs.declared.StoredLinks.the-variants as stored
 use Rattle.stored_links.specs.Laws.Passed.{stored-held}
 use Rattle.stored_links.specs.Laws.Positions.{TableAt, read-at-passed}
 use borrow.Author.Needs.{needs}
@@ -54,13 +55,13 @@ said-requires c κs =
     rw (rest-part (a .args .bytes .now) (a .args .position / 8)) (t .begun, stored-held _ _ (a .args .limit) _ _ _ (a .pre .0) (a .pre .1) t .small)
 
 returns : tie.Need-returns
-returns c = table-stops _ _ _ _ (c .before .r .given .1) (c .before .before .before .check-at .ensures)
+returns c = if-stops stored.Refused _ _ (c .before .r .given .1) (c .before .before .before .check-at .ensures)
 
 returns-2 : tie.Need-returns-2
 returns-2 c =
     let d = c .before .before in
     let a = begun d .args in
-    table-goes _ _ _ _ (d .enum-told .given .1) (d .before .before .check-at .ensures) (rw (rest-part (a .bytes .now) (a .position / 8)) at (c .said .ensures))
+    if-goes stored.Refused _ _ (d .enum-told .given .1) (d .before .before .check-at .ensures) (rw (rest-part (a .bytes .now) (a .position / 8)) at (c .said .ensures))
 
 pub judge-spec : {M : Type 1} → statement M
 judge-spec =

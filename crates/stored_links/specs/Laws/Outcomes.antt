@@ -1,4 +1,4 @@
--- How code that stops at the first refusal meets an outcome. Assumes nothing.
+-- What the answer of a reader says of its checks. Assumes nothing.
 use mathlib.Core.List.{List}
 use mathlib.Core.Path.{ap, refl, _≡_}
 use Prim.Native.Nat.{ℕ}
@@ -10,15 +10,8 @@ use Rattle.ground.specs.declared.Check.{Check}
 use Rattle.ground.specs.declared.Check.the-variants.{Passed, Refused}
 use Rattle.ground.specs.declared.Refusal.{Refusal}
 use Rattle.stored_links.specs.Outcomes.{rowsIf, tableIf}
-use Rattle.stored_links.specs.declared.StoredLinks.{StoredLinks}
 use Rattle.stored_links.specs.declared.StoredLinks.the-variants.{Table}
 use Rattle.stored_links.specs.declared.StoredLinks.the-variants as stored
-
-pub table-stops : {x : Check} {r : Refusal} (y : Check) (n N used : ℕ) → x ≡ Refused r → x ≡ y → stored.Refused r ≡ tableIf y n N used
-table-stops y n N used e f = rw (← f, e)
-
-pub table-goes : {x : Check} {a : StoredLinks} (y : Check) (n N used : ℕ) → x ≡ Passed → x ≡ y → a ≡ Table n N used → a ≡ tableIf y n N used
-table-goes y n N used e f g = rw (← f, e) g
 
 pub table-passed : (c : Check) (m M v n N used : ℕ) → tableIf c m M v ≡ Table n N used → (c ≡ Passed) × (m ≡ n) × (M ≡ N) × (v ≡ used)
 table-passed Passed m M v n N used e = (refl, cc e, cc e, cc e)
