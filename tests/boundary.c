@@ -348,12 +348,11 @@ static void expect(const char *name, KemotuikiAnswer r, uint32_t want, size_t pl
     }
 }
 
-static int edges(void) {
-    static const size_t few[] = {0, 1, 2, 65, 66, 4294967295u, (size_t)1 << 32, ((size_t)1 << 32) + 3, SIZE_MAX / 2, SIZE_MAX};
-    static const size_t fit[] = {3, 4, 33, 64};
-    static const size_t places[] = {1, 7, 8, 9, (size_t)1 << 61, (size_t)1 << 63, SIZE_MAX - 7, SIZE_MAX};
-    for (size_t k = 0; k < sizeof few / sizeof *few; k++) {
-        size_t n = few[k];
+/* Every call with a number of images that no table has: 1, with the number unchanged. */
+static void no_images(void) {
+    static const size_t bad[] = {0, 1, 2, 65, 66, 4294967295u, (size_t)1 << 32, ((size_t)1 << 32) + 3, SIZE_MAX / 2, SIZE_MAX};
+    for (size_t k = 0; k < sizeof bad / sizeof *bad; k++) {
+        size_t n = bad[k];
         expect("index", kemotuiki_index(n, NULL, 0, 2), 1, n);
         expect("order", kemotuiki_order(n, NULL, 0, 1, 2, NULL, 0), 1, n);
         expect("measured", kemotuiki_measured(n, NULL, 0, NULL, 0, NULL, 0), 1, n);
@@ -365,8 +364,13 @@ static int edges(void) {
         expect("write_costs", kemotuiki_write_costs(n, NULL, 0, NULL, 0), 1, n);
         expect("write_links", kemotuiki_write_links(n, n, NULL, 0, NULL, 0, NULL, 0), 1, n);
     }
-    for (size_t k = 0; k < sizeof fit / sizeof *fit; k++) {
-        size_t n = fit[k];
+}
+
+/* Empty slices, which C lends as null pointers, and counts too large for anything. */
+static void no_places(void) {
+    static const size_t good[] = {3, 4, 33, 64};
+    for (size_t k = 0; k < sizeof good / sizeof *good; k++) {
+        size_t n = good[k];
         expect("index", kemotuiki_index(n, NULL, 0, UINT64_MAX), 2, 0);
         expect("order", kemotuiki_order(n, NULL, 0, SIZE_MAX, SIZE_MAX, NULL, 0), 2, 0);
         expect("measured", kemotuiki_measured(n, NULL, 0, NULL, 0, NULL, 0), 2, 0);
@@ -381,18 +385,27 @@ static int edges(void) {
         call_name = "compare";
         if (r.number != 2 || r.table != 1) fault("not refusal 2 of the first table");
     }
-    KemotuikiAnswer none = kemotuiki_write_batch(NULL, 0, NULL, 0, NULL, 0, NULL, 0, NULL, 0);
-    call_name = "write_batch";
-    if (none.number || none.value) fault("an empty batch does not write 0 bytes");
-    none = kemotuiki_choice(NULL, 0, NULL, 0);
-    call_name = "choice";
-    if (none.number != 9 || none.table != 1) fault("not refusal 9 of the first table");
-    expect("read_costs", kemotuiki_read_costs(NULL, 0, 0, NULL, 0), 9, 0);
-    expect("read_links", kemotuiki_read_links(NULL, 0, 0, NULL, 0, NULL, 0), 9, 0);
-    for (size_t k = 0; k < sizeof places / sizeof *places; k++) {
-        expect("read_costs", kemotuiki_read_costs(NULL, 0, places[k], NULL, 0), 9, 0);
-        expect("read_links", kemotuiki_read_links(NULL, 0, places[k], NULL, 0, NULL, 0), 9, 0);
+}
+
+/* No bytes, read at any position; an empty batch. */
+static void no_bytes(void) {
+    static const size_t positions[] = {0, 1, 7, 8, 9, (size_t)1 << 61, (size_t)1 << 63, SIZE_MAX - 7, SIZE_MAX};
+    for (size_t k = 0; k < sizeof positions / sizeof *positions; k++) {
+        expect("read_costs", kemotuiki_read_costs(NULL, 0, positions[k], NULL, 0), 9, 0);
+        expect("read_links", kemotuiki_read_links(NULL, 0, positions[k], NULL, 0, NULL, 0), 9, 0);
     }
+    KemotuikiAnswer r = kemotuiki_write_batch(NULL, 0, NULL, 0, NULL, 0, NULL, 0, NULL, 0);
+    call_name = "write_batch";
+    if (r.number || r.value) fault("an empty batch does not write 0 bytes");
+    r = kemotuiki_choice(NULL, 0, NULL, 0);
+    call_name = "choice";
+    if (r.number != 9 || r.table != 1) fault("not refusal 9 of the first table");
+}
+
+static int edges(void) {
+    no_images();
+    no_places();
+    no_bytes();
     return faults ? 1 : 0;
 }
 

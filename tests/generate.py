@@ -513,6 +513,13 @@ def link_tables(dice, good, kinds, alone, together):
         yield 3, (n, dice.one_of([0, 3, n]), [2, 4, 6], [1, 1, 1]), {"n"}
     for count in [0, 1, 2, 4, 65, 2 ** 32 + 3] + HUGE:
         yield 3, (3, count, [2, 4, 6], [1, 1, 1]), {"count"}
+    yield from random_rows(dice)
+    yield from lost_own_links(dice)
+    yield from changed_stars(dice)
+
+
+def random_rows(dice):
+    """Far sides drawn at random, in most cases ascending."""
     for _ in range(24):
         n = dice.one_of([3, 4, 4])
         count = dice.between(n, 2 * n - 3)
@@ -521,14 +528,20 @@ def link_tables(dice, good, kinds, alone, together):
             fars = sorted(set(2 * (far // 2) for far in fars))
             fars += [2 ** n - 2] * (count - len(fars))
         yield n, (n, count, fars, [dice.below(3) for _ in range(count)]), {"row"}
-    # Five images, all inner rows of a caterpillar, one or two own links lost.
+
+
+def lost_own_links(dice):
+    """Five images, all inner rows of a caterpillar, one or two own links lost."""
     rows = tree_rows(dice, 5, "caterpillar", 9, even=False)
     for i in range(1, 6):
         for j in range(i, 6):
             lost = [own_link(5, i), own_link(5, j)]
             fars, costs = sides_and_costs([row for row in rows if row[0] not in lost])
             yield 5, (5, len(fars), fars, costs), {"own"}
-    # Far sides that cross, at 64 images; an inner row of cost 0; image 64's link lost.
+
+
+def changed_stars(dice):
+    """64 images: far sides that cross, an inner row of cost 0, image 64's link lost, a cost too large."""
     n = 64
     for change in range(4):
         rows = dict(tree_rows(dice, n, "star", 9, even=False))
@@ -608,6 +621,59 @@ def write_links_cases(dice):
             yield n, len(fars), fars, costs, byte_places(dice, links_length(n, len(fars)) + more)
 
 
+def joined(several):
+    """The four lists of a batch from its tables."""
+    fars = [far for table in several for far in table[2]]
+    costs = [cost for table in several for cost in table[3]]
+    return [table[0] for table in several], [table[1] for table in several], fars, costs
+
+
+def batch_length(several):
+    return sum(links_length(table[0], table[1]) for table in several)
+
+
+def sound_table(dice, n):
+    rows = good_links(dice, n)
+    return (n, len(rows)) + sides_and_costs(rows)
+
+
+def damaged_tables(dice, faults):
+    """Tables of a batch, one or two of them damaged, and the bytes that the sound ones need."""
+    several = [sound_table(dice, damaged_n(dice)) for _ in range(dice.one_of([1, 2, 2, 3]))]
+    out = batch_length(several)
+    last = len(several) - 1
+    for at in dice.one_of([[last], [last], [0], dice.mixed(range(last + 1))[:2]]):
+        some = some_of(dice, faults)
+        n = max(several[at][0], 4 if "own" in some else 3)
+        rows_faults = some & {"n", "count", "row", "own"}
+        bad = list(damage_links(dice, n, good_links(dice, n), rows_faults))
+        if "n" in some:
+            bad[0] = dice.one_of(BAD_IN_LIST)
+        bad[1] = min(bad[1], 2 ** 32 - 1)
+        several[at] = tuple(bad)
+        if not some & {"n", "count"}:
+            out = batch_length([table for table in several
+                                if 3 <= table[0] <= 64 and table[1] <= 125])
+    return several, out
+
+
+def damaged_lists(dice, faults, ns, counts, fars, costs):
+    """The joined rows cut short or left over, and the lists of unequal length."""
+    if "joined" in faults:
+        cut = dice.between(1, min(4, len(fars)))
+        which = dice.below(3)
+        fars = fars[:-cut] if which != 1 else fars
+        costs = costs[:-cut] if which != 0 else costs
+    if "left" in faults:
+        which = dice.below(3)
+        fars = fars + [2] * (1 + dice.below(3)) if which != 1 else fars
+        costs = costs + [1] if which != 0 else costs
+    if "lists" in faults:
+        ns, counts = dice.one_of([(ns + [3], counts), (ns, counts + [3]), (ns[:-1], counts),
+                                  ([], counts), (ns, [])])
+    return ns, counts, fars, costs
+
+
 def batch_cases(dice):
     yield [], [], [], [], []
     yield [], [], [], [], byte_places(dice, 5)
@@ -616,56 +682,16 @@ def batch_cases(dice):
     yield [], [3], [2, 4, 6], [1, 1, 1], byte_places(dice, 11)
     yield [3], [], [2, 4, 6], [1, 1, 1], byte_places(dice, 11)
     yield [2, 3], [3], [], [], []
-
-    def joined(several):
-        fars = [far for table in several for far in table[2]]
-        costs = [cost for table in several for cost in table[3]]
-        return [table[0] for table in several], [table[1] for table in several], fars, costs
-
-    def sound(n=None):
-        n = n or small_n(dice)
-        rows = good_links(dice, n)
-        return (n, len(rows)) + sides_and_costs(rows)
-
-    def length(several):
-        return sum(links_length(table[0], table[1]) for table in several)
-
     for _ in range(36):
-        several = [sound() for _ in range(dice.one_of([1, 2, 2, 3, 4]))]
-        yield joined(several) + (byte_places(dice, room(dice, length(several), False)),)
-    several = [sound(64), sound(3), sound(33)]
-    yield joined(several) + (byte_places(dice, length(several) + 2),)
+        several = [sound_table(dice, small_n(dice)) for _ in range(dice.one_of([1, 2, 2, 3, 4]))]
+        yield joined(several) + (byte_places(dice, room(dice, batch_length(several), False)),)
+    several = [sound_table(dice, n) for n in (64, 3, 33)]
+    yield joined(several) + (byte_places(dice, batch_length(several) + 2),)
     kinds = ["lists", "n", "count", "joined", "row", "own", "room", "left"]
     for faults in fault_sets(dice, kinds, 8, 90):
-        several = [sound(damaged_n(dice)) for _ in range(dice.one_of([1, 2, 2, 3]))]
-        out = length(several)
-        last = len(several) - 1
-        for at in dice.one_of([[last], [last], [0], dice.mixed(range(last + 1))[:2]]):
-            some = some_of(dice, faults)
-            n = max(several[at][0], 4 if "own" in some else 3)
-            rows_faults = some & {"n", "count", "row", "own"}
-            bad = list(damage_links(dice, n, good_links(dice, n), rows_faults))
-            if "n" in some:
-                bad[0] = dice.one_of(BAD_IN_LIST)
-            bad[1] = min(bad[1], 2 ** 32 - 1)
-            several[at] = tuple(bad)
-            if not some & {"n", "count"}:
-                out = length([table for table in several
-                              if 3 <= table[0] <= 64 and table[1] <= 125])
-        ns, counts, fars, costs = joined(several)
-        if "joined" in faults:
-            cut = dice.between(1, min(4, len(fars)))
-            which = dice.below(3)
-            fars = fars[:-cut] if which != 1 else fars
-            costs = costs[:-cut] if which != 0 else costs
-        if "left" in faults:
-            which = dice.below(3)
-            fars = fars + [2] * (1 + dice.below(3)) if which != 1 else fars
-            costs = costs + [1] if which != 0 else costs
-        if "lists" in faults:
-            ns, counts = dice.one_of([(ns + [3], counts), (ns, counts + [3]), (ns[:-1], counts),
-                                      ([], counts), (ns, [])])
-        yield ns, counts, fars, costs, byte_places(dice, room(dice, max(out, 2), "room" in faults))
+        several, out = damaged_tables(dice, faults)
+        lists = damaged_lists(dice, faults, *joined(several))
+        yield lists + (byte_places(dice, room(dice, max(out, 2), "room" in faults)),)
 
 
 # Stored bytes

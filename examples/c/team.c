@@ -7,7 +7,8 @@
 
 #include "kemotuiki.h"
 
-enum { N = 9 };
+/* ROOM is enough for the rows of any tree over N images. */
+enum { N = 9, ROOM = 2 * N - 3 };
 
 static uint32_t tables[N][N * N];
 
@@ -45,83 +46,105 @@ static void rows(size_t count, const uint64_t *fars, const uint32_t *costs) {
     printf("\n");
 }
 
-int main(void) {
-    uint64_t fars[2 * N - 3];
-    uint32_t costs[2 * N - 3], out[2 * N - 3], back[N * N];
-    uint8_t bytes[512];
-    KemotuikiAnswer r;
+static void numbers(const char *what, size_t count, const uint32_t *out) {
+    printf("%s", what);
+    for (size_t i = 0; i < count; i++) printf(" %u", out[i]);
+    printf("\n");
+}
 
-    fill();
+/* The link table of the image's tree, into slices with room for any; the row count. */
+static size_t tree_of(int image, uint64_t *fars, uint32_t *costs) {
+    return kemotuiki_exact(N, tables[image - 1], N * N, fars, ROOM, costs, ROOM).value;
+}
+
+static void read_exactly(void) {
+    uint64_t fars[ROOM];
+    uint32_t costs[ROOM];
     printf("each image reads its table exactly\n");
     for (int k = 0; k < N; k++) {
-        r = kemotuiki_exact(N, tables[k], N * N, fars, 2 * N - 3, costs, 2 * N - 3);
+        KemotuikiAnswer r = kemotuiki_exact(N, tables[k], N * N, fars, ROOM, costs, ROOM);
         printf("image %d: ", k + 1);
         if (r.number) refusal(r);
         else printf("%zu rows\n", r.value);
     }
-
     printf("image 9 reads what it measured\n");
-    r = kemotuiki_measured(N, tables[8], N * N, fars, 2 * N - 3, costs, 2 * N - 3);
-    rows(r.value, fars, costs);
+    rows(kemotuiki_measured(N, tables[8], N * N, fars, ROOM, costs, ROOM).value, fars, costs);
+}
 
+static void compare_all(void) {
     printf("trees compared with image 1 before the team forms\n");
     for (int k = 1; k < N; k++) {
-        r = kemotuiki_compare(N, tables[0], N * N, tables[k], N * N);
+        KemotuikiAnswer r = kemotuiki_compare(N, tables[0], N * N, tables[k], N * N);
         printf("image %d: ", k + 1);
         if (r.number) printf("table %zu ", r.table), refusal(r);
         else if (r.fourth) printf("differs, %zu of %zu; %zu in common\n", r.fourth, r.fifth, r.third);
         else printf("the same tree\n");
     }
+}
 
+static void use_tree(void) {
+    uint64_t fars[ROOM];
+    uint32_t costs[ROOM], out[ROOM];
+    size_t count = tree_of(1, fars, costs);
     printf("image 1's tree\n");
-    r = kemotuiki_exact(N, tables[0], N * N, fars, 2 * N - 3, costs, 2 * N - 3);
-    size_t count = r.value;
     rows(count, fars, costs);
-    r = kemotuiki_path(N, count, fars, count, costs, count, 3, 8);
-    printf("path cost of 3 and 8: %zu\n", r.value);
-    r = kemotuiki_route(N, count, fars, count, costs, count, 3, out, 2 * N - 3);
-    printf("route of 3:");
-    for (size_t i = 0; i < r.value; i++) printf(" %u", out[i]);
-    r = kemotuiki_upper_rows(N, count, fars, count, costs, count, out, 2 * N - 3);
-    printf("\nupper rows:");
-    for (size_t i = 0; i < r.value; i++) printf(" %u", out[i]);
-    r = kemotuiki_order(N, tables[0], N * N, 1, 9, out, 2 * N - 3);
-    printf("\norder from 1 to 9:");
-    for (size_t i = 0; i < r.value; i++) printf(" %u", out[i]);
-    r = kemotuiki_index(N, tables[0], N * N, 12);
-    printf("\nindex of 3 and 4 against the others: %zu\n", r.value);
+    printf("path cost of 3 and 8: %zu\n", kemotuiki_path(N, count, fars, count, costs, count, 3, 8).value);
+    numbers("route of 3:", kemotuiki_route(N, count, fars, count, costs, count, 3, out, ROOM).value, out);
+    numbers("upper rows:", kemotuiki_upper_rows(N, count, fars, count, costs, count, out, ROOM).value, out);
+    numbers("order from 1 to 9:", kemotuiki_order(N, tables[0], N * N, 1, 9, out, ROOM).value, out);
+    printf("index of 3 and 4 against the others: %zu\n", kemotuiki_index(N, tables[0], N * N, 12).value);
+}
 
-    /* the cost table and, behind it, the link table */
-    KemotuikiAnswer first = kemotuiki_write_costs(N, tables[0], N * N, bytes, sizeof bytes);
-    KemotuikiAnswer second = kemotuiki_write_links(N, count, fars, count, costs, count, bytes + first.value, sizeof bytes - first.value);
-    printf("stored: %zu bytes of costs, %zu of links\n", first.value, second.value);
-    r = kemotuiki_read_costs(bytes, first.value + second.value, 0, back, N * N);
+/* The cost table and, behind it, the link table, in one buffer; then both read back. */
+static void store(void) {
+    uint64_t fars[ROOM];
+    uint32_t costs[ROOM], back[N * N];
+    uint8_t bytes[512];
+    size_t count = tree_of(1, fars, costs);
+    size_t used = kemotuiki_write_costs(N, tables[0], N * N, bytes, sizeof bytes).value;
+    size_t more = kemotuiki_write_links(N, count, fars, count, costs, count, bytes + used, sizeof bytes - used).value;
+    printf("stored: %zu bytes of costs, %zu of links\n", used, more);
+    KemotuikiAnswer r = kemotuiki_read_costs(bytes, used + more, 0, back, N * N);
     printf("read back: %s\n", r.number == 0 && !memcmp(back, tables[0], sizeof back) ? "the same costs" : "not the same");
-    r = kemotuiki_read_links(bytes, first.value + second.value, 8 * r.second, fars, 2 * N - 3, costs, 2 * N - 3);
+    r = kemotuiki_read_links(bytes, used + more, 8 * r.second, fars, ROOM, costs, ROOM);
     printf("read back: %zu images, %zu rows, %zu bytes\n", r.value, r.second, r.third);
+}
 
-    /* image 1's tree and the measured one, stored in two buffers: which includes the other? */
+/* Image 1's tree against the measured one and against image 7's, each stored in a buffer: which includes the other? */
+static void choose(void) {
+    uint64_t fars[ROOM];
+    uint32_t costs[ROOM];
     uint8_t mine[256], theirs[256];
-    first = kemotuiki_write_links(N, r.second, fars, r.second, costs, r.second, mine, sizeof mine);
-    r = kemotuiki_measured(N, tables[8], N * N, fars, 2 * N - 3, costs, 2 * N - 3);
-    second = kemotuiki_write_links(N, r.value, fars, r.value, costs, r.value, theirs, sizeof theirs);
-    r = kemotuiki_choice(mine, first.value, theirs, second.value);
+    size_t count = tree_of(1, fars, costs);
+    size_t used = kemotuiki_write_links(N, count, fars, count, costs, count, mine, sizeof mine).value;
+    count = kemotuiki_measured(N, tables[8], N * N, fars, ROOM, costs, ROOM).value;
+    size_t other = kemotuiki_write_links(N, count, fars, count, costs, count, theirs, sizeof theirs).value;
+    KemotuikiAnswer r = kemotuiki_choice(mine, used, theirs, other);
     printf("image 1's tree and the measured one: table %zu, %zu bytes\n", r.value, r.second);
-    r = kemotuiki_exact(N, tables[6], N * N, fars, 2 * N - 3, costs, 2 * N - 3);
-    second = kemotuiki_write_links(N, r.value, fars, r.value, costs, r.value, theirs, sizeof theirs);
-    r = kemotuiki_choice(mine, first.value, theirs, second.value);
+    count = tree_of(7, fars, costs);
+    other = kemotuiki_write_links(N, count, fars, count, costs, count, theirs, sizeof theirs).value;
     printf("image 1's tree and image 7's: ");
-    refusal(r);
+    refusal(kemotuiki_choice(mine, used, theirs, other));
+}
 
-    /* both in one batch: the rows of image 7's tree stand behind those of image 1's */
-    uint64_t all_fars[4 * N - 6];
-    uint32_t all_costs[4 * N - 6], counts[2], images[2] = {N, N};
-    r = kemotuiki_exact(N, tables[0], N * N, all_fars, 2 * N - 3, all_costs, 2 * N - 3);
-    counts[0] = (uint32_t)r.value;
-    r = kemotuiki_exact(N, tables[6], N * N, all_fars + counts[0], 2 * N - 3, all_costs + counts[0], 2 * N - 3);
-    counts[1] = (uint32_t)r.value;
+/* Both trees in one batch: the rows of image 7's stand behind those of image 1's. */
+static void write_both(void) {
+    uint64_t fars[2 * ROOM];
+    uint32_t costs[2 * ROOM], counts[2], images[2] = {N, N};
+    uint8_t bytes[512];
+    counts[0] = (uint32_t)tree_of(1, fars, costs);
+    counts[1] = (uint32_t)tree_of(7, fars + counts[0], costs + counts[0]);
     size_t both = counts[0] + counts[1];
-    r = kemotuiki_write_batch(images, 2, counts, 2, all_fars, both, all_costs, both, bytes, sizeof bytes);
-    printf("both in one batch: %zu bytes\n", r.value);
+    printf("both in one batch: %zu bytes\n", kemotuiki_write_batch(images, 2, counts, 2, fars, both, costs, both, bytes, sizeof bytes).value);
+}
+
+int main(void) {
+    fill();
+    read_exactly();
+    compare_all();
+    use_tree();
+    store();
+    choose();
+    write_both();
     return 0;
 }
