@@ -25,7 +25,7 @@ else
     echo "examples: SKIPPED, no C compiler for x86-64"
 fi
 if [ -n "$FC" ]; then
-    "$FC" -std=f2018 -O2 -Wall -J "$work" fortran/kemotuiki.f90 examples/fortran/team.f90 "$archive" -o "$work/fortran"
+    "$FC" -std=f2018 -O2 -Wall -J "$work" fortran/kemotuiki.f90 examples/fortran/{network,team}.f90 "$archive" -o "$work/fortran"
     run fortran
 else
     echo "examples: SKIPPED, no Fortran compiler for x86-64"

@@ -9,7 +9,7 @@ cd "$(dirname "$0")/../.."
 skip() { echo "coarray: SKIPPED, $1"; exit 0; }
 work=$(mktemp -d)
 trap 'rm -rf "$work"' EXIT
-sources=(fortran/kemotuiki.f90 examples/coarray/team.f90)
+sources=(fortran/kemotuiki.f90 examples/fortran/network.f90 examples/coarray/team.f90)
 
 # apt-get for x86-64 with its own state, so that nothing is installed and no package of this machine is replaced
 foreign() {
