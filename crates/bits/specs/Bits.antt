@@ -22,6 +22,10 @@ bits (b ∷ bs) = bitsOf 8 b ++ bits bs
 unfoldable pub part : List ℕ → ℕ → ℕ → List ℕ
 part l position w = take w (drop position l)
 
+-- the number in the w bits of bytes from the position on
+abbrev pub numberAt : List ℕ → ℕ → ℕ → ℕ
+numberAt bs position w = valueOf (part (bits bs) position w)
+
 -- l, with those from the position on written over by m
 unfoldable pub overAt : List ℕ → ℕ → List ℕ → List ℕ
 overAt l position m = take position l ++ (m ++ drop (position + length m) l)

@@ -2,6 +2,7 @@
 pub mod Numbers
 pub mod Parts
 pub mod Bytes
+pub mod Words
 pub mod Turns
 pub mod Packed
 pub mod Written

@@ -3,7 +3,7 @@ ghost use mathlib.Core.Path.{_≡_};
 ghost use Prim.Native.Nat.{_*_, _+_, _/_, _%_, _^_, _<_, _≤_};
 ghost use lib.ListN.{length};
 ghost use Rattle.bits.specs.Kinds.{misplaced};
-ghost use Rattle.bits.specs.Bits.{bits, bitsOf, FieldWithin, overAt, part, Turn, valueOf};
+ghost use Rattle.bits.specs.Bits.{bits, bitsOf, FieldWithin, numberAt, overAt, part, Turn, valueOf};
 
 // The byte as a number of 64 bits.
 fn wide_byte(x: u8) -> u64
@@ -57,10 +57,42 @@ fn byte_with(b: u8, offset: usize, s: usize, v: u64) -> u8
     y as u8
 }
 
+// The number x with the byte behind it.
+fn with_byte(x: u64, b: u8) -> u64
+    requires { ⌜ x < 2 ^ 56 ⌝ }
+    ensures { λ r. ⌜ r ≡ x * 2 ^ 8 + b ⌝ }
+{
+    raised(x, 8) + wide_byte(b)
+}
+
+// The number x with the two bytes from q on behind it.
+fn with_two(x: u64, bytes: &[u8], q: usize) -> u64
+    requires { ⌜ (x < 2 ^ 48) × (q + 2 ≤ length (now bytes)) ⌝ }
+    ensures { λ r. ⌜ r ≡ x * 2 ^ 16 + numberAt (now (bytes .entry)) (8 * q) 16 ⌝ }
+{
+    with_byte(with_byte(x, bytes[q]), bytes[q + 1])
+}
+
+// The number x with the four bytes from q on behind it.
+fn with_four(x: u64, bytes: &[u8], q: usize) -> u64
+    requires { ⌜ (x < 2 ^ 32) × (q + 4 ≤ length (now bytes)) ⌝ }
+    ensures { λ r. ⌜ r ≡ x * 2 ^ 32 + numberAt (now (bytes .entry)) (8 * q) 32 ⌝ }
+{
+    with_two(with_two(x, bytes, q), bytes, q + 2)
+}
+
+// The number in the eight bytes from q on. In this form, each byte put behind those before it, the compiler makes one load of the eight.
+fn eight_bytes(bytes: &[u8], q: usize) -> u64
+    requires { ⌜ q + 8 ≤ length (now bytes) ⌝ }
+    ensures { λ r. ⌜ r ≡ numberAt (now (bytes .entry)) (8 * q) 64 ⌝ }
+{
+    with_four(with_four(0, bytes, q), bytes, q + 4)
+}
+
 // The number in the width bits at the position, taken byte by byte.
-pub fn get(bytes: &[u8], position: usize, width: usize) -> u64
+fn get_by_turns(bytes: &[u8], position: usize, width: usize) -> u64
     requires { ⌜ FieldWithin (length (now bytes)) position width ⌝ }
-    ensures { λ r. ⌜ r ≡ valueOf (part (bits (now (bytes .entry))) position width) ⌝ }
+    ensures { λ r. ⌜ r ≡ numberAt (now (bytes .entry)) position width ⌝ }
 {
     let mut value: u64 = 0;
     let mut done = 0;
@@ -74,6 +106,31 @@ pub fn get(bytes: &[u8], position: usize, width: usize) -> u64
         done += s;
     }
     value
+}
+
+// The number in at most 56 bits at the position. Such a field stands within the eight bytes from the byte on in which it begins, so that it is
+// a piece of their number; where fewer bytes are left, it is taken in turns.
+fn get_narrow(bytes: &[u8], position: usize, width: usize) -> u64
+    requires { ⌜ (width ≤ 56) × FieldWithin (length (now bytes)) position width ⌝ }
+    ensures { λ r. ⌜ r ≡ numberAt (now (bytes .entry)) position width ⌝ }
+{
+    let q = position / 8;
+    if 0 < width && 8 <= bytes.len() - q {
+        return bits_above(eight_bytes(bytes, q), 64 - position % 8 - width, width);
+    }
+    get_by_turns(bytes, position, width)
+}
+
+// The number in the width bits at the position. A wide field is taken as two narrow ones.
+pub fn get(bytes: &[u8], position: usize, width: usize) -> u64
+    requires { ⌜ FieldWithin (length (now bytes)) position width ⌝ }
+    ensures { λ r. ⌜ r ≡ valueOf (part (bits (now (bytes .entry))) position width) ⌝ }
+{
+    if width <= 56 {
+        return get_narrow(bytes, position, width);
+    }
+    let upper = width - 32;
+    raised(get_narrow(bytes, position, upper), 32) + get_narrow(bytes, position + upper, 32)
 }
 
 // The width bits at the position become the low bits of value, byte by byte; no other bit changes.

@@ -1,4 +1,4 @@
--- One turn of the loops of `get` and `put`: some bits more, all within one byte. Assumes nothing.
+-- One turn of the loops of `get_by_turns` and `put`: some bits more, all within one byte. Assumes nothing.
 use mathlib.Core.List.{List, _++_}
 use mathlib.Core.Path.{ap, ap₂, subst, sym, _∙_, _≡_}
 use Prim.Native.Nat.{ℕ, _%_, _*_, _+_, _-_, _/_, _<_, _^_, _≤_}
