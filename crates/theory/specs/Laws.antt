@@ -17,6 +17,7 @@ pub mod OneTree
 pub mod RowsGrow
 pub mod ReadingGrows
 -- Path costs.
+pub mod JoinedRows
 pub mod Paths
 pub mod RowsFound
 pub mod Positions

@@ -10,7 +10,7 @@ use Rattle.ground.specs.declared.Check.{Check}
 use Rattle.ground.specs.declared.Check.the-variants.{Passed, Refused}
 use Rattle.ground.specs.declared.Refusal.{Refusal}
 use Rattle.ground.specs.Outcomes.{frontIf}
-use Rattle.theory.specs.Laws.Paths.{rowsOf-fars}
+use Rattle.theory.specs.Laws.JoinedRows.{rowsOf-fars}
 use Rattle.theory.specs.Outcomes.{LeftRows, RowsOutcome}
 use Rattle.bits.specs.Laws.Listed.{length-listed}
 use Rattle.choice.specs.Call.{sidesOf}

@@ -18,7 +18,7 @@ use Rattle.ground.specs.declared.Check.the-variants.{Passed}
 use Rattle.theory.specs.Checks.{imagesCheck}
 use Rattle.theory.specs.Laws.Checks.{images-passed}
 use Rattle.theory.specs.FarSides.{Nested, own}
-use Rattle.theory.specs.Laws.Paths.{rowsOf-fars}
+use Rattle.theory.specs.Laws.JoinedRows.{rowsOf-fars}
 use Rattle.theory.specs.Laws.RowCount.{row-count}
 use Rattle.theory.specs.LinkTables.{LinkTable, fars, rowsOf}
 use Rattle.theory.specs.Readings.{drawn}

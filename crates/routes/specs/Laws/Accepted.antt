@@ -11,7 +11,7 @@ use Rattle.ground.specs.Refusals.{outside, refusal, roomCheck}
 use Rattle.ground.specs.Laws.Refusals.{outside-false, refuseIf-passed, then-passed}
 use Rattle.ground.specs.declared.Check.the-variants.{Passed}
 use Rattle.theory.specs.FarSides.{own}
-use Rattle.theory.specs.Laws.Paths.{rowsOf-fars}
+use Rattle.theory.specs.Laws.JoinedRows.{rowsOf-fars}
 use Rattle.theory.specs.Laws.RowCount.{row-count}
 use Rattle.theory.specs.LinkTables.{rowsOf}
 use Rattle.links.specs.Checks.{rowChecks, sizeChecks}

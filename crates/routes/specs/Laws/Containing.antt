@@ -15,7 +15,7 @@ use Rattle.theory.specs.FarSides.{FarSide, Nested, Within, holds, own}
 use Rattle.theory.specs.Laws.Contained.{and-within, within-and}
 use Rattle.theory.specs.Laws.FarSides.{far-image}
 use Rattle.theory.specs.Laws.Nested.{bit-holds}
-use Rattle.theory.specs.Laws.Paths.{rowsOf-fars}
+use Rattle.theory.specs.Laws.JoinedRows.{rowsOf-fars}
 use Rattle.theory.specs.Laws.Routes.{full-contains}
 use Rattle.theory.specs.Routes.{contains, uppers}
 use Rattle.links.specs.Laws.LinkChecks.{Links, link-rows}

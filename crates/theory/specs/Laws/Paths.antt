@@ -6,7 +6,6 @@ use mathlib.Core.Logic.{inl, inr, _⊎_}
 use mathlib.Core.Path.{ap, refl, _∙_, _≡_}
 use Prim.Native.Nat.{max, ℕ, _+_, _<_, _^_, _≤_}
 use native.Mathlib.Omega.{arith}
-use lib.ListN.{length}
 use borrow.Table.Steps.{cases}
 use Rattle.ground.specs.Laws.Ascending.{between-mem}
 use Rattle.ground.specs.Filters.{Each}
@@ -20,24 +19,8 @@ use Rattle.theory.specs.FarSides.{FarSide, holds}
 use Rattle.theory.specs.FourPoint.{FourPoint}
 use Rattle.theory.specs.Laws.FourPoint.{NoneAbove, four-point}
 use Rattle.theory.specs.Laws.Nested.{Uncrossed, nested-uncrossed}
-use Rattle.theory.specs.LinkTables.{LinkTable, Row, apart, costs, far, fars, path, rowsOf}
+use Rattle.theory.specs.LinkTables.{LinkTable, Row, apart, costs, far, fars, path}
 use Rattle.theory.specs.Readings.{Meets}
-
--- two lists of equal length, rowsOf and taken apart again
-pub rowsOf-fars : (l v : List ℕ) → length l ≡ length v → fars (rowsOf l v) ≡ l
-rowsOf-fars [] v e = refl
-rowsOf-fars (S ∷ l) [] e = absurd (omega arith)
-rowsOf-fars (S ∷ l) (c ∷ v) e = ap (λ z. S ∷ z) (rowsOf-fars l v (omega arith))
-
-pub rowsOf-costs : (l v : List ℕ) → length l ≡ length v → costs (rowsOf l v) ≡ v
-rowsOf-costs [] [] e = refl
-rowsOf-costs [] (c ∷ v) e = absurd (omega arith)
-rowsOf-costs (S ∷ l) [] e = absurd (omega arith)
-rowsOf-costs (S ∷ l) (c ∷ v) e = ap (λ z. c ∷ z) (rowsOf-costs l v (omega arith))
-
-pub rowsOf-all : (T : List Row) → rowsOf (fars T) (costs T) ≡ T
-rowsOf-all [] = refl
-rowsOf-all (r ∷ T) = ap (λ z. r ∷ z) (rowsOf-all T)
 
 pub path-same : (T : List Row) (i j : ℕ) → path T i j ≡ path T j i
 path-same T i j = sum-same _ _ T (λ r m. ap (λ b. when b (r .1)) (one-of-sym (holds (r .0) i) (holds (r .0) j)))
