@@ -25,7 +25,7 @@ pub record Split (s : ℕ → ℕ) (h n c : ℕ) (own other : List ℕ) : Type 0
   pub mine : Gathered n s h c own
   pub rest : Gathered n s (1 - h) (n - c) other
 
--- ## The quads that image k brings, over the lists of both sides
+-- ## The choices that image k brings, over the lists of both sides
 
 -- the least over b of the other side
 abbrev pub nearAt : ℕ → (ℕ → ℕ → ℕ) → ℕ → List ℕ → ℕ → ℕ → ℕ
@@ -36,9 +36,9 @@ abbrev pub sideAt : ℕ → (ℕ → ℕ → ℕ) → ℕ → List ℕ → ℕ �
 sideAt L d k own c e low = leastAt c own (4 * L) (λ a. low + (L + d a e - d k a))
 
 -- the least of those with e on the other side
-abbrev pub quadsAt : ℕ → (ℕ → ℕ → ℕ) → ℕ → List ℕ → ℕ → List ℕ → ℕ → ℕ → ℕ
-quadsAt L d k own c other r e = sideAt L d k own c e (nearAt L d k other r e)
+abbrev pub choicesAt : ℕ → (ℕ → ℕ → ℕ) → ℕ → List ℕ → ℕ → List ℕ → ℕ → ℕ → ℕ
+choicesAt L d k own c other r e = sideAt L d k own c e (nearAt L d k other r e)
 
 -- the least of all
 abbrev pub moreAt : ℕ → (ℕ → ℕ → ℕ) → ℕ → List ℕ → ℕ → List ℕ → ℕ → ℕ
-moreAt L d k own c other r = leastAt r other (4 * L) (quadsAt L d k own c other r)
+moreAt L d k own c other r = leastAt r other (4 * L) (choicesAt L d k own c other r)

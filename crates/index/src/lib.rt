@@ -7,10 +7,10 @@ ghost use lib.ListN.{getD, length};
 ghost use Rattle.ground.specs.Bits.{bit};
 ghost use Rattle.theory.specs.FarSides.{FarSide};
 ghost use Rattle.theory.specs.Index.{shifted};
-ghost use Rattle.theory.specs.Laws.FewSteps.{extFast};
+ghost use Rattle.theory.specs.Laws.FewSteps.{broughtFast};
 ghost use Rattle.theory.specs.Tables.{limit, cost, CostTable};
 ghost use Rattle.index.specs.Call.{badFarSide, indexCheck, indexAnswer};
-ghost use Rattle.index.specs.Sides.{Images, Split, moreAt, nearAt, quadsAt, sideAt};
+ghost use Rattle.index.specs.Sides.{Images, Split, moreAt, nearAt, choicesAt, sideAt};
 
 // What no value that counts exceeds: the start of every least value.
 const CAP: u32 = 4 * theory::LIMIT;
@@ -99,7 +99,7 @@ fn turn_side(t: &[u32], n: usize, k: usize, e: usize, low: u32, a: usize, best: 
     ground::lower(best, low + (theory::LIMIT + x - y))
 }
 
-// The least value of the quads of image k with e on the other side: low is the least over b, and a goes over k's own side, k among it.
+// The least value of the choices of image k with e on the other side: low is the least over b, and a goes over k's own side, k among it.
 fn least_side(t: &[u32], n: usize, k: usize, e: usize, low: u32, own: &[u8], count: usize) -> u32
     requires { ⌜ CostTable limit n (now t) × Images n count (now own) × (k < n) × (e < n) × (low ≤ 4 * limit) ⌝ }
     ensures { λ r. ⌜ r ≡ sideAt limit (cost (now (t .entry)) n) k (now (own .entry)) count e low ⌝ }
@@ -113,7 +113,7 @@ fn least_side(t: &[u32], n: usize, k: usize, e: usize, low: u32, own: &[u8], cou
     best
 }
 
-// The least value of the quads of image k with e, and of those so far.
+// The least value of the choices of image k with e, and of those so far.
 fn turn_more(
     t: &[u32],
     n: usize,
@@ -126,13 +126,13 @@ fn turn_more(
     best: u32,
 ) -> u32
     requires { ⌜ CostTable limit n (now t) × Images n count (now own) × Images n rest (now other) × (k < n) × (e < n) ⌝ }
-    ensures { λ r. ⌜ r ≡ min (quadsAt limit (cost (now (t .entry)) n) k (now (own .entry)) count (now (other .entry)) rest e) best ⌝ }
+    ensures { λ r. ⌜ r ≡ min (choicesAt limit (cost (now (t .entry)) n) k (now (own .entry)) count (now (other .entry)) rest e) best ⌝ }
 {
     let low = near(t, n, k, e, other, rest);
     ground::lower(best, least_side(t, n, k, e, low, own, count))
 }
 
-// The least value of the quads that image k brings; once it is at most floor, nothing more is asked.
+// The least value of the choices that image k brings; once it is at most floor, nothing more is asked.
 fn least_more(
     t: &[u32],
     n: usize,
@@ -159,11 +159,11 @@ fn least_more(
     best
 }
 
-// Law I4, one image more: the least of v, the value over the first k images, and of the quads that image k brings, in k² steps.
+// Law I4, one image more: the least of v, the value over the first k images, and of the choices that image k brings, in k² steps.
 // A value of floor or less is answered as floor, since the measured reading asks no more of a division that is none.
 pub fn one_more(t: &[u32], n: usize, s: u64, k: usize, v: u32, floor: u32) -> u32
     requires { ⌜ CostTable limit n (now t) × (k < n) ⌝ }
-    ensures { λ r. ⌜ r ≡ max floor (min v (extFast limit (cost (now (t .entry)) n) k (bit s))) ⌝ }
+    ensures { λ r. ⌜ r ≡ max floor (min v (broughtFast limit (cost (now (t .entry)) n) k (bit s))) ⌝ }
 {
     let mut own = [0u8; 64];
     let mut other = [0u8; 64];

@@ -15,7 +15,7 @@ shifted L d n s =
 abbrev pub clipped : ℕ → (ℕ → ℕ → ℕ) → ℕ → (ℕ → ℕ) → ℕ
 clipped L d n s = shifted L d n s - 2 * L
 
--- the index is at least v, quad by quad
+-- the index is at least v, choice by choice
 pub record AtLeast (d : ℕ → ℕ → ℕ) (n : ℕ) (s : ℕ → ℕ) (v : ℕ) : Type 0 where
   pub low : {a a′ b b′ : ℕ} → On n s 0 a → On n s 0 a′ → On n s 1 b → On n s 1 b′
       → v + d a a′ + d b b′ ≤ d a b + d a′ b′

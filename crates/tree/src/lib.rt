@@ -7,7 +7,7 @@ ghost use lib.ListN.{length};
 ghost use Rattle.ground.specs.Bits.{bit};
 ghost use Rattle.ground.specs.Buffers.{over};
 ghost use Rattle.ground.specs.Counts.{one-if};
-ghost use Rattle.theory.specs.Laws.FewSteps.{extFast};
+ghost use Rattle.theory.specs.Laws.FewSteps.{broughtFast};
 ghost use Rattle.theory.specs.Laws.ReadingGrows.{stays};
 ghost use Rattle.theory.specs.Outcomes.{LeftRows};
 ghost use Rattle.theory.specs.Readings.{measured};
@@ -29,7 +29,7 @@ struct Rows {
 // The cost of the far side s once image k is there, from its cost c over the first k images.
 fn cost_more(t: &[u32], n: usize, k: usize, s: u64, c: u32) -> u32
     requires { ⌜ CostTable limit n (now t) × (k < n) × (c ≤ 2 * limit) ⌝ }
-    ensures { λ r. ⌜ r ≡ min c (extFast limit (cost (now (t .entry)) n) k (bit s) - 2 * limit) ⌝ }
+    ensures { λ r. ⌜ r ≡ min c (broughtFast limit (cost (now (t .entry)) n) k (bit s) - 2 * limit) ⌝ }
 {
     let floor = 2 * theory::LIMIT;
     index::one_more(t, n, s, k, c + floor, floor) - floor

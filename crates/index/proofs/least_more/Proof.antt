@@ -4,14 +4,14 @@ use Prim.Native.Nat.{_*_, _-_, _≤_, max}
 use native.Mathlib.Omega.{arith}
 use Rattle.ground.specs.Laws.Least.{leastOn-end, leastOn-fewer, leastOn-none, leastOn-turn}
 use Rattle.theory.specs.Tables.{cost, limit}
-use Rattle.index.specs.Sides.{leastAt, quadsAt}
+use Rattle.index.specs.Sides.{leastAt, choicesAt}
 use Rattle.index.specs.Laws.Sides.{floored}
 use borrow.Author.Needs.{needs}
 use Rattle.index.proofs.least_more.Statement.{statement}
 use Rattle.index.proofs.least_more.Tie as tie
 
 abbrev Inv-loop : tie.InvT-loop
-Inv-loop t n k own count other rest floor best₀ i₀ best i = (i ≤ rest) × (best ≡ leastAt i other (4 * limit) (quadsAt limit (cost t n) k own count other rest))
+Inv-loop t n k own count other rest floor best₀ i₀ best i = (i ≤ rest) × (best ≡ leastAt i other (4 * limit) (choicesAt limit (cost t n) k own count other rest))
 
 abbrev μ-loop : tie.MeasureT-loop
 μ-loop t n k own count other rest floor best₀ i₀ best i = rest - i

@@ -4,7 +4,7 @@ use Prim.Native.Nat.{_+_, max}
 use native.Mathlib.Omega.{arith}
 use Rattle.ground.specs.Bits.{bit}
 use Rattle.ground.specs.Laws.Bits.{bit-lt}
-use Rattle.theory.specs.Laws.FewSteps.{extFast}
+use Rattle.theory.specs.Laws.FewSteps.{broughtFast}
 use Rattle.theory.specs.Tables.{cost, limit}
 use Rattle.index.specs.Sides.{Split}
 use Rattle.index.specs.Laws.Sides.{images-wider, more-at}
@@ -16,8 +16,8 @@ use Rattle.index.proofs.one_more.Tie as tie
 split : (c : tie.After-sides) → let a = c .before .before .before .before .before .args in Split (bit (a .s)) (bit (a .s) (a .k)) (a .k + 1) (c .sides .result) (c .sides .last .1 .1 .1 .0) (c .sides .last .1 .1 .1 .1 .0)
 split c = rw (c .before .before .before .side .ensures) at (c .sides .ensures)
 
--- image k's quads are those of the theory
-brought : (c : tie.After-least-more) → let a = c .before .before .before .before .before .before .before .before .before .before .args in max (a .floor) (c .least-more .result) ≡ max (a .floor) (extFast limit (cost (a .t .now) (a .n)) (a .k) (bit (a .s)))
+-- image k's choices are those of the theory
+brought : (c : tie.After-least-more) → let a = c .before .before .before .before .before .before .before .before .before .before .args in max (a .floor) (c .least-more .result) ≡ max (a .floor) (broughtFast limit (cost (a .t .now) (a .n)) (a .k) (bit (a .s)))
 brought c =
     let a = c .before .before .before .before .before .before .before .before .before .before .args in
     c .least-more .ensures ∙ ap (max _) (more-at limit _ (a .k) (bit (a .s)) _ _ _ (bit-lt (a .s) (a .k)) (split (c .before .before .before .before .before)))

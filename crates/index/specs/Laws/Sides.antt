@@ -12,7 +12,7 @@ use borrow.Author.Tests.{eq-eqb, eqb-false, eqb-true, ne-eqb}
 use borrow.Table.Steps.{cases}
 use Rattle.ground.specs.Least.{leastOn}
 use Rattle.ground.specs.Laws.Least.{leastOn-same}
-use Rattle.theory.specs.Laws.FewSteps.{extFast, extNear, extSide}
+use Rattle.theory.specs.Laws.FewSteps.{broughtFast, broughtNear, broughtSide}
 use Rattle.index.specs.Sides.{Gathered, Images, Split, leastAt, moreAt}
 
 -- ## One image more
@@ -80,8 +80,8 @@ unfolding leastOn
 beside s k cap f h = rw (ne-eqb (s k) (1 - s k) (λ e. omega arith))
 
 pub more-at : (L : ℕ) (d : ℕ → ℕ → ℕ) (k : ℕ) (s : ℕ → ℕ) (c : ℕ) (own other : List ℕ) → s k < 2 → Split s (s k) (k + 1) c own other
-    → moreAt L d k own c other (k + 1 - c) ≡ extFast L d k s
-unfolding extFast extSide extNear
+    → moreAt L d k own c other (k + 1 - c) ≡ broughtFast L d k s
+unfolding broughtFast broughtSide broughtNear
 more-at L d k s c own other h q =
     let p : Split s (s k) (suc k) c own other = rw add-one at q in
     rw add-one

@@ -1,4 +1,4 @@
--- The shift cuts nothing off, the least value is attained, and one pairing of each quad is enough (I1).
+-- The shift cuts nothing off, the least value is attained, and one pairing of each choice is enough (I1).
 -- Assumes nothing.
 use mathlib.Core.Path.{_∙_, _≡_}
 use Prim.Native.Nat.{min, ℕ, _*_, _+_, _-_, _<_, _≤_}

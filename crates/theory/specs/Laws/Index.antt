@@ -29,7 +29,7 @@ module _ (L : ℕ) (d : ℕ → ℕ → ℕ) (n : ℕ) (s : ℕ → ℕ) where
       le-leastOn s 1 (4 * L) _ n v c (λ b hb. le-leastOn s 1 (4 * L) _ n v c (λ b′ hb′. h a a′ b b′ ha ha′ hb hb′))))
 
   module _ (c : WellFormed L d n) where
-    -- I2. What the index says, of one pairing of each quad (I1): v ≤ index.
+    -- I2. What the index says, of one pairing of each choice (I1): v ≤ index.
     pub at-least-shifted : (v : ℕ) → v ≤ 2 * L → AtLeast d n s v ↔ (2 * L + v ≤ shifted L d n s)
     at-least-shifted v le = (
       λ p. le-shifted (2 * L + v) (omega arith) (λ a a′ b b′ ha ha′ hb hb′. omega (arith, p .low ha ha′ hb hb′, p .low ha ha′ hb′ hb, c .same (hb .0) (hb′ .0))),

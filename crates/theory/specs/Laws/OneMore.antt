@@ -1,4 +1,4 @@
--- Law I4, one image more: the index over k + 1 images from the index over k and the quads in which image k takes part.
+-- Law I4, one image more: the index over k + 1 images from the index over k and the choices in which image k takes part.
 -- Assumes nothing.
 use mathlib.Core.Logic.{inl, inr, _⊎_}
 use mathlib.Core.Path.{ap, sym, _∙_, _≡_}
@@ -14,26 +14,26 @@ use Rattle.theory.specs.Index.{gain, shifted}
 use Rattle.theory.specs.Laws.Index.{le-shifted, shifted-cap, shifted-le}
 use Rattle.theory.specs.Tables.{WellFormed}
 
--- one pairing of a quad with image k: a on k's side, b and b′ on the other
+-- one pairing of a choice with image k: a on k's side, b and b′ on the other
 abbrev pub pairing : ℕ → (ℕ → ℕ → ℕ) → ℕ → ℕ → ℕ → ℕ → ℕ
 pairing L d k a b b′ = 2 * L + (d k b + d a b′) - (d k a + d b b′)
 
 -- the least of them
-unfoldable pub ext : ℕ → (ℕ → ℕ → ℕ) → ℕ → (ℕ → ℕ) → ℕ
-ext L d k s = leastOn (suc k) s (s k) (4 * L) (λ a. leastOn k s (1 - s k) (4 * L) (λ b. leastOn k s (1 - s k) (4 * L) (λ b′. pairing L d k a b b′)))
+unfoldable pub brought : ℕ → (ℕ → ℕ → ℕ) → ℕ → (ℕ → ℕ) → ℕ
+brought L d k s = leastOn (suc k) s (s k) (4 * L) (λ a. leastOn k s (1 - s k) (4 * L) (λ b. leastOn k s (1 - s k) (4 * L) (λ b′. pairing L d k a b b′)))
 
 module _ (L : ℕ) (d : ℕ → ℕ → ℕ) (k : ℕ) (s : ℕ → ℕ) where
-  pub ext-le : {a b b′ : ℕ} → On (suc k) s (s k) a → On k s (1 - s k) b → On k s (1 - s k) b′ → ext L d k s ≤ pairing L d k a b b′
-  unfolding ext
-  ext-le {a} {b} {b′} ha hb hb′ = le-trans (leastOn-le s (s k) (4 * L) _ (suc k) a ha) (le-trans (leastOn-le s (1 - s k) (4 * L) _ k b hb) (leastOn-le s (1 - s k) (4 * L) _ k b′ hb′))
+  pub brought-le : {a b b′ : ℕ} → On (suc k) s (s k) a → On k s (1 - s k) b → On k s (1 - s k) b′ → brought L d k s ≤ pairing L d k a b b′
+  unfolding brought
+  brought-le {a} {b} {b′} ha hb hb′ = le-trans (leastOn-le s (s k) (4 * L) _ (suc k) a ha) (le-trans (leastOn-le s (1 - s k) (4 * L) _ k b hb) (leastOn-le s (1 - s k) (4 * L) _ k b′ hb′))
 
-  pub le-ext : (v : ℕ) → v ≤ 4 * L → ((a b b′ : ℕ) → On (suc k) s (s k) a → On k s (1 - s k) b → On k s (1 - s k) b′ → v ≤ pairing L d k a b b′) → v ≤ ext L d k s
-  unfolding ext
-  le-ext v c h = le-leastOn s (s k) (4 * L) _ (suc k) v c (λ a ha. le-leastOn s (1 - s k) (4 * L) _ k v c (λ b hb. le-leastOn s (1 - s k) (4 * L) _ k v c (λ b′ hb′. h a b b′ ha hb hb′)))
+  pub le-brought : (v : ℕ) → v ≤ 4 * L → ((a b b′ : ℕ) → On (suc k) s (s k) a → On k s (1 - s k) b → On k s (1 - s k) b′ → v ≤ pairing L d k a b b′) → v ≤ brought L d k s
+  unfolding brought
+  le-brought v c h = le-leastOn s (s k) (4 * L) _ (suc k) v c (λ a ha. le-leastOn s (1 - s k) (4 * L) _ k v c (λ b hb. le-leastOn s (1 - s k) (4 * L) _ k v c (λ b′ hb′. h a b b′ ha hb hb′)))
 
-  pub ext-cap : ext L d k s ≤ 4 * L
-  unfolding ext
-  ext-cap = leastOn-cap s (s k) (4 * L) _ (suc k)
+  pub brought-cap : brought L d k s ≤ 4 * L
+  unfolding brought
+  brought-cap = leastOn-cap s (s k) (4 * L) _ (suc k)
 
   module _ (c : WellFormed L d (suc k)) (two : s k < 2) where
     up : {g a : ℕ} → On k s g a → On (suc k) s g a
@@ -43,8 +43,8 @@ module _ (L : ℕ) (d : ℕ → ℕ → ℕ) (k : ℕ) (s : ℕ → ℕ) where
     down : {g a : ℕ} → On (suc k) s g a → (a ≡ k → ⊥) → On k s g a
     down o h = (omega arith, o .1)
 
-    shifted-ext : shifted L d (suc k) s ≤ ext L d k s
-    shifted-ext = le-ext (shifted L d (suc k) s) (shifted-cap L d (suc k) s) (λ a b b′ ha hb hb′.
+    shifted-brought : shifted L d (suc k) s ≤ brought L d k s
+    shifted-brought = le-brought (shifted L d (suc k) s) (shifted-cap L d (suc k) s) (λ a b b′ ha hb hb′.
         cases (eqb (s k) 0)
         (λ e.
         let k0 = eqb-true (s k) 0 e in
@@ -64,33 +64,33 @@ module _ (L : ℕ) (d : ℕ → ℕ → ℕ) (k : ℕ) (s : ℕ → ℕ) where
     shifted-fewer = le-shifted L d k s (shifted L d (suc k) s) (shifted-cap L d (suc k) s)
         (λ a a′ b b′ ha ha′ hb hb′. shifted-le L d (suc k) s (up ha) (up ha′) (up hb) (up hb′))
 
-    -- a quad with image k on the near side is one of ext's, in both pairings; and so with image k on the far side
-    near-ext : {a a′ b b′ : ℕ} → On (suc k) s 0 a → On (suc k) s 0 a′ → On (suc k) s 1 b → On (suc k) s 1 b′ → a ≡ k → ext L d k s ≤ gain L d a a′ b b′
-    near-ext {a} {a′} {b} {b′} ha ha′ hb hb′ e =
+    -- a choice with image k on the near side is one of those, in both pairings; and so with image k on the far side
+    near-brought : {a a′ b b′ : ℕ} → On (suc k) s 0 a → On (suc k) s 0 a′ → On (suc k) s 1 b → On (suc k) s 1 b′ → a ≡ k → brought L d k s ≤ gain L d a a′ b b′
+    near-brought {a} {a′} {b} {b′} ha ha′ hb hb′ e =
         let k0 : 0 ≡ s k = sym (ha .1) ∙ ap s e in
         let o : 1 ≡ 1 - s k = omega arith in
         let ob = down hb (λ t. omega (arith, ap s t, hb .1)) in
         let ob′ = down hb′ (λ t. omega (arith, ap s t, hb′ .1)) in
         omega (
           arith,
-          ext-le {a = a′} {b = b} {b′ = b′} (ha′ .0, ha′ .1 ∙ k0) (ob .0, ob .1 ∙ o) (ob′ .0, ob′ .1 ∙ o),
-          ext-le {a = a′} {b = b′} {b′ = b} (ha′ .0, ha′ .1 ∙ k0) (ob′ .0, ob′ .1 ∙ o) (ob .0, ob .1 ∙ o),
+          brought-le {a = a′} {b = b} {b′ = b′} (ha′ .0, ha′ .1 ∙ k0) (ob .0, ob .1 ∙ o) (ob′ .0, ob′ .1 ∙ o),
+          brought-le {a = a′} {b = b′} {b′ = b} (ha′ .0, ha′ .1 ∙ k0) (ob′ .0, ob′ .1 ∙ o) (ob .0, ob .1 ∙ o),
           c .same (hb .0) (hb′ .0),
           ap (λ (x : ℕ). d x b) e,
           ap (λ (x : ℕ). d x b′) e,
           ap (λ (x : ℕ). d x a′) e,
         )
 
-    far-ext : {a a′ b b′ : ℕ} → On (suc k) s 0 a → On (suc k) s 0 a′ → On (suc k) s 1 b → On (suc k) s 1 b′ → b ≡ k → ext L d k s ≤ gain L d a a′ b b′
-    far-ext {a} {a′} {b} {b′} ha ha′ hb hb′ e =
+    far-brought : {a a′ b b′ : ℕ} → On (suc k) s 0 a → On (suc k) s 0 a′ → On (suc k) s 1 b → On (suc k) s 1 b′ → b ≡ k → brought L d k s ≤ gain L d a a′ b b′
+    far-brought {a} {a′} {b} {b′} ha ha′ hb hb′ e =
         let k1 : 1 ≡ s k = sym (hb .1) ∙ ap s e in
         let o : 0 ≡ 1 - s k = omega arith in
         let oa = down ha (λ t. omega (arith, ap s t, ha .1)) in
         let oa′ = down ha′ (λ t. omega (arith, ap s t, ha′ .1)) in
         omega (
           arith,
-          ext-le {a = b′} {b = a} {b′ = a′} (hb′ .0, hb′ .1 ∙ k1) (oa .0, oa .1 ∙ o) (oa′ .0, oa′ .1 ∙ o),
-          ext-le {a = b′} {b = a′} {b′ = a} (hb′ .0, hb′ .1 ∙ k1) (oa′ .0, oa′ .1 ∙ o) (oa .0, oa .1 ∙ o),
+          brought-le {a = b′} {b = a} {b′ = a′} (hb′ .0, hb′ .1 ∙ k1) (oa .0, oa .1 ∙ o) (oa′ .0, oa′ .1 ∙ o),
+          brought-le {a = b′} {b = a′} {b′ = a} (hb′ .0, hb′ .1 ∙ k1) (oa′ .0, oa′ .1 ∙ o) (oa .0, oa .1 ∙ o),
           c .same (ha .0) (ha′ .0),
           c .same (ha .0) (hb .0),
           c .same (ha′ .0) (hb .0),
@@ -108,28 +108,28 @@ module _ (L : ℕ) (d : ℕ → ℕ → ℕ) (k : ℕ) (s : ℕ → ℕ) where
         let q : d a b′ + d a′ b ≡ d a′ b + d a b′ = omega arith in
         rw (p, q, c .same (ha .0) (ha′ .0), c .same (hb .0) (hb′ .0))
 
-    quad-ext : {a a′ b b′ : ℕ} → On (suc k) s 0 a → On (suc k) s 0 a′ → On (suc k) s 1 b → On (suc k) s 1 b′
-        → (a ≡ k) ⊎ ((a′ ≡ k) ⊎ ((b ≡ k) ⊎ (b′ ≡ k))) → ext L d k s ≤ gain L d a a′ b b′
-    quad-ext ha ha′ hb hb′ (inl e) = near-ext ha ha′ hb hb′ e
-    quad-ext ha ha′ hb hb′ (inr (inl e)) = rw (gain-swap ha ha′ hb hb′) (near-ext ha′ ha hb′ hb e)
-    quad-ext ha ha′ hb hb′ (inr (inr (inl e))) = far-ext ha ha′ hb hb′ e
-    quad-ext ha ha′ hb hb′ (inr (inr (inr e))) = rw (gain-swap ha ha′ hb hb′) (far-ext ha′ ha hb′ hb e)
+    choice-brought : {a a′ b b′ : ℕ} → On (suc k) s 0 a → On (suc k) s 0 a′ → On (suc k) s 1 b → On (suc k) s 1 b′
+        → (a ≡ k) ⊎ ((a′ ≡ k) ⊎ ((b ≡ k) ⊎ (b′ ≡ k))) → brought L d k s ≤ gain L d a a′ b b′
+    choice-brought ha ha′ hb hb′ (inl e) = near-brought ha ha′ hb hb′ e
+    choice-brought ha ha′ hb hb′ (inr (inl e)) = rw (gain-swap ha ha′ hb hb′) (near-brought ha′ ha hb′ hb e)
+    choice-brought ha ha′ hb hb′ (inr (inr (inl e))) = far-brought ha ha′ hb hb′ e
+    choice-brought ha ha′ hb hb′ (inr (inr (inr e))) = rw (gain-swap ha ha′ hb hb′) (far-brought ha′ ha hb′ hb e)
 
-    ext-shifted : min (shifted L d k s) (ext L d k s) ≤ shifted L d (suc k) s
-    ext-shifted =
-        le-shifted L d (suc k) s (min (shifted L d k s) (ext L d k s)) (omega (arith, ext-cap)) (λ a a′ b b′ ha ha′ hb hb′.
-        let q = quad-ext ha ha′ hb hb′ in
+    brought-shifted : min (shifted L d k s) (brought L d k s) ≤ shifted L d (suc k) s
+    brought-shifted =
+        le-shifted L d (suc k) s (min (shifted L d k s) (brought L d k s)) (omega (arith, brought-cap)) (λ a a′ b b′ ha ha′ hb hb′.
+        let q = choice-brought ha ha′ hb hb′ in
         cases (eqb a k) (λ t. omega (arith, q (inl (eqb-true a k t))))
         (λ t. cases (eqb a′ k) (λ u. omega (arith, q (inr (inl (eqb-true a′ k u)))))
         (λ u. cases (eqb b k) (λ v. omega (arith, q (inr (inr (inl (eqb-true b k v))))))
         (λ v. cases (eqb b′ k) (λ w. omega (arith, q (inr (inr (inr (eqb-true b′ k w))))))
         (λ w. omega (arith, shifted-le L d k s (down ha (eqb-false a k t)) (down ha′ (eqb-false a′ k u)) (down hb (eqb-false b k v)) (down hb′ (eqb-false b′ k w))))))))
 
-    -- I4. Over no far image below k, shifted L d k s is the start value, and ext decides alone.
-    pub shifted-more : shifted L d (suc k) s ≡ min (shifted L d k s) (ext L d k s)
-    shifted-more = le-antisymm (omega (arith, shifted-fewer, shifted-ext)) ext-shifted
+    -- I4. Over no far image below k, shifted L d k s is the start value, and brought decides alone.
+    pub shifted-more : shifted L d (suc k) s ≡ min (shifted L d k s) (brought L d k s)
+    shifted-more = le-antisymm (omega (arith, shifted-fewer, shifted-brought)) brought-shifted
 
--- over images none of which is far, there is no quad: the start value stands
+-- over images none of which is far, there is no choice: the start value stands
 pub shifted-none : (L : ℕ) (d : ℕ → ℕ → ℕ) (k : ℕ) (s : ℕ → ℕ) → ((a : ℕ) → a < k → s a ≡ 0) → shifted L d k s ≡ 4 * L
 shifted-none L d k s h =
     le-antisymm (shifted-cap L d k s) (le-shifted L d k s (4 * L) (omega arith) (λ a a′ b b′ ha ha′ hb hb′. absurd (omega (arith, h b (hb .0), hb .1))))

@@ -12,7 +12,7 @@ use Rattle.ground.specs.Filters.{filter}
 use Rattle.ground.specs.Laws.Maps.{filter-map, map-append, map-same}
 use Rattle.theory.specs.FarSides.{inner}
 use Rattle.theory.specs.Index.{clipped}
-use Rattle.theory.specs.Laws.FewSteps.{ext-fast, extFast}
+use Rattle.theory.specs.Laws.FewSteps.{brought-fast, broughtFast}
 use Rattle.theory.specs.Laws.Index.{shifted-same}
 use Rattle.theory.specs.Laws.OneMore.{shifted-more, shifted-none}
 use Rattle.theory.specs.Laws.RowsGrow.{drawnFar, rows-step}
@@ -22,7 +22,7 @@ use Rattle.theory.specs.Tables.{WellFormed}
 
 -- the row of S over k + 1 images, from its cost v over the first k
 abbrev pub more : ℕ → (ℕ → ℕ → ℕ) → ℕ → ℕ → ℕ → Row
-more L d k S v = (S, min v (extFast L d k (bit S) - 2 * L))
+more L d k S v = (S, min v (broughtFast L d k (bit S) - 2 * L))
 
 -- own link, or cost above 0
 abbrev pub stays : ℕ → Row → Bool
@@ -40,7 +40,7 @@ module _ (L : ℕ) (d : ℕ → ℕ → ℕ) (k : ℕ) (c : WellFormed L d (suc 
   -- S over one image more, R the same over the images before
   more-is : (S R : ℕ) → ((a : ℕ) → a < suc k → bit S a ≡ bit R a) → more L d (suc k) S (clipped L d (suc k) (bit R)) ≡ row L d n S
   more-is S R e =
-      ap (λ v. (S, v)) (omega (arith, ext-fast L d (suc k) (bit S) c (bit-lt S (suc k)), shifted-more L d (suc k) (bit S) c (bit-lt S (suc k)), shifted-same L d (suc k) (bit S) (bit R) e))
+      ap (λ v. (S, v)) (omega (arith, brought-fast L d (suc k) (bit S) c (bit-lt S (suc k)), shifted-more L d (suc k) (bit S) c (bit-lt S (suc k)), shifted-same L d (suc k) (bit S) (bit R) e))
 
   -- no far image among those before
   more-own : more L d (suc k) (2 ^ suc k) (2 * L) ≡ row L d n (2 ^ suc k)
@@ -48,7 +48,7 @@ module _ (L : ℕ) (d : ℕ → ℕ → ℕ) (k : ℕ) (c : WellFormed L d (suc 
       ap (λ v. (2 ^ suc k, v))
       (omega (
         arith,
-        ext-fast L d (suc k) (bit (2 ^ suc k)) c (bit-lt (2 ^ suc k) (suc k)),
+        brought-fast L d (suc k) (bit (2 ^ suc k)) c (bit-lt (2 ^ suc k) (suc k)),
         shifted-more L d (suc k) (bit (2 ^ suc k)) c (bit-lt (2 ^ suc k) (suc k)),
         shifted-none L d (suc k) (bit (2 ^ suc k)) (λ a h. bit-pow-other (suc k) a (λ e. omega arith)),
       ))

@@ -21,14 +21,14 @@ use Rattle.theory.specs.Readings.{Meets}
 module _ (L n : ℕ) (T : List Row) (t : LinkTable L n T) (d : ℕ → ℕ → ℕ) (e : Meets d n T) where
   pub row-low : Each T (λ r. AtLeast d n (bit (r .0)) (r .1))
   row-low r m = record {
-    low = λ {a} {a′} {b} {b′} ha ha′ hb hb′. quad a a′ b b′ ha ha′ hb hb′
+    low = λ {a} {a′} {b} {b′} ha ha′ hb hb′. choice a a′ b b′ ha ha′ hb hb′
         (bit-holds-not (r .0) a (ha .1)) (bit-holds-not (r .0) a′ (ha′ .1)) (bit-holds (r .0) b (hb .1)) (bit-holds (r .0) b′ (hb′ .1));
   }
     where
-      quad : (a a′ b b′ : ℕ) → On n (bit (r .0)) 0 a → On n (bit (r .0)) 0 a′ → On n (bit (r .0)) 1 b → On n (bit (r .0)) 1 b′
+      choice : (a a′ b b′ : ℕ) → On n (bit (r .0)) 0 a → On n (bit (r .0)) 0 a′ → On n (bit (r .0)) 1 b → On n (bit (r .0)) 1 b′
           → holds (r .0) a ≡ false → holds (r .0) a′ ≡ false → holds (r .0) b ≡ true → holds (r .0) b′ ≡ true
           → r .1 + d a a′ + d b b′ ≤ d a b + d a′ b′
-      quad a a′ b b′ ha ha′ hb hb′ na na′ fb fb′ =
+      choice a a′ b b′ ha ha′ hb hb′ na na′ fb fb′ =
           omega (
             arith,
             sum-add (λ q. when (apart (q .0) a a′) (q .1)) (λ q. when (apart (q .0) b′ b) (q .1)) T,
