@@ -17,13 +17,13 @@ pub record FourPoint (d : ℕ → ℕ → ℕ) (n : ℕ) : Type 0 where
 
 -- four images
 pub record Four : Type 0 where
-  pub fst : ℕ
-  pub snd : ℕ
-  pub trd : ℕ
-  pub fth : ℕ
+  pub first : ℕ
+  pub second : ℕ
+  pub third : ℕ
+  pub fourth : ℕ
 
 abbrev pub four : ℕ → ℕ → ℕ → ℕ → Four
-four i j k l = record { fst = i; snd = j; trd = k; fth = l }
+four i j k l = record { first = i; second = j; third = k; fourth = l }
 
 -- i ≤ j ≤ k ≤ l below n, in dictionary order: those that begin with i, j, k; with i, j; with i; all of them
 abbrev pub fours₃ : ℕ → ℕ → ℕ → ℕ → List Four
@@ -41,7 +41,7 @@ fours n = gather (from 0 n) (fours₁ n)
 -- the largest sum of these four occurs once only
 abbrev pub fails : (ℕ → ℕ → ℕ) → Four → Bool
 fails d q =
-    ltb (largest (d (q .fst) (q .snd) + d (q .trd) (q .fth)) (d (q .fst) (q .trd) + d (q .snd) (q .fth)) (d (q .fst) (q .fth) + d (q .snd) (q .trd))) 2
+    ltb (largest (d (q .first) (q .second) + d (q .third) (q .fourth)) (d (q .first) (q .third) + d (q .second) (q .fourth)) (d (q .first) (q .fourth) + d (q .second) (q .third))) 2
 
 -- those that fail, in dictionary order: no wiring, and the first of them shows why
 abbrev pub failing : (ℕ → ℕ → ℕ) → ℕ → List Four

@@ -9,7 +9,7 @@ use Rattle.theory.specs.FourPoint.{Four, failing}
 -- 7: no wiring, at the first i ≤ j ≤ k ≤ l that fails, in dictionary order
 abbrev pub firstFour : List Four → Check
 firstFour [] = Passed
-firstFour (q ∷ l) = Refused (refusal 7 (q .fst + 1) (q .snd + 1) (q .trd + 1) (q .fth + 1))
+firstFour (q ∷ l) = Refused (refusal 7 (q .first + 1) (q .second + 1) (q .third + 1) (q .fourth + 1))
 
 abbrev pub wiringCheck : (ℕ → ℕ → ℕ) → ℕ → Check
 wiringCheck d n = firstFour (failing d n)

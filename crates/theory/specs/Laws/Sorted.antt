@@ -28,10 +28,10 @@ pub mem-fours : (n i j k l : ℕ) → i ≤ j → j ≤ k → k ≤ l → l < n 
 mem-fours n i j k l p q r h = mem-gather (fours₁ n) (mem-from 0 n i (omega arith) (omega arith)) (mem-fours₁ n i j k l p q r h)
 
 pub record Sorted (n : ℕ) (q : Four) : Type 0 where
-  pub one : q .fst ≤ q .snd
-  pub two : q .snd ≤ q .trd
-  pub three : q .trd ≤ q .fth
-  pub fits : q .fth < n
+  pub one : q .first ≤ q .second
+  pub two : q .second ≤ q .third
+  pub three : q .third ≤ q .fourth
+  pub fits : q .fourth < n
 
 pub fours-sorted : (n : ℕ) → Each (fours n) (Sorted n)
 fours-sorted n q m =
@@ -92,7 +92,7 @@ none-failing L d n c = (
   λ e. record { twice = λ {i} {j} {k} {l} hi hj hk hl. sorted-enough (Holds d n) (condition-symmetric L d n c) (sorted e) i j k l hi hj hk hl },
   λ fp. filter-none (fails d) (fours n) (λ q m.
       let s = fours-sorted n q m in
-      le-ltb _ 2 (fp .twice {i = q .fst} {j = q .snd} {k = q .trd} {l = q .fth} (omega (arith, s)) (omega (arith, s)) (omega (arith, s)) (s .fits))),
+      le-ltb _ 2 (fp .twice {i = q .first} {j = q .second} {k = q .third} {l = q .fourth} (omega (arith, s)) (omega (arith, s)) (omega (arith, s)) (s .fits))),
 )
   where
     sorted : failing d n ≡ [] → (i j k l : ℕ) → i ≤ j → j ≤ k → k ≤ l → Holds d n i j k l
