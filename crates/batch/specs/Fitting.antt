@@ -3,7 +3,7 @@ use mathlib.Core.List.{List, [], _∷_}
 use mathlib.Core.Path.{_≡_}
 use Prim.Native.Nat.{ℕ, _-_, _≤_}
 use lib.ListN.{drop, length, take}
-use Rattle.links.specs.Laws.LinkChecks.{Links}
+use Rattle.links.specs.Links.{Links}
 use Rattle.stored_links.specs.Form.{linkUsed}
 use Rattle.batch.specs.Tables.{Table}
 

@@ -7,7 +7,7 @@ ghost use lib.ListN.{getD, length};
 ghost use Rattle.ground.specs.Bits.{bit};
 ghost use Rattle.theory.specs.FarSides.{FarSide};
 ghost use Rattle.theory.specs.Index.{shifted};
-ghost use Rattle.theory.specs.Laws.FewSteps.{broughtFast};
+ghost use Rattle.theory.specs.OneMore.{broughtFast};
 ghost use Rattle.theory.specs.Tables.{limit, cost, CostTable};
 ghost use Rattle.index.specs.Call.{badFarSide, indexCheck, indexAnswer};
 ghost use Rattle.index.specs.Sides.{Images, Split, moreAt, nearAt, choicesAt, sideAt};

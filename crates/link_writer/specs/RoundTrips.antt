@@ -13,7 +13,7 @@ use Rattle.theory.specs.Tables.{limit}
 use Rattle.bits.specs.Bits.{AllBytes, part, valueOf}
 use Rattle.link_writer.specs.Laws.Again.{read-again, written-is, wroteInto}
 use Rattle.link_writer.specs.Writing.{writeChecks, writeOutcome}
-use Rattle.links.specs.Laws.LinkChecks.{Links}
+use Rattle.links.specs.Links.{Links}
 use Rattle.stored_links.specs.Form.{linkBytes, linkUsed}
 use Rattle.stored_links.specs.Laws.Form.{length-links}
 use Rattle.stored_links.specs.Laws.Outcomes.{refused-alters-nothing}

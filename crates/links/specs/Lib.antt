@@ -2,5 +2,6 @@
 pub mod FirstChecks
 pub mod BadRows
 pub mod Checks
+pub mod Links
 -- What is true of them.
 pub mod Laws

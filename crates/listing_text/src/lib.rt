@@ -9,7 +9,7 @@ ghost use Prim.Native.Nat.{_<_, _≤_};
 ghost use lib.ListN.{length};
 ghost use Rattle.theory.specs.Routes.{uppers};
 ghost use Rattle.theory.specs.Tables.{CostTable, limit};
-ghost use Rattle.links.specs.Laws.LinkChecks.{Links};
+ghost use Rattle.links.specs.Links.{Links};
 ghost use Rattle.order.specs.Outcome.{images};
 ghost use Rattle.listing_text.specs.Decimal.{decimal};
 ghost use Rattle.listing_text.specs.Lines.{field, fields, header, orderLine, refusedLine, rowLine, rowLines};

@@ -20,7 +20,7 @@ use Rattle.theory.specs.FourPoint.{FourPoint}
 use Rattle.theory.specs.Laws.Paths.{path-four-point, path-none-above, path-same, path-self}
 use Rattle.theory.specs.LinkTables.{Row, path, rowsOf}
 use Rattle.theory.specs.Routes.{contains, route, uppers}
-use Rattle.links.specs.Laws.LinkChecks.{Links}
+use Rattle.links.specs.Links.{Links}
 use Rattle.routes.specs.Laws.Accepted.{PathTaken, RouteTaken, UppersTaken, passed-path, passed-route, passed-upper, path-passed, route-passed, upper-passed}
 use Rattle.routes.specs.Laws.Containing.{last-row, upper-none, upper-smallest, upper-there}
 use Rattle.routes.specs.Laws.Holding.{heldBy, route-ascends, route-ends, route-first, route-held, route-starts}

@@ -9,6 +9,8 @@ pub mod Index
 pub mod Readings
 pub mod Order
 pub mod Comparison
+-- How the code gets there: one image more at a time.
+pub mod OneMore
 -- What a call leaves in the two lent slices of a link table.
 pub mod Outcomes
 -- What is true of them: the laws with their proofs, and on one page the theorems that answer the demands.

@@ -6,7 +6,7 @@ use Prim.Native.Nat.{suc, ℕ, _+_}
 use lib.ListN.{set}
 use Rattle.ground.specs.Counts.{one-if}
 use Rattle.ground.specs.Filters.{filter}
-use Rattle.theory.specs.Laws.ReadingGrows.{more, stays}
+use Rattle.theory.specs.OneMore.{more, stays}
 use Rattle.theory.specs.LinkTables.{Row}
 
 -- the row r with image k on the side that `add` puts it: 0 for outside, 2 ^ k for inside

@@ -4,7 +4,7 @@ use Prim.Native.Nat.{_+_, max}
 use native.Mathlib.Omega.{arith}
 use Rattle.ground.specs.Bits.{bit}
 use Rattle.ground.specs.Laws.Bits.{bit-lt}
-use Rattle.theory.specs.Laws.FewSteps.{broughtFast}
+use Rattle.theory.specs.OneMore.{broughtFast}
 use Rattle.theory.specs.Tables.{cost, limit}
 use Rattle.index.specs.Sides.{Split}
 use Rattle.index.specs.Laws.Sides.{images-wider, more-at}

@@ -7,7 +7,8 @@ use Rattle.ground.specs.Bits.{bit}
 use Rattle.ground.specs.Laws.Bits.{bit-lt}
 use Rattle.theory.specs.FarSides.{FarSide}
 use Rattle.theory.specs.Index.{shifted}
-use Rattle.theory.specs.Laws.FewSteps.{brought-fast, broughtFast}
+use Rattle.theory.specs.OneMore.{broughtFast}
+use Rattle.theory.specs.Laws.FewSteps.{brought-fast}
 use Rattle.theory.specs.Laws.FourPoint.{well-formed-less}
 use Rattle.theory.specs.Laws.OneMore.{shifted-more, shifted-none}
 use Rattle.theory.specs.Tables.{WellFormed}

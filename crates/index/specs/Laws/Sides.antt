@@ -12,7 +12,7 @@ use borrow.Author.Tests.{eq-eqb, eqb-false, eqb-true, ne-eqb}
 use borrow.Table.Steps.{cases}
 use Rattle.ground.specs.Least.{leastOn}
 use Rattle.ground.specs.Laws.Least.{leastOn-same}
-use Rattle.theory.specs.Laws.FewSteps.{broughtFast, broughtNear, broughtSide}
+use Rattle.theory.specs.OneMore.{broughtFast, broughtNear, broughtSide}
 use Rattle.index.specs.Sides.{Gathered, Images, Split, leastAt, moreAt}
 
 -- ## One image more

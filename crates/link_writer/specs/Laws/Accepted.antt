@@ -11,7 +11,8 @@ use Rattle.ground.specs.declared.Check.the-variants.{Passed}
 use Rattle.theory.specs.LinkTables.{LinkTable, rowsOf}
 use Rattle.link_writer.specs.Writing.{RoomFor, fitChecks, writeChecks}
 use Rattle.links.specs.Checks.{rowChecks, sizeChecks}
-use Rattle.links.specs.Laws.LinkChecks.{Links, link-checks, row-checks, sizes-passed}
+use Rattle.links.specs.Links.{Links}
+use Rattle.links.specs.Laws.LinkChecks.{link-checks, row-checks, sizes-passed}
 use Rattle.stored_links.specs.Form.{linkUsed}
 use Rattle.stored_links.specs.Laws.Passed.{room-passed}
 

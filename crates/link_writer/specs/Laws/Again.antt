@@ -11,7 +11,7 @@ use Rattle.ground.specs.Outcomes.{Outcome}
 use Rattle.bits.specs.Bits.{AllBytes}
 use Rattle.link_writer.specs.Laws.Accepted.{passed-write}
 use Rattle.link_writer.specs.Writing.{writeOutcome}
-use Rattle.links.specs.Laws.LinkChecks.{Links}
+use Rattle.links.specs.Links.{Links}
 use Rattle.stored_links.specs.Form.{linkBytes, linkUsed}
 use Rattle.stored_links.specs.Laws.Positions.{TableAt}
 use Rattle.stored_links.specs.Laws.ReadAt.{used-bytes}

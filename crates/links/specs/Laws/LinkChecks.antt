@@ -28,6 +28,7 @@ use Rattle.links.specs.FirstChecks.{firstCheck}
 use Rattle.links.specs.Laws.FirstChecks.{first-passed, passed-first}
 use Rattle.links.specs.Laws.RowTests.{GoodRow, between-steps, clear-nested, good-row, mem-rows, nested-clear, nested-sym, row-good, rows-mem, steps-between}
 use denote.RattleType.{owns}
+use Rattle.links.specs.Links.{Links}
 
 module _ (L n : ℕ) (l v : List ℕ) (e : length l ≡ length v) where
   -- every row is good, and no own link is missing: a link table
@@ -73,14 +74,6 @@ module _ (L n : ℕ) (l v : List ℕ) (e : length l ≡ length v) where
         checked (λ k h. good-row L n l v k (first-passed 12 (badRow L n l v) (length l) (q .0) k h)) (first-passed 13 (missing n l) n (q .1)),
     λ t. rw (passed-first 12 (badRow L n l v) (length l) (λ k h. row-good L n l v k (link-rows t k h))) (passed-first 13 (missing n l) n (found t)),
   )
-
--- n images, and N rows that are a link table
-pub record Links (L n N : ℕ) (l v : List ℕ) : Type 0 where
-  pub some : 3 ≤ n
-  pub few : n ≤ 64
-  pub counted : length l ≡ N
-  pub costed : length v ≡ N
-  pub table : LinkTable L n (rowsOf l v)
 
 pub rows-length : (l v : List ℕ) → length l ≡ length v → length (rowsOf l v) ≡ length l
 rows-length l v e = let q : length (fars (rowsOf l v)) ≡ length l = ap length (rowsOf-fars l v e) in rw length-map at q

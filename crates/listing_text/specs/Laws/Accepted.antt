@@ -20,7 +20,8 @@ use Rattle.theory.specs.Readings.{measured}
 use Rattle.theory.specs.Routes.{uppers}
 use Rattle.theory.specs.Tables.{CostTable, cost, limit}
 use Rattle.wiring.specs.Check.{wiringCheck}
-use Rattle.links.specs.Laws.LinkChecks.{Links, rows-length}
+use Rattle.links.specs.Links.{Links}
+use Rattle.links.specs.Laws.LinkChecks.{rows-length}
 use Rattle.routes.specs.Outcomes.{upperOutcome}
 use Rattle.routes.specs.Promises.{upper-answer}
 use Rattle.routes.specs.Laws.UpperRows.{uppers-length}

@@ -15,7 +15,8 @@ use Rattle.theory.specs.Laws.JoinedRows.{rowsOf-fars}
 use Rattle.theory.specs.Laws.RowCount.{row-count}
 use Rattle.theory.specs.LinkTables.{rowsOf}
 use Rattle.links.specs.Checks.{rowChecks, sizeChecks}
-use Rattle.links.specs.Laws.LinkChecks.{Links, link-checks, rows-length}
+use Rattle.links.specs.Links.{Links}
+use Rattle.links.specs.Laws.LinkChecks.{link-checks, rows-length}
 use Rattle.links.specs.Laws.Searches.{place-in}
 use Rattle.theory.specs.Checks.{imageCheck}
 use Rattle.routes.specs.Orders.{pathChecks, routeChecks, upperChecks}

@@ -18,7 +18,8 @@ use Rattle.theory.specs.Laws.Nested.{bit-holds}
 use Rattle.theory.specs.Laws.JoinedRows.{rowsOf-fars}
 use Rattle.theory.specs.Laws.Routes.{full-contains}
 use Rattle.theory.specs.Routes.{contains, uppers}
-use Rattle.links.specs.Laws.LinkChecks.{Links, link-rows}
+use Rattle.links.specs.Links.{Links}
+use Rattle.links.specs.Laws.LinkChecks.{link-rows}
 use Rattle.links.specs.Laws.RowTests.{GoodRow, mem-rows}
 use Rattle.links.specs.Laws.Searches.{place-at}
 use Rattle.routes.specs.Laws.Accepted.{few-rows, own-place}

@@ -19,7 +19,7 @@ use Rattle.ground.specs.Laws.Ranges.{from-mem, mem-from}
 use Rattle.theory.specs.FarSides.{holds, own}
 use Rattle.theory.specs.Laws.Nested.{bit-holds, holds-true}
 use Rattle.theory.specs.Routes.{climb, route, uppers}
-use Rattle.links.specs.Laws.LinkChecks.{Links}
+use Rattle.links.specs.Links.{Links}
 use Rattle.routes.specs.Laws.Accepted.{few-rows, own-place}
 use Rattle.routes.specs.Laws.Climbs.{climb-between, climb-last, climb-next, climb-none, ends-with}
 use Rattle.routes.specs.Laws.Containing.{contains-holds, full-contains-all, last-place, last-row, later-contains, own-at, row-side, rows-ascend, upper-none}

@@ -18,7 +18,7 @@ use Rattle.ground.specs.Sums.{when}
 use Rattle.theory.specs.Laws.RowCount.{row-count}
 use Rattle.theory.specs.LinkTables.{Row, apart, path, rowsOf}
 use Rattle.theory.specs.Tables.{limit}
-use Rattle.links.specs.Laws.LinkChecks.{Links}
+use Rattle.links.specs.Links.{Links}
 
 -- exactly one of two images is held: their bits differ
 pub apart-bits : (S i j : ℕ) → apart S i j ≡ not (eqb (bit S i) (bit S j))

@@ -11,7 +11,7 @@ use Rattle.ground.specs.declared.Check.{Check}
 use Rattle.theory.specs.Outcomes.{RowsOutcome}
 use Rattle.bits.specs.Bits.{AllBytes}
 use Rattle.bits.specs.Laws.Written.{all-bytes-drop}
-use Rattle.links.specs.Laws.LinkChecks.{Links}
+use Rattle.links.specs.Links.{Links}
 use Rattle.stored_links.specs.Form.{linkBytes, linkUsed}
 use Rattle.stored_links.specs.Laws.Passed.{Stored, passed-read}
 use Rattle.stored_links.specs.Laws.Positions.{TableAt, enough-room}

@@ -14,7 +14,8 @@ use Rattle.bits.specs.Forms.{fillWidth}
 use Rattle.bits.specs.Laws.Numbers.{length-bitsOf, value-bits}
 use Rattle.bits.specs.Laws.Parts.{part-cut}
 use Rattle.bits.specs.Laws.Listed.{listed-is}
-use Rattle.links.specs.Laws.LinkChecks.{Links, link-rows, rows-length}
+use Rattle.links.specs.Links.{Links}
+use Rattle.links.specs.Laws.LinkChecks.{link-rows, rows-length}
 use Rattle.links.specs.Laws.RowTests.{GoodRow}
 use Rattle.stored_links.specs.Form.{linkBytes, linkUsed, rowAt}
 use Rattle.stored_links.specs.Laws.Form.{allRows, bits-links-then, frontBits, length-all-rows, length-front, length-links}

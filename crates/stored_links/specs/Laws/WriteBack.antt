@@ -13,7 +13,7 @@ use Rattle.bits.specs.Laws.Packed.{packed-only}
 use Rattle.bits.specs.Laws.Parts.{part-more}
 use Rattle.bits.specs.Laws.Written.{all-bytes-take, bits-take}
 use Rattle.bits.specs.Laws.Listed.{length-listed, listed-at}
-use Rattle.links.specs.Laws.LinkChecks.{Links}
+use Rattle.links.specs.Links.{Links}
 use Rattle.stored_links.specs.Form.{linkBytes, linkUsed, rowAt, rowWidth, rowsTo}
 use Rattle.stored_links.specs.Laws.Form.{all-bits-links, allRows, frontBits, length-link-bits, link-parts, linkBits}
 use Rattle.stored_links.specs.Laws.Passed.{Stored}

@@ -4,20 +4,11 @@ use mathlib.Core.Path.{_≡_}
 use Prim.Native.Nat.{suc, ℕ, _*_, _+_, _-_, _<_, _≤_}
 use native.Mathlib.Nat.{le-antisymm, le-trans}
 use native.Mathlib.Omega.{arith}
-use Rattle.ground.specs.Least.{On, leastOn}
+use Rattle.ground.specs.Least.{On}
 use Rattle.ground.specs.Laws.Least.{le-leastOn, leastOn-cap, leastOn-le}
-use Rattle.theory.specs.Laws.OneMore.{brought, brought-cap, brought-le, le-brought}
+use Rattle.theory.specs.Laws.OneMore.{brought-cap, brought-le, le-brought}
 use Rattle.theory.specs.Tables.{WellFormed}
-
--- in k * k steps: for each b′ first the least over b, then the least over a
-unfoldable pub broughtNear : ℕ → (ℕ → ℕ → ℕ) → ℕ → (ℕ → ℕ) → ℕ → ℕ
-broughtNear L d k s b′ = leastOn k s (1 - s k) (4 * L) (λ b. L + d k b - d b b′)
-
-unfoldable pub broughtSide : ℕ → (ℕ → ℕ → ℕ) → ℕ → (ℕ → ℕ) → ℕ → ℕ
-broughtSide L d k s b′ = leastOn (suc k) s (s k) (4 * L) (λ a. broughtNear L d k s b′ + (L + d a b′ - d k a))
-
-unfoldable pub broughtFast : ℕ → (ℕ → ℕ → ℕ) → ℕ → (ℕ → ℕ) → ℕ
-broughtFast L d k s = leastOn k s (1 - s k) (4 * L) (broughtSide L d k s)
+use Rattle.theory.specs.OneMore.{brought, broughtFast, broughtNear, broughtSide}
 
 module _ (L : ℕ) (d : ℕ → ℕ → ℕ) (k : ℕ) (s : ℕ → ℕ) (c : WellFormed L d (suc k)) (two : s k < 2) where
   near-le : (b b′ : ℕ) → On k s (1 - s k) b → broughtNear L d k s b′ ≤ L + d k b - d b b′

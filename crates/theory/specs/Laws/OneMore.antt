@@ -8,19 +8,12 @@ use native.Mathlib.Omega.{arith}
 use lib.Dec.{eqb}
 use borrow.Author.Tests.{eqb-false, eqb-true}
 use borrow.Table.Steps.{cases}
-use Rattle.ground.specs.Least.{On, leastOn}
+use Rattle.ground.specs.Least.{On}
 use Rattle.ground.specs.Laws.Least.{le-leastOn, leastOn-cap, leastOn-le}
 use Rattle.theory.specs.Index.{gain, shifted}
 use Rattle.theory.specs.Laws.Index.{le-shifted, shifted-cap, shifted-le}
 use Rattle.theory.specs.Tables.{WellFormed}
-
--- one pairing of a choice with image k: a on k's side, b and b′ on the other
-abbrev pub pairing : ℕ → (ℕ → ℕ → ℕ) → ℕ → ℕ → ℕ → ℕ → ℕ
-pairing L d k a b b′ = 2 * L + (d k b + d a b′) - (d k a + d b b′)
-
--- the least of them
-unfoldable pub brought : ℕ → (ℕ → ℕ → ℕ) → ℕ → (ℕ → ℕ) → ℕ
-brought L d k s = leastOn (suc k) s (s k) (4 * L) (λ a. leastOn k s (1 - s k) (4 * L) (λ b. leastOn k s (1 - s k) (4 * L) (λ b′. pairing L d k a b b′)))
+use Rattle.theory.specs.OneMore.{brought, more, pairing}
 
 module _ (L : ℕ) (d : ℕ → ℕ → ℕ) (k : ℕ) (s : ℕ → ℕ) where
   pub brought-le : {a b b′ : ℕ} → On (suc k) s (s k) a → On k s (1 - s k) b → On k s (1 - s k) b′ → brought L d k s ≤ pairing L d k a b b′

@@ -1,37 +1,21 @@
 -- The algorithm (C3): the measured reading of one image more from the measured reading that is there.
 -- Assumes nothing.
-use mathlib.Core.Bool.{Bool, not, _||_}
-use mathlib.Core.List.{List, [], map, map-map, _++_, _∷_}
+use mathlib.Core.List.{[], map, map-map, _++_, _∷_}
 use mathlib.Core.Path.{ap, ap₂, refl, sym, _∙_, _≡_}
-use Prim.Native.Nat.{min, suc, ℕ, _*_, _+_, _-_, _<_, _^_}
+use Prim.Native.Nat.{suc, ℕ, _*_, _+_, _<_, _^_}
 use native.Mathlib.Omega.{arith}
-use lib.Dec.{ltb}
 use Rattle.ground.specs.Bits.{bit}
 use Rattle.ground.specs.Laws.Bits.{bit-lt, bit-pow-other, bit-same}
 use Rattle.ground.specs.Filters.{filter}
 use Rattle.ground.specs.Laws.Maps.{filter-map, map-append, map-same}
-use Rattle.theory.specs.FarSides.{inner}
 use Rattle.theory.specs.Index.{clipped}
-use Rattle.theory.specs.Laws.FewSteps.{brought-fast, broughtFast}
+use Rattle.theory.specs.Laws.FewSteps.{brought-fast}
 use Rattle.theory.specs.Laws.Index.{shifted-same}
 use Rattle.theory.specs.Laws.OneMore.{shifted-more, shifted-none}
 use Rattle.theory.specs.Laws.RowsGrow.{drawnFar, rows-step}
-use Rattle.theory.specs.LinkTables.{Row}
 use Rattle.theory.specs.Readings.{drawn, measured, row, rows}
 use Rattle.theory.specs.Tables.{WellFormed}
-
--- the row of S over k + 1 images, from its cost v over the first k
-abbrev pub more : ℕ → (ℕ → ℕ → ℕ) → ℕ → ℕ → ℕ → Row
-more L d k S v = (S, min v (broughtFast L d k (bit S) - 2 * L))
-
--- own link, or cost above 0
-abbrev pub stays : ℕ → Row → Bool
-stays n r = not (inner n (r .0)) || ltb 0 (r .1)
-
--- old rows with image k outside, its own link, old rows with image k inside
-abbrev pub step : ℕ → (ℕ → ℕ → ℕ) → ℕ → List Row → List Row
-step L d k T =
-    filter (stays (suc k)) (map (λ r. more L d k (r .0) (r .1)) T) ++ (more L d k (2 ^ k) (2 * L) ∷ filter (stays (suc k)) (map (λ r. more L d k (2 ^ k + r .0) (r .1)) T))
+use Rattle.theory.specs.OneMore.{more, stays, step}
 
 module _ (L : ℕ) (d : ℕ → ℕ → ℕ) (k : ℕ) (c : WellFormed L d (suc (suc k))) where
   abbrev n : ℕ

@@ -21,7 +21,7 @@ use Rattle.theory.specs.Laws.FarSides.{far-image, sides-all, sides-betwe
 use Rattle.theory.specs.Laws.Index.{clipped-low, low-clipped}
 use Rattle.theory.specs.Laws.OneTree.{index-drawn}
 use Rattle.theory.specs.Laws.OnlyOne.{unique}
-use Rattle.theory.specs.Laws.ReadingGrows.{more}
+use Rattle.theory.specs.OneMore.{more}
 use Rattle.theory.specs.LinkTables.{Row, costOf}
 use Rattle.theory.specs.Readings.{Exact, Near, drawn, measured, row, rows}
 use Rattle.theory.specs.Tables.{WellFormed}

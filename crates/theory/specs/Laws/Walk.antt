@@ -16,7 +16,7 @@ use Rattle.ground.specs.Members.{occurs}
 use Rattle.ground.specs.Totals.{total}
 use Rattle.ground.specs.Laws.Totals.{total-each, total-least, total-occurs}
 use Rattle.theory.specs.Laws.Next.{Least, None, next-is}
-use Rattle.theory.specs.Laws.ReadingGrows.{step}
+use Rattle.theory.specs.OneMore.{step}
 use Rattle.theory.specs.Order.{AllOnce, grow, lastOf, next, order}
 
 -- x and l, with f, are images below n, each once

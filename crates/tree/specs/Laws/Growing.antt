@@ -10,7 +10,7 @@ use borrow.Table.Steps.{cases}
 use Rattle.ground.specs.Filters.{filter, keep}
 use Rattle.ground.specs.Laws.Filters.{filter-append}
 use Rattle.ground.specs.Laws.Maps.{map-append, map-same}
-use Rattle.theory.specs.Laws.ReadingGrows.{more, stays, step}
+use Rattle.theory.specs.OneMore.{more, stays, step}
 use Rattle.theory.specs.LinkTables.{Row}
 use Rattle.tree.specs.LocalRows.{rowsIn}
 use Rattle.tree.specs.Laws.LocalRows.{stored-before, stored-more}

@@ -17,11 +17,12 @@ use Rattle.ground.specs.Laws.Filters.{filter-mem}
 use Rattle.ground.specs.Laws.Maps.{map-mem}
 use Rattle.ground.specs.Laws.Tests.{false-not, or-l}
 use Rattle.theory.specs.FarSides.{inner, sides}
+use Rattle.theory.specs.OneMore.{more, stays}
 use Rattle.theory.specs.Laws.FarSides.{sides-far}
 use Rattle.theory.specs.Laws.FourPoint.{well-formed-less}
 use Rattle.theory.specs.Laws.Index.{clipped-cap}
 use Rattle.theory.specs.Laws.OwnLinks.{own-not-inner}
-use Rattle.theory.specs.Laws.ReadingGrows.{measured-step, more, stays}
+use Rattle.theory.specs.Laws.ReadingGrows.{measured-step}
 use Rattle.theory.specs.Laws.RowsGrow.{rows-most}
 use Rattle.theory.specs.LinkTables.{Row}
 use Rattle.theory.specs.Readings.{drawn, measured, row, rows}
