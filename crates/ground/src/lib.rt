@@ -79,3 +79,18 @@ pub fn lower(x: u32, y: u32) -> u32
 {
     if y < x { y } else { x }
 }
+
+// A number below 256 as a byte.
+pub fn byte(x: usize) -> u8
+    requires { ⌜ x < 256 ⌝ }
+    ensures { λ r. ⌜ r ≡ x ⌝ }
+{
+    x as u8
+}
+
+// A byte as a number.
+pub fn wide(b: u8) -> usize
+    ensures { λ r. ⌜ r ≡ b ⌝ }
+{
+    b as usize
+}

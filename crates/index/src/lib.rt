@@ -2,7 +2,7 @@
 use ground::Answer;
 use ground::Check;
 ghost use mathlib.Core.Path.{_≡_};
-ghost use Prim.Native.Nat.{_+_, _-_, _*_, _<_, _≤_, min, max};
+ghost use Prim.Native.Nat.{_+_, _-_, _*_, _<_, _≤_, min};
 ghost use lib.ListN.{getD, length};
 ghost use Rattle.ground.specs.Bits.{bit};
 ghost use Rattle.theory.specs.FarSides.{FarSide};
@@ -15,27 +15,12 @@ ghost use Rattle.index.specs.Sides.{Images, Split, moreAt, nearAt, choic
 // What no value that counts exceeds: the start of every least value.
 const CAP: u32 = 4 * theory::LIMIT;
 
-// The image b as a byte of a list.
-fn byte_of(b: usize) -> u8
-    requires { ⌜ b < 64 ⌝ }
-    ensures { λ r. ⌜ r ≡ b ⌝ }
-{
-    b as u8
-}
-
-// A byte of a list as an image.
-fn wide(b: u8) -> usize
-    ensures { λ r. ⌜ r ≡ b ⌝ }
-{
-    b as usize
-}
-
 // The image at place i of a list.
 fn image_at(list: &[u8], i: usize) -> usize
     requires { ⌜ i < length (now list) ⌝ }
     ensures { λ r. ⌜ r ≡ getD (now (list .entry)) i 0 ⌝ }
 {
-    wide(list[i])
+    ground::wide(list[i])
 }
 
 // Image b is put behind the images of either side, and the count of side h goes on where it is there.
@@ -43,8 +28,8 @@ fn turn_sides(s: u64, h: u64, b: usize, count: usize, own: &mut [u8], other: &mu
     requires { ⌜ (b < 64) × (h < 2) × (64 ≤ length (now own)) × (64 ≤ length (now other)) × Split (bit s) h b count (now own) (now other) ⌝ }
     ensures { λ r. ⌜ Split (bit s) h (b + 1) r (now (own .exit)) (now (other .exit)) ⌝ }
 {
-    own[count] = byte_of(b);
-    other[b - count] = byte_of(b);
+    own[count] = ground::byte(b);
+    other[b - count] = ground::byte(b);
     if ground::side(s, b) == h {
         return count + 1;
     }
@@ -132,7 +117,7 @@ fn turn_more(
     ground::lower(best, least_side(t, n, k, e, low, own, count))
 }
 
-// The least value of the choices that image k brings; once it is at most floor, nothing more is asked.
+// The least value of the choices that image k brings.
 fn least_more(
     t: &[u32],
     n: usize,
@@ -141,17 +126,13 @@ fn least_more(
     count: usize,
     other: &[u8],
     rest: usize,
-    floor: u32,
 ) -> u32
     requires { ⌜ CostTable limit n (now t) × Images n count (now own) × Images n rest (now other) × (k < n) ⌝ }
-    ensures { λ r. ⌜ max floor r ≡ max floor (moreAt limit (cost (now (t .entry)) n) k (now (own .entry)) count (now (other .entry)) rest) ⌝ }
+    ensures { λ r. ⌜ r ≡ moreAt limit (cost (now (t .entry)) n) k (now (own .entry)) count (now (other .entry)) rest ⌝ }
 {
     let mut best = CAP;
     let mut i = 0;
     while i < rest {
-        if best <= floor {
-            return best;
-        }
         let e = image_at(other, i);
         best = turn_more(t, n, k, own, count, other, rest, e, best);
         i += 1;
@@ -160,17 +141,14 @@ fn least_more(
 }
 
 // Law I4, one image more: the least of v, the value over the first k images, and of the choices that image k brings, in k² steps.
-// A value of floor or less is answered as floor, since the measured reading asks no more of a division that is none.
-pub fn one_more(t: &[u32], n: usize, s: u64, k: usize, v: u32, floor: u32) -> u32
+fn one_more(t: &[u32], n: usize, s: u64, k: usize, v: u32) -> u32
     requires { ⌜ CostTable limit n (now t) × (k < n) ⌝ }
-    ensures { λ r. ⌜ r ≡ max floor (min v (broughtFast limit (cost (now (t .entry)) n) k (bit s))) ⌝ }
+    ensures { λ r. ⌜ r ≡ min v (broughtFast limit (cost (now (t .entry)) n) k (bit s)) ⌝ }
 {
     let mut own = [0u8; 64];
     let mut other = [0u8; 64];
     let count = sides(s, ground::side(s, k), k, &mut own, &mut other);
-    let more = least_more(t, n, k, &own, count, &other, k + 1 - count, floor);
-    let best = ground::lower(v, more);
-    if best < floor { floor } else { best }
+    ground::lower(v, least_more(t, n, k, &own, count, &other, k + 1 - count))
 }
 
 // The index over all n images, with two limits added.
@@ -181,7 +159,7 @@ fn shifted_index(n: usize, t: &[u32], s: u64) -> u32
     let mut v = CAP;
     let mut k = 1;
     while k < n {
-        v = one_more(t, n, s, k, v, 0);
+        v = one_more(t, n, s, k, v);
         k += 1;
     }
     v

@@ -1,35 +1,30 @@
--- `index::least_more` meets its contract: best is the least over the places so far, and more images never raise it. Assumes nothing.
-use mathlib.Core.Path.{_≡_, ap}
-use Prim.Native.Nat.{_*_, _-_, _≤_, max}
+-- `index::least_more` meets its contract: best is the least over the places so far. Assumes nothing.
+use mathlib.Core.Path.{_≡_}
+use Prim.Native.Nat.{_*_, _-_, _≤_}
 use native.Mathlib.Omega.{arith}
-use Rattle.ground.specs.Laws.Least.{leastOn-end, leastOn-fewer, leastOn-none, leastOn-turn}
+use Rattle.ground.specs.Laws.Least.{leastOn-end, leastOn-none, leastOn-turn}
 use Rattle.theory.specs.Tables.{cost, limit}
 use Rattle.index.specs.Sides.{leastAt, choicesAt}
-use Rattle.index.specs.Laws.Sides.{floored}
 use borrow.Author.Needs.{needs}
 use Rattle.index.proofs.least_more.Statement.{statement}
 use Rattle.index.proofs.least_more.Tie as tie
 
 abbrev Inv-loop : tie.InvT-loop
-Inv-loop t n k own count other rest floor best₀ i₀ best i = (i ≤ rest) × (best ≡ leastAt i other (4 * limit) (choicesAt limit (cost t n) k own count other rest))
+Inv-loop t n k own count other rest best₀ i₀ best i = (i ≤ rest) × (best ≡ leastAt i other (4 * limit) (choicesAt limit (cost t n) k own count other rest))
 
 abbrev μ-loop : tie.MeasureT-loop
-μ-loop t n k own count other rest floor best₀ i₀ best i = rest - i
+μ-loop t n k own count other rest best₀ i₀ best i = rest - i
 
 loop-holds : tie.Need-loop-holds Inv-loop μ-loop
 loop-holds c = (search needs, leastOn-none _ _ _ _)
 
-returns : tie.Need-returns Inv-loop μ-loop
-returns c =
-    let l = c .before .before .loop in floored _ _ _ (rw (l .inv .1) (leastOn-fewer _ _ _ _ _ _ (l .inv .0))) (c .if1 .taken)
-
 image-at-requires : tie.Need-image-at-requires Inv-loop μ-loop
-image-at-requires c κs = omega (arith, c .before .before .before .before .before .before .pre .2 .room)
+image-at-requires c κs = omega (arith, c .before .before .before .before .before .pre .2 .room)
 
 turn-more-requires : tie.Need-turn-more-requires Inv-loop μ-loop
 turn-more-requires c κs =
-    let p = c .before .before .before .before .before .before .before .pre in
-    (p .0, p .1, p .2, p .3, rw (c .image-at .ensures) (p .2 .below _ (c .before .before .loop-test .taken)))
+    let p = c .before .before .before .before .before .before .pre in
+    (p .0, p .1, p .2, p .3, rw (c .image-at .ensures) (p .2 .below _ (c .before .loop-test .taken)))
 
 add-i : tie.Need-add-i Inv-loop μ-loop
 add-i c = search needs
@@ -39,10 +34,10 @@ loop-less c = search needs
 
 loop-again : tie.Need-loop-again Inv-loop μ-loop
 loop-again c =
-    (search needs, leastOn-turn _ _ _ _ _ (c .before .before .before .before .loop .inv .1) (rw (c .before .image-at .ensures) at (c .turn-more .ensures)))
+    (search needs, leastOn-turn _ _ _ _ _ (c .before .before .before .loop .inv .1) (rw (c .before .image-at .ensures) at (c .turn-more .ensures)))
 
-returns-2 : tie.Need-returns-2 Inv-loop μ-loop
-returns-2 c = ap (max _) (leastOn-end _ _ _ _ _ _ (search needs) (search needs) (c .before .loop .inv .1))
+returns : tie.Need-returns Inv-loop μ-loop
+returns c = leastOn-end _ _ _ _ _ _ (search needs) (search needs) (c .before .loop .inv .1)
 
 pub least-more-spec : {M : Type 1} → statement M
 least-more-spec =
@@ -51,10 +46,9 @@ least-more-spec =
     Inv-loop
     μ-loop
     loop-holds
-    returns
     image-at-requires
     turn-more-requires
     add-i
     loop-less
     loop-again
-    returns-2)
+    returns)

@@ -1,6 +1,6 @@
 -- `index::one_more` meets its contract: what is least over the two lists is least over the two sides. Assumes nothing.
-use mathlib.Core.Path.{_∙_, _≡_, ap}
-use Prim.Native.Nat.{_+_, max}
+use mathlib.Core.Path.{_∙_, _≡_}
+use Prim.Native.Nat.{_+_}
 use native.Mathlib.Omega.{arith}
 use Rattle.ground.specs.Bits.{bit}
 use Rattle.ground.specs.Laws.Bits.{bit-lt}
@@ -17,10 +17,10 @@ split : (c : tie.After-sides) → let a = c .before .before .before .before .bef
 split c = rw (c .before .before .before .side .ensures) at (c .sides .ensures)
 
 -- image k's choices are those of the theory
-brought : (c : tie.After-least-more) → let a = c .before .before .before .before .before .before .before .before .before .before .args in max (a .floor) (c .least-more .result) ≡ max (a .floor) (broughtFast limit (cost (a .t .now) (a .n)) (a .k) (bit (a .s)))
+brought : (c : tie.After-least-more) → let a = c .before .before .before .before .before .before .before .before .before .before .args in c .least-more .result ≡ broughtFast limit (cost (a .t .now) (a .n)) (a .k) (bit (a .s))
 brought c =
     let a = c .before .before .before .before .before .before .before .before .before .before .args in
-    c .least-more .ensures ∙ ap (max _) (more-at limit _ (a .k) (bit (a .s)) _ _ _ (bit-lt (a .s) (a .k)) (split (c .before .before .before .before .before)))
+    c .least-more .ensures ∙ more-at limit _ (a .k) (bit (a .s)) _ _ _ (bit-lt (a .s) (a .k)) (split (c .before .before .before .before .before))
 
 side-requires : tie.Need-side-requires
 side-requires c κs = search needs
@@ -56,10 +56,7 @@ lower-requires : tie.Need-lower-requires
 lower-requires c κs = search needs
 
 returns : tie.Need-returns
-returns c = omega (arith, c .before .lower .ensures, brought (c .before .before))
-
-returns-2 : tie.Need-returns-2
-returns-2 c = omega (arith, c .before .lower .ensures, brought (c .before .before))
+returns c = omega (arith, c .lower .ensures, brought (c .before))
 
 pub one-more-spec : {M : Type 1} → statement M
 one-more-spec =
@@ -75,5 +72,4 @@ one-more-spec =
     sub-least-more
     least-more-requires
     lower-requires
-    returns
-    returns-2)
+    returns)

@@ -8,14 +8,14 @@ use borrow.Author.Needs.{needs}
 use Rattle.index.proofs.turn_sides.Statement.{statement}
 use Rattle.index.proofs.turn_sides.Tie as tie
 
-byte-of-requires : tie.Need-byte-of-requires
-byte-of-requires c κs = search needs
+byte-requires : tie.Need-byte-requires
+byte-requires c κs = search needs
 
 slice-write-own : tie.Need-slice-write-own
 slice-write-own c = search needs
 
-byte-of-requires-2 : tie.Need-byte-of-requires-2
-byte-of-requires-2 c κs = search needs
+byte-requires-2 : tie.Need-byte-requires-2
+byte-requires-2 c κs = search needs
 
 sub-other : tie.Need-sub-other
 sub-other c = search needs
@@ -40,7 +40,7 @@ returns c =
     let b = c .before .before .before .before .before .before in
     let a = b .args in
     let p = b .pre in
-    rw (c .before .before .before .byte-of .ensures, c .before .before .byte-of2 .ensures)
+    rw (c .before .before .before .byte .ensures, c .before .before .byte2 .ensures)
     (split-mine (bit (a .s)) (a .h) (a .b) (a .count) (a .own .now) (a .other .now) (p .1) (omega (arith, p .4 .few)) (omega (arith, p .4 .few)) (p .4) (sym (c .before .side .ensures) ∙ c .if1 .taken))
 
 same-length-3 : tie.Need-same-length-3
@@ -54,16 +54,16 @@ returns-2 c =
     let b = c .before .before .before .before .before .before in
     let a = b .args in
     let p = b .pre in
-    rw (c .before .before .before .byte-of .ensures, c .before .before .byte-of2 .ensures)
+    rw (c .before .before .before .byte .ensures, c .before .before .byte2 .ensures)
     (split-rest (bit (a .s)) (a .h) (a .b) (a .count) (a .own .now) (a .other .now) (p .1) (omega (arith, p .4 .few)) (omega (arith, p .4 .few)) (p .4) (bit-lt (a .s) (a .b)) (λ e. c .if1 .left (c .before .side .ensures ∙ e)))
 
 pub turn-sides-spec : {M : Type 1} → statement M
 turn-sides-spec =
     tie.close
     (tie.spec
-    byte-of-requires
+    byte-requires
     slice-write-own
-    byte-of-requires-2
+    byte-requires-2
     sub-other
     slice-write-other
     side-requires

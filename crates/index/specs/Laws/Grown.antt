@@ -1,6 +1,6 @@
 -- The index grown image by image: before the loop, one turn, and what is answered. Assumes nothing.
 use mathlib.Core.Path.{sym, _≡_}
-use Prim.Native.Nat.{max, min, suc, ℕ, _*_, _+_, _<_, _≤_}
+use Prim.Native.Nat.{min, suc, ℕ, _*_, _+_, _<_, _≤_}
 use native.Mathlib.Numerals.{add-one}
 use native.Mathlib.Omega.{arith}
 use Rattle.ground.specs.Bits.{bit}
@@ -19,7 +19,7 @@ module _ (L : ℕ) (d : ℕ → ℕ → ℕ) (n S : ℕ) (c : WellFormed L d n) 
   grown-none f = sym (shifted-none L d 1 (bit S) (λ a h. let e : a ≡ 0 = omega arith in rw e (f .near)))
 
   -- Law I4, in the steps of the code
-  pub grown-more : (k : ℕ) {v r : ℕ} → k < n → v ≡ shifted L d k (bit S) → r ≡ max 0 (min v (broughtFast L d k (bit S))) → r ≡ shifted L d (k + 1) (bit S)
+  pub grown-more : (k : ℕ) {v r : ℕ} → k < n → v ≡ shifted L d k (bit S) → r ≡ min v (broughtFast L d k (bit S)) → r ≡ shifted L d (k + 1) (bit S)
   grown-more k h e q =
       let w = well-formed-less L d (suc k) n h c in
       rw add-one (omega (arith, brought-fast L d k (bit S) w (bit-lt S k), shifted-more L d k (bit S) w (bit-lt S k)))

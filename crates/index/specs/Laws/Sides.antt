@@ -2,7 +2,7 @@
 use mathlib.Core.Bool.{false, true}
 use mathlib.Core.List.{List}
 use mathlib.Core.Path.{ap, refl, _∙_, _≡_}
-use Prim.Native.Nat.{max, suc, ℕ, _+_, _-_, _<_, _≤_}
+use Prim.Native.Nat.{suc, ℕ, _+_, _-_, _<_, _≤_}
 use native.Mathlib.Numerals.{add-one}
 use native.Mathlib.Omega.{arith}
 use lib.Dec.{eqb}
@@ -88,7 +88,3 @@ more-at L d k s c own other h q =
     (p .rest .least _ _ ∙ beside s k _ _ h
     ∙ leastOn-same s s (1 - s k) _ _ _ k (λ i l. refl) (λ e l.
     p .mine .least _ _ ∙ leastOn-same s s (s k) _ _ _ (suc k) (λ i l. refl) (λ a l. ap (λ x. x + (L + d a e - d k a)) (p .rest .least _ _ ∙ beside s k _ _ h))))
-
--- a least value that reaches the floor: more images change nothing above it
-pub floored : (floor m r : ℕ) → r ≤ m → m ≤ floor → max floor m ≡ max floor r
-floored floor m r h l = omega arith
