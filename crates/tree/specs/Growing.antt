@@ -19,8 +19,8 @@ stayed L d k add T = filter (stays (suc k)) (map (changed L d k add) T)
 
 -- ## One turn of the loop
 
--- the changed row stored at place `at` of the rows so far, and the count gone on where it stays
-pub record Turned (L : ℕ) (d : ℕ → ℕ → ℕ) (k S c at : ℕ) (f v : List ℕ) (r : ℕ) (f′ v′ : List ℕ) : Type 0 where
-  pub counted : r ≡ at + one-if (stays (suc k) (more L d k S c))
+-- the row of the far side S with the cost x stored at place `at` of the rows so far, and the count gone on where it stays
+pub record Turned (k S x at : ℕ) (f v : List ℕ) (r : ℕ) (f′ v′ : List ℕ) : Type 0 where
+  pub counted : r ≡ at + one-if (stays (suc k) (S, x))
   pub far-stored : f′ ≡ set f at S
-  pub cost-stored : v′ ≡ set v at (more L d k S c .1)
+  pub cost-stored : v′ ≡ set v at x

@@ -3,4 +3,6 @@ pub mod LocalRows
 pub mod Growing
 pub mod Putting
 pub mod Held
+pub mod Rowed
+pub mod Grown
 pub mod Writing

@@ -4,34 +4,30 @@ use ground::Written;
 ghost use mathlib.Core.Path.{_≡_};
 ghost use Prim.Native.Nat.{_+_, _-_, _*_, _^_, _<_, _≤_, min};
 ghost use lib.ListN.{length};
-ghost use Rattle.ground.specs.Bits.{bit};
 ghost use Rattle.ground.specs.Buffers.{over};
 ghost use Rattle.ground.specs.Counts.{one-if};
-ghost use Rattle.theory.specs.OneMore.{broughtFast, stays};
+ghost use Rattle.theory.specs.OneMore.{stays};
 ghost use Rattle.theory.specs.Outcomes.{LeftRows};
 ghost use Rattle.theory.specs.Readings.{measured};
 ghost use Rattle.theory.specs.Tables.{limit, cost, CostTable};
 ghost use Rattle.tree.specs.Growing.{Turned};
 ghost use Rattle.tree.specs.Held.{Held};
-ghost use Rattle.tree.specs.LocalRows.{rowsIn};
-ghost use Rattle.tree.specs.Putting.{PutAll, Room};
+ghost use Rattle.tree.specs.Putting.{loweredIn, Given, PutAll, Room};
 ghost use Rattle.tree.specs.Readings.{short, roomCheck, measuredCheck, exactCheck, measuredOutcome, exactOutcome};
 ghost use Rattle.tree.specs.Writing.{Wrote};
 
-// The rows over the first images, ascending, in the first `count` places.
-struct Rows {
-    count: usize,
-    fars: [u64; 128],
-    costs: [u32; 128],
-}
+// What no value that counts exceeds: the start of every least value.
+const CAP: u32 = 4 * theory::LIMIT;
 
-// The cost of the far side s once image k is there, from its cost c over the first k images.
-fn cost_more(t: &[u32], n: usize, k: usize, s: u64, c: u32) -> u32
-    requires { ⌜ CostTable limit n (now t) × (k < n) × (c ≤ 2 * limit) ⌝ }
-    ensures { λ r. ⌜ r ≡ min c (broughtFast limit (cost (now (t .entry)) n) k (bit s) - 2 * limit) ⌝ }
+// The cost c, lowered by the value w, from which two limits are taken off.
+fn cost_more(c: u32, w: u32) -> u32
+    ensures { λ r. ⌜ r ≡ min c (w - 2 * limit) ⌝ }
 {
     let floor = 2 * theory::LIMIT;
-    index::one_more(t, n, s, k, c + floor, floor) - floor
+    if w < floor {
+        return 0;
+    }
+    ground::lower(c, w - floor)
 }
 
 // 1 for a row over n images that stays, an own link or one with a cost above 0; otherwise 0.
@@ -47,98 +43,78 @@ fn stay(n: usize, s: u64, c: u32) -> usize
     1
 }
 
-// The row of the far side s with image k, stored at the place `at`; the count of rows goes on if it stays.
+// The row of the far side s over the images up to k, its cost c lowered by the value w, stored at the place `at`; the count of rows
+// goes on if it stays.
 fn turn_row(
-    t: &[u32],
-    n: usize,
     k: usize,
     s: u64,
     c: u32,
+    w: u32,
     at: usize,
     fars: &mut [u64],
     costs: &mut [u32],
 ) -> usize
-    requires { ⌜ CostTable limit n (now t) × (k < n) × (c ≤ 2 * limit) × (at < length (now fars)) × (at < length (now costs)) ⌝ }
-    ensures { λ r. ⌜ Turned limit (cost (now (t .entry)) n) k s c at (now (fars .entry)) (now (costs .entry)) r (now (fars .exit)) (now (costs .exit)) ⌝ }
+    requires { ⌜ (k < 64) × (at < length (now fars)) × (at < length (now costs)) ⌝ }
+    ensures { λ r. ⌜ Turned k s (min c (w - 2 * limit)) at (now (fars .entry)) (now (costs .entry)) r (now (fars .exit)) (now (costs .exit)) ⌝ }
 {
-    let v = cost_more(t, n, k, s, c);
+    let v = cost_more(c, w);
     fars[at] = s;
     costs[at] = v;
     at + stay(k + 1, s, v)
 }
 
-// The old rows f and v with image k on the side that `add` puts it, behind the rows up to the place `at`; the new count of rows.
+// The old rows f and v with image k on the side that `add` puts it, behind the rows up to the place `at`; the new count of rows. What
+// image k brings to them stands in `best`, at the places `slots`.
 fn put_rows(
-    t: &[u32],
-    n: usize,
     k: usize,
     add: u64,
     f: &[u64],
     v: &[u32],
     count: usize,
+    slots: &[u8],
+    best: &[u32],
     at: usize,
     fars: &mut [u64],
     costs: &mut [u32],
 ) -> usize
-    requires { ⌜ CostTable limit n (now t) × (k < n) × Held limit (cost (now t) n) k (now f) (now v) count × (add ≤ 2 ^ k) × Room limit (cost (now t) n) k add (now f) (now v) count at (now fars) (now costs) ⌝ }
-    ensures { λ r. ⌜ PutAll limit (cost (now (t .entry)) n) k add (rowsIn (now (f .entry)) (now (v .entry)) count) at (now (fars .entry)) (now (costs .entry)) r (now (fars .exit)) (now (costs .exit)) ⌝ }
+    requires { ⌜ (k < 64) × Given add (now f) (now v) (now slots) (now best) count × Room k (loweredIn limit add (now f) (now v) (now slots) (now best) count) at (now fars) (now costs) ⌝ }
+    ensures { λ r. ⌜ PutAll k (loweredIn limit add (now (f .entry)) (now (v .entry)) (now (slots .entry)) (now (best .entry)) count) at (now (fars .entry)) (now (costs .entry)) r (now (fars .exit)) (now (costs .exit)) ⌝ }
 {
     let mut place = at;
     let mut i = 0;
     while i < count {
-        place = turn_row(t, n, k, add + f[i], v[i], place, fars, costs);
+        let slot = ground::wide(slots[i]);
+        place = turn_row(k, add + f[i], v[i], best[slot], place, fars, costs);
         i += 1;
     }
     place
 }
 
-// The rows over one image more, k, from the rows over the first k: the old rows with image k outside, its own link, the old rows
-// with image k inside. They ascend by themselves, and no more than two are added (Law C3).
-fn grow(t: &[u32], n: usize, k: usize, rows: Rows) -> Rows
-    requires { ⌜ CostTable limit n (now t) × (1 ≤ k) × (k < n) × Held limit (cost (now t) n) k (rows .fars) (rows .costs) (rows .count) ⌝ }
-    ensures { λ r. ⌜ Held limit (cost (now (t .entry)) n) (k + 1) (r .fars) (r .costs) (r .count) ⌝ }
+// The rows over one image more, k, from the rows f and v over the first k: the old rows with image k outside, its own link, the old
+// rows with image k inside. They ascend by themselves, and no more than two are added (Law C3). `steps` is lent for the work.
+fn grow(
+    t: &[u32],
+    n: usize,
+    k: usize,
+    f: &[u64],
+    v: &[u32],
+    count: usize,
+    fars: &mut [u64],
+    costs: &mut [u32],
+    steps: &mut [u32],
+) -> usize
+    requires { ⌜ CostTable limit n (now t) × (1 ≤ k) × (k < n) × Held limit (cost (now t) n) k (now f) (now v) count × (length (now fars) ≡ 128) × (length (now costs) ≡ 128) × (length (now steps) ≡ 384) ⌝ }
+    ensures { λ r. ⌜ Held limit (cost (now (t .entry)) n) (k + 1) (now (fars .exit)) (now (costs .exit)) r ⌝ }
 {
-    let f = rows.fars;
-    let v = rows.costs;
-    let count = rows.count;
-    let mut fars = [0u64; 128];
-    let mut costs = [0u32; 128];
-    let outside = put_rows(t, n, k, 0, &f, &v, count, 0, &mut fars, &mut costs);
+    let mut best = [CAP; 192];
+    best[63] = 0;
+    let mut outs = [0u8; 128];
+    let mut ins = [0u8; 128];
+    brought::brought(t, n, k, f, count, &mut outs, &mut ins, steps, &mut best);
+    let outside = put_rows(k, 0, f, v, count, &outs, &best, 0, fars, costs);
     let image = ground::bit_alone(k);
-    let own = turn_row(
-        t,
-        n,
-        k,
-        image,
-        2 * theory::LIMIT,
-        outside,
-        &mut fars,
-        &mut costs,
-    );
-    let all = put_rows(t, n, k, image, &f, &v, count, own, &mut fars, &mut costs);
-    Rows {
-        count: all,
-        fars,
-        costs,
-    }
-}
-
-// The measured reading: from no row over one image, one image more at a time.
-fn measured_rows(n: usize, t: &[u32]) -> Rows
-    requires { ⌜ CostTable limit n (now t) ⌝ }
-    ensures { λ r. ⌜ Held limit (cost (now (t .entry)) n) n (r .fars) (r .costs) (r .count) ⌝ }
-{
-    let mut rows = Rows {
-        count: 0,
-        fars: [0u64; 128],
-        costs: [0u32; 128],
-    };
-    let mut k = 1;
-    while k < n {
-        rows = grow(t, n, k, rows);
-        k += 1;
-    }
-    rows
+    let own = turn_row(k, image, 2 * theory::LIMIT, best[191], outside, fars, costs);
+    put_rows(k, image, f, v, count, &ins, &best, own, fars, costs)
 }
 
 // The first `count` rows, written row by row into the two lent slices.
@@ -154,15 +130,32 @@ fn write_rows(f: &[u64], v: &[u32], count: usize, fars: &mut [u64], costs: &mut 
     }
 }
 
+// The measured reading: from no row over one image, one image more at a time; the number of its rows.
+fn measured_rows(n: usize, t: &[u32], f: &mut [u64], v: &mut [u32]) -> usize
+    requires { ⌜ CostTable limit n (now t) × (length (now f) ≡ 128) × (length (now v) ≡ 128) ⌝ }
+    ensures { λ r. ⌜ Held limit (cost (now (t .entry)) n) n (now (f .exit)) (now (v .exit)) r ⌝ }
+{
+    let mut fars = [0u64; 128];
+    let mut costs = [0u32; 128];
+    let mut steps = [0u32; 384];
+    let mut count = 0;
+    let mut k = 1;
+    while k < n {
+        count = grow(t, n, k, f, v, count, &mut fars, &mut costs, &mut steps);
+        write_rows(&fars, &costs, count, f, v);
+        k += 1;
+    }
+    count
+}
+
 // The measured reading of a cost table, written into slices that have room for it; the number of its rows.
 fn write_reading(n: usize, t: &[u32], fars: &mut [u64], costs: &mut [u32]) -> usize
     requires { ⌜ CostTable limit n (now t) × (2 * n - 3 ≤ length (now fars)) × (2 * n - 3 ≤ length (now costs)) ⌝ }
     ensures { λ r. ⌜ Wrote (measured limit (cost (now (t .entry)) n) n) r (now (fars .entry)) (now (costs .entry)) (now (fars .exit)) (now (costs .exit)) ⌝ }
 {
-    let rows = measured_rows(n, t);
-    let f = rows.fars;
-    let v = rows.costs;
-    let count = rows.count;
+    let mut f = [0u64; 128];
+    let mut v = [0u32; 128];
+    let count = measured_rows(n, t, &mut f, &mut v);
     write_rows(&f, &v, count, fars, costs);
     count
 }

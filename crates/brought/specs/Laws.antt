@@ -1,0 +1,8 @@
+-- Rows that cannot stay, the chains of the others, and the loops that choose them.
+pub mod Turns
+pub mod Dead
+pub mod Turned
+pub mod Sides
+pub mod Stores
+pub mod Choosing
+pub mod Answers

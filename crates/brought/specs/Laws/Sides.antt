@@ -1,0 +1,142 @@
+-- The sides that are asked form a chain for each image. Assumes nothing.
+use mathlib.Core.Bool.{true}
+use mathlib.Core.List.{List}
+use mathlib.Core.Logic.{inl, inr, _⊎_}
+use mathlib.Core.Path.{ap, _≡_}
+use Prim.Native.Nat.{ℕ, _-_, _<_, _^_, _≤_}
+use native.Mathlib.Omega.{arith}
+use lib.Bits.{bitAnd}
+use lib.Dec.{eqb, ltb}
+use lib.ListN.{getD}
+use lib.Pow.{pow-pos}
+use borrow.Author.Tests.{eqb-false, eqb-true, ltb-false, ltb-true}
+use borrow.Table.Steps.{cases}
+use Rattle.ground.specs.Bits.{bit}
+use Rattle.ground.specs.Laws.Bits.{bit-and, bit-full, bit-lt, bit-none}
+use Rattle.ground.specs.Laws.Tests.{or-cases}
+use Rattle.theory.specs.FarSides.{Nested, Within}
+use Rattle.theory.specs.Laws.Nested.{bit-holds, holds-false, holds-true}
+use Rattle.chains.specs.Chains.{Chained, Family, Gap}
+use Rattle.brought.specs.Chosen.{Highs, Lows, Rowed}
+use Rattle.brought.specs.Near.{goesIn, goesOut}
+use Rattle.brought.specs.Laws.Turned.{bit-rest, rest-lt}
+use Rattle.chains.specs.Laws.Lowest.{one-below}
+use Rattle.chains.specs.Laws.Parts.{bits-le}
+
+-- bit by bit
+and-bits : (S N : ℕ) → bitAnd S N ≡ S → (x : ℕ) → bit S x ≤ bit N x
+and-bits S N e x = omega (arith, bit-and x S N, ap (λ (y : ℕ). bit y x) e)
+
+within-bits : (k S R : ℕ) → S < 2 ^ k → Within k S R → (x : ℕ) → bit S x ≤ bit R x
+within-bits k S R f w x =
+    cases (eqb (bit S x) 1)
+    (λ e. let o = eqb-true (bit S x) 1 e in omega (arith, holds-true R x (w x (one-below S k x f o) (bit-holds S x o))))
+    (λ e. omega (arith, eqb-false (bit S x) 1 e, bit-lt S x))
+
+-- of two rows that hold one image, the lower is within the higher
+rows-within : (k S R : ℕ) → S < 2 ^ k → R < 2 ^ k → Nested k S R → S < R → (z : ℕ) → bit S z ≡ 1 → bit R z ≡ 1 → (y : ℕ) → bit S y ≤ bit R y
+rows-within k S R f g (inl w) l z s r y = within-bits k S R f w y
+rows-within k S R f g (inr (inl w)) l z s r y = absurd (omega (arith, bits-le k R S g (within-bits k R S g w)))
+rows-within k S R f g (inr (inr w)) l z s r y = absurd (omega (arith, holds-false R z (w z (one-below S k z f s) (bit-holds S z s))))
+
+-- a row S with image k outside and a row R with it inside: what S holds R does not, where S holds something that R does not
+rows-apart : (k b N S R : ℕ) → S < 2 ^ k → R < 2 ^ k → bit N b ≡ 1 → Nested k S R → goesOut b N S ≡ true → goesIn N R ≡ true → (z : ℕ) → bit S z ≡ 1 → bit R z ≡ 0
+    → (y : ℕ) → bit S y ≡ 1 → bit R y ≡ 0
+rows-apart k b N S R f g n (inl w) o i z s r y t = absurd (omega (arith, within-bits k S R f w z))
+rows-apart k b N S R f g n (inr (inl w)) o i z s r y t = absurd (go (or-cases (eqb (bit S b) 0) (eqb (bitAnd S N) S) o))
+  where
+    into : (x : ℕ) → bit N x ≤ bit R x
+    into x = omega (arith, bit-and x R N, ap (λ (v : ℕ). bit v x) (eqb-true (bitAnd R N) N i))
+
+    go : (eqb (bit S b) 0 ≡ true) ⊎ (eqb (bitAnd S N) S ≡ true) → ⊥
+    go (inl e) = omega (arith, eqb-true (bit S b) 0 e, within-bits k R S g w b, into b)
+    go (inr e) = omega (arith, and-bits S N (eqb-true (bitAnd S N) S e) z, into z)
+rows-apart k b N S R f g n (inr (inr w)) o i z s r y t = holds-false R y (w y (one-below S k y f t) (bit-holds S y t))
+
+module _ (k b N : ℕ) (f : List ℕ) (count low high : ℕ) (B : List ℕ) (r : Rowed k f count) (n : bit N b ≡ 1 ⊎ (count ≡ 0)) (l : Lows b N f count low B) (h : Highs k N f count high B)
+    (between : Gap low high B) (order : low ≤ high) (bound : high ≤ 127) (whole : getD B 127 0 ≡ 2 ^ k - 1) where
+  near : (i : ℕ) → i < count → bit N b ≡ 1
+  near i g = go n
+    where
+      go : bit N b ≡ 1 ⊎ (count ≡ 0) → bit N b ≡ 1
+      go (inl e) = e
+      go (inr e) = absurd (omega arith)
+
+  -- the side at place j: a row, what a row does not hold, nothing, or the whole
+  data Kind (j : ℕ) : Type 0 where
+    front : j < low → Kind j
+    back : high ≤ j → j < 127 → Kind j
+    none : getD B j 0 ≡ 0 → Kind j
+    all : j ≡ 127 → Kind j
+
+  kind : (j : ℕ) → j < 128 → Kind j
+  kind j g =
+      cases (ltb j low) (λ e. front (ltb-true j low e))
+      (λ e. cases (ltb j high) (λ t. none (between .empty j (ltb-false j low e) (ltb-true j high t)))
+      (λ t. cases (eqb j 127) (λ s. all (eqb-true j 127 s)) (λ s. back (ltb-false j high t) (omega (arith, eqb-false j 127 s)))))
+
+  fits : (j : ℕ) → Kind j → getD B j 0 < 2 ^ k
+  fits j (front g) = let s = l .from j g in rw (s .2) (r .far (s .0) (s .1) .fits)
+  fits j (back g t) = let s = h .from j g t in rw (s .2) (rest-lt k (getD f (s .0) 0))
+  fits j (none e) = rw e (pow-pos k)
+  fits j (all e) = rw (e, whole) (omega (arith, pow-pos k))
+
+  to-none : (j z : ℕ) → getD B j 0 ≡ 0 → bit (getD B j 0) z ≡ 1 → ⊥
+  to-none j z e t = let x = rw e at t in omega (arith, bit-none z)
+
+  to-all : (i j y : ℕ) → Kind i → j ≡ 127 → bit (getD B i 0) y ≡ 1 → bit (getD B j 0) y ≡ 1
+  to-all i j y p e v = rw (e, whole) (bit-full k y (one-below (getD B i 0) k y (fits i p) v))
+
+  grows : (i j z y : ℕ) → Kind i → Kind j → i < j → bit (getD B i 0) z ≡ 1 → bit (getD B j 0) z ≡ 1 → bit (getD B i 0) y ≡ 1 → bit (getD B j 0) y ≡ 1
+  grows i j z y (none e) q g s t v = absurd (let x = rw e at s in omega (arith, bit-none z))
+  grows i j z y (front g) (front t) c s u v =
+      let a = l .from i g in
+      let e = l .from j t in
+      let m = l .up i j c t in
+      let x = rw (a .2, e .2) at m in
+      let s′ = rw (a .2) at s in
+      let u′ = rw (e .2) at u in
+      let v′ = rw (a .2) at v in
+      rw (e .2) (omega (arith, bit-lt (getD f (e .0) 0) y, rows-within k (getD f (a .0) 0) (getD f (e .0) 0) (r .far (a .0) (a .1) .fits) (r .far (e .0) (e .1) .fits) (r .nested (a .0) (e .0) (a .1) (e .1)) x z s′ u′ y))
+  grows i j z y (front g) (back t c) q s u v =
+      let a = l .from i g in
+      let e = h .from j t c in
+      let S = getD f (a .0) 0 in
+      let R = getD f (e .0) 0 in
+      let s′ : bit S z ≡ 1 = rw (a .2) at s in
+      let u′ : bit (2 ^ k - 1 - R) z ≡ 1 = rw (e .2) at u in
+      let v′ : bit S y ≡ 1 = rw (a .2) at v in
+      let fs = r .far (a .0) (a .1) .fits in
+      let fr = r .far (e .0) (e .1) .fits in
+      let zr : bit R z ≡ 0 = omega (arith, bit-rest k R z fr (one-below S k z fs s′)) in
+      rw (e .2) (omega (arith, bit-rest k R y fr (one-below S k y fs v′), rows-apart k b N S R fs fr (near (a .0) (a .1)) (r .nested (a .0) (e .0) (a .1) (e .1)) (a .3) (e .3) z s′ zr y v′))
+  grows i j z y (back g p) (front t) q s u v = absurd (omega arith)
+  grows i j z y (back g p) (back t c) q s u v =
+      let a = h .from i g p in
+      let e = h .from j t c in
+      let S = getD f (a .0) 0 in
+      let R = getD f (e .0) 0 in
+      let m = h .up i j g q c in
+      let x : 2 ^ k - 1 - S < 2 ^ k - 1 - R = rw (a .2, e .2) at m in
+      let v′ : bit (2 ^ k - 1 - S) y ≡ 1 = rw (a .2) at v in
+      let fs = r .far (a .0) (a .1) .fits in
+      let fr = r .far (e .0) (e .1) .fits in
+      let yk = one-below (2 ^ k - 1 - S) k y (rest-lt k S) v′ in
+      let nb = near (a .0) (a .1) in
+      let bs : bit S b ≡ 1 = omega (arith, bit-and b S N, ap (λ (w : ℕ). bit w b) (eqb-true (bitAnd S N) N (a .3)), bit-lt S b) in
+      let br : bit R b ≡ 1 = omega (arith, bit-and b R N, ap (λ (w : ℕ). bit w b) (eqb-true (bitAnd R N) N (e .3)), bit-lt R b) in
+      rw (e .2) (omega (arith, bit-rest k S y fs yk, bit-rest k R y fr yk, bit-lt S y, rows-within k R S fr fs (r .nested (e .0) (a .0) (e .1) (a .1)) (omega arith) b br bs y))
+  grows i j z y (all p) (front t) q s u v = absurd (omega arith)
+  grows i j z y (all p) (back t c) q s u v = absurd (omega arith)
+  grows i j z y (front g) (none e) q s t v = absurd (to-none j z e t)
+  grows i j z y (front g) (all e) q s t v = to-all i j y (front g) e v
+  grows i j z y (back g p) (none e) q s t v = absurd (to-none j z e t)
+  grows i j z y (back g p) (all e) q s t v = to-all i j y (back g p) e v
+  grows i j z y (all g) (none e) q s t v = absurd (to-none j z e t)
+  grows i j z y (all g) (all e) q s t v = to-all i j y (all g) e v
+
+  chained : Chained k B 128
+  chained = record { fits = λ i g. fits i (kind i g); grows = λ i j z y g t. grows i j z y (kind i (omega arith)) (kind j t) g }
+
+  pub family : Family k low high B
+  family = record { gap = between; chained = chained; whole = whole }
