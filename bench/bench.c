@@ -1,64 +1,22 @@
 /*
- * Times the archive against plain.c, call by call, in one run: the two take turns, and the least of several turns counts, in
- * processor time, so that a busy machine does little harm. Both answers are compared first. Prints a table in Markdown.
+ * Times the archive against plain.c, call by call, in one run: the two take turns. Both answers are compared first. Prints two
+ * tables in Markdown: all calls on random trees, and the measured reading on trees of every shape.
  */
-#define _POSIX_C_SOURCE 199309L
 #include <stdio.h>
 #include <stdlib.h>
 #include <string.h>
-#include <time.h>
 
 #include "kemotuiki.h"
 #include "plain.h"
+#include "race.h"
+#include "shapes.h"
+#include "tables.h"
 
 static size_t n, rows, plain_rows, stored_costs, stored_links, stored_fewer;
 static uint32_t tree[4096], other[4096], noisy[4096], back[4096], costs[125], plain_costs[125], out[64], plain_out[64];
 static uint64_t fars[125], plain_fars[125], inner_side;
 static uint8_t cost_bytes[KEMOTUIKI_COST_BYTES], link_bytes[KEMOTUIKI_LINK_BYTES], fewer_bytes[KEMOTUIKI_LINK_BYTES], bytes[KEMOTUIKI_COST_BYTES];
 static volatile size_t sink;
-
-static double now(void) {
-    struct timespec t;
-    clock_gettime(CLOCK_PROCESS_CPUTIME_ID, &t);
-    return t.tv_sec + 1e-9 * t.tv_nsec;
-}
-
-static uint64_t state;
-static uint32_t dice(uint32_t below) {
-    state = state * 6364136223846793005u + 1442695040888963407u;
-    return (uint32_t)(state >> 33) % below;
-}
-
-/* Path costs in a random tree: each image joins a link of the tree so far, which is split by a new switch. */
-static void grow(uint32_t *t, uint64_t seed) {
-    static int parent[200];
-    static uint32_t up[200];
-    int vertices = 2, leaf[64];
-    state = seed;
-    leaf[0] = 0, leaf[1] = 1;
-    parent[0] = -1, parent[1] = 0, up[0] = 0, up[1] = 2 + dice(400);
-    for (size_t i = 2; i < n; i++) {
-        int below = 1 + dice(vertices - 1), middle = vertices++, image = vertices++;
-        uint32_t part = 1 + dice(up[below] > 1 ? up[below] - 1 : 1);
-        if (up[below] < 2) up[below] = 2, part = 1;
-        parent[middle] = parent[below], up[middle] = up[below] - part;
-        parent[below] = middle, up[below] = part;
-        parent[image] = middle, up[image] = 2 + dice(400);
-        leaf[i] = image;
-    }
-    for (size_t i = 0; i < n; i++) {
-        uint32_t down[200];
-        for (int v = 0; v < vertices; v++) down[v] = UINT32_MAX;
-        uint32_t sum = 0;
-        for (int v = leaf[i]; v >= 0; sum += up[v], v = parent[v]) down[v] = sum;
-        for (size_t j = 0; j < n; j++) {
-            uint32_t s = 0;
-            int v = leaf[j];
-            for (; down[v] == UINT32_MAX; v = parent[v]) s += up[v];
-            t[i * n + j] = s + down[v];
-        }
-    }
-}
 
 static void ours_exact(void) { sink = kemotuiki_exact(n, tree, n * n, fars, 125, costs, 125).value; }
 static void c_exact(void) { plain_exact(n, tree, n * n, plain_fars, plain_costs, 125, &plain_rows); sink = plain_rows; }
@@ -94,20 +52,9 @@ static void store_fewer(void) {
     stored_fewer = kemotuiki_write_links(n, kept, plain_fars, kept, plain_costs, kept, fewer_bytes, sizeof fewer_bytes).value;
 }
 
-/* Microseconds a call. */
-static double turn(void (*call)(void), double seconds) {
-    double start = now(), end;
-    size_t times = 0;
-    do {
-        call();
-        times++;
-        end = now();
-    } while (end - start < seconds);
-    return 1e6 * (end - start) / times;
-}
-
-static void race(const char *name, void (*ours)(void), void (*plain)(void)) {
-    double a = 1e30, b = 1e30;
+static void race_both(const char *name, Call *ours, Call *plain) {
+    Call *calls[] = {ours, plain};
+    double us[2];
     ours();
     size_t answer = sink;
     plain();
@@ -115,12 +62,8 @@ static void race(const char *name, void (*ours)(void), void (*plain)(void)) {
         fprintf(stderr, "%s at %zu: %zu and %zu\n", name, n, answer, (size_t)sink);
         exit(1);
     }
-    for (int k = 0; k < 9; k++) {
-        double x = turn(ours, 0.03), y = turn(plain, 0.03);
-        if (x < a) a = x;
-        if (y < b) b = y;
-    }
-    printf("| %s | %zu | %.1f | %.1f | %.2f |\n", name, n, a, b, a / b);
+    race(2, calls, us);
+    printf("| %s | %zu | %.1f | %.1f | %.2f |\n", name, n, us[0], us[1], us[0] / us[1]);
     fflush(stdout);
 }
 
@@ -129,31 +72,32 @@ int main(void) {
     printf("| Call | n | archive, µs | C, µs | archive / C |\n|---|---|---|---|---|\n");
     for (size_t k = 0; k < 4; k++) {
         n = sizes[k];
-        grow(tree, 7), grow(other, 11);
+        seed(7), random_tree(n, tree);
+        seed(11), random_tree(n, other);
         memcpy(noisy, tree, sizeof noisy);
-        for (size_t i = 0; i < n; i++)
-            for (size_t j = i + 1; j < n; j++) noisy[j * n + i] = noisy[i * n + j] += dice(3);
-        race("exact", ours_exact, c_exact);
+        raise(n, noisy);
+        race_both("exact", ours_exact, c_exact);
         rows = kemotuiki_exact(n, tree, n * n, fars, 125, costs, 125).value;
         if (plain_rows != rows || memcmp(fars, plain_fars, rows * 8) || memcmp(costs, plain_costs, rows * 4)) return 1;
         inner_side = fars[rows / 2];
-        race("exact, C over all fours", ours_exact, c_exact_all);
-        race("measured", ours_measured, c_measured);
+        race_both("exact, C over all fours", ours_exact, c_exact_all);
+        race_both("measured", ours_measured, c_measured);
         rows = kemotuiki_exact(n, tree, n * n, fars, 125, costs, 125).value;
-        race("index", ours_index, c_index);
-        race("order", ours_order, c_order);
+        race_both("index", ours_index, c_index);
+        race_both("order", ours_order, c_order);
         if (memcmp(out, plain_out, n * 4)) return 1;
-        race("compare", ours_compare, c_compare);
-        race("write_costs", ours_write_costs, c_write_costs);
+        race_both("compare", ours_compare, c_compare);
+        race_both("write_costs", ours_write_costs, c_write_costs);
         stored_costs = sink;
         if (memcmp(cost_bytes, bytes, stored_costs)) return 1;
-        race("read_costs", ours_read_costs, c_read_costs);
-        race("write_links", ours_write_links, c_write_links);
+        race_both("read_costs", ours_read_costs, c_read_costs);
+        race_both("write_links", ours_write_links, c_write_links);
         stored_links = sink;
         if (memcmp(link_bytes, bytes, stored_links)) return 1;
-        race("read_links", ours_read_links, c_read_links);
+        race_both("read_links", ours_read_links, c_read_links);
         store_fewer();
-        race("choice", ours_choice, c_choice);
+        race_both("choice", ours_choice, c_choice);
     }
+    shapes();
     return 0;
 }

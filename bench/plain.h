@@ -5,6 +5,7 @@
 int plain_index(size_t n, const uint32_t *t, size_t t_count, uint64_t s, size_t *value);
 int plain_order(size_t n, const uint32_t *t, size_t t_count, size_t first, size_t last, uint32_t *out, size_t room);
 int plain_measured(size_t n, const uint32_t *t, size_t t_count, uint64_t *fars, uint32_t *costs, size_t room, size_t *rows);
+int plain_measured_before(size_t n, const uint32_t *t, size_t t_count, uint64_t *fars, uint32_t *costs, size_t room, size_t *rows);
 int plain_exact(size_t n, const uint32_t *t, size_t t_count, uint64_t *fars, uint32_t *costs, size_t room, size_t *rows);
 int plain_exact_all_fours(size_t n, const uint32_t *t, size_t t_count, uint64_t *fars, uint32_t *costs, size_t room, size_t *rows);
 int plain_compare(size_t n, const uint32_t *first, size_t first_count, const uint32_t *second, size_t second_count, size_t v[5]);

@@ -1,6 +1,8 @@
 #!/usr/bin/env bash
-# Builds the benchmark against the archive and prints its table. plain.c is built with -O3 for the target of the archive.
+# Builds the benchmark against the archive and prints its tables. The C is built with -O3 for the target of the archive. With the
+# archive of an earlier state as argument, its measured reading is raced too.
 set -euo pipefail
+earlier=${1:+$(realpath "$1")}
 cd "$(dirname "$0")/.."
 . scripts/cross.sh
 if [ -z "$CC" ] || [ "$RUN" = none ]; then
@@ -10,5 +12,11 @@ fi
 need_archive
 work=$(mktemp -d)
 trap 'rm -rf "$work"' EXIT
-"$CC" -std=gnu11 -O3 -march=x86-64 -Wall -Wextra -Iinclude bench/bench.c bench/plain.c "$archive" -o "$work/bench"
+archives=("$archive")
+if [ -n "$earlier" ]; then
+    # Both archives export the same calls: of the earlier one only the measured reading stays in sight, under another name.
+    "${CC%gcc}objcopy" --redefine-sym kemotuiki_measured=earlier_measured --keep-global-symbol=earlier_measured "$earlier" "$work/earlier.a"
+    archives+=(-DEARLIER "$work/earlier.a")
+fi
+"$CC" -std=gnu11 -O3 -march=x86-64 -Wall -Wextra -Iinclude bench/*.c "${archives[@]}" -o "$work/bench"
 $RUN "$work/bench"

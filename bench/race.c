@@ -1,0 +1,30 @@
+#define _POSIX_C_SOURCE 199309L
+#include "race.h"
+
+#include <time.h>
+
+static double now(void) {
+    struct timespec t;
+    clock_gettime(CLOCK_PROCESS_CPUTIME_ID, &t);
+    return t.tv_sec + 1e-9 * t.tv_nsec;
+}
+
+static double turn(Call *call, double seconds) {
+    double start = now(), end;
+    size_t times = 0;
+    do {
+        call();
+        times++;
+        end = now();
+    } while (end - start < seconds);
+    return 1e6 * (end - start) / times;
+}
+
+void race(size_t count, Call *const *calls, double *microseconds) {
+    for (size_t i = 0; i < count; i++) microseconds[i] = 1e30;
+    for (int k = 0; k < 9; k++)
+        for (size_t i = 0; i < count; i++) {
+            double x = turn(calls[i], 0.03);
+            if (x < microseconds[i]) microseconds[i] = x;
+        }
+}

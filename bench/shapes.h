@@ -1,0 +1,2 @@
+/* Prints the second table: the measured reading on tables of every shape. */
+void shapes(void);
