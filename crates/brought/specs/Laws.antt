@@ -2,7 +2,8 @@
 pub mod Turns
 pub mod Dead
 pub mod Turned
-pub mod Sides
 pub mod Stores
 pub mod Choosing
+pub mod BothWays
+pub mod Sides
 pub mod Answers

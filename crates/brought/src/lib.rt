@@ -1,17 +1,20 @@
 // What image k brings to the rows over the first k images: which of them can stay, the sides that are asked for these, and the values.
-use chains::Ends;
 ghost use mathlib.Core.Path.{_≡_};
 ghost use Prim.Native.Nat.{_+_, _-_, _*_, _^_, _<_, _≤_};
 ghost use lib.Count.{trailingZeros};
-ghost use lib.Dec.{eqb, ltb};
+ghost use lib.Dec.{ltb};
 ghost use lib.ListN.{getD, length};
 ghost use Rattle.ground.specs.Bits.{bit};
 ghost use Rattle.ground.specs.Counts.{one-if};
 ghost use Rattle.theory.specs.Tables.{limit, cost, CostTable};
 ghost use Rattle.chains.specs.Chains.{pick};
-ghost use Rattle.brought.specs.Answers.{Fresh, Answered};
-ghost use Rattle.brought.specs.Chosen.{alone, taken, slotOf, Rowed, Chosen};
+ghost use Rattle.brought.specs.Answers.{Answered};
+ghost use Rattle.brought.specs.Choosing.{inSide, inLive, Put, Room, Outs, Ins};
+ghost use Rattle.brought.specs.Chosen.{alone, taken, slotOf, storedOf, Rising, Rowed};
 ghost use Rattle.brought.specs.Near.{Closest, NearImages, nearImage, goesOut, goesIn};
+
+// What no value that counts exceeds: the start of every least value.
+const CAP: u32 = 4 * theory::LIMIT;
 
 // Of b and y the one that is nearer to k, as seen from image 0.
 fn closer(t: &[u32], n: usize, k: usize, b: usize, y: usize) -> usize
@@ -129,71 +132,77 @@ fn slot(live: bool, s: u64, place: usize) -> usize
     63
 }
 
-// The side where it is stored, otherwise none.
-fn kept(take: usize, s: u64) -> u64
-    ensures { λ r. ⌜ r ≡ pick (eqb take 1) s 0 ⌝ }
-{
-    if take == 1 { s } else { 0 }
-}
-
-// Row i goes by: its far side, and what it does not hold of the first k images, are stored where the row may stay.
-fn turn_row(
-    k: usize,
-    b: usize,
-    near: u64,
-    fars: &[u64],
+// Side s is stored behind the m sides so far, for good where it may stay and is no image alone; the number of sides then. At place i
+// of `slots` stands where its value will be.
+fn store(
+    live: bool,
+    s: u64,
+    m: usize,
     i: usize,
-    ends: Ends,
     sides: &mut [u64],
-    outs: &mut [u8],
-    ins: &mut [u8],
-) -> Ends
-    requires { ⌜ (1 ≤ k) × (k < 64) × (b < 64) × (bit near b ≡ 1) × Rowed k (now fars) (i + 1) × Chosen k b near (now fars) i (ends .low) (ends .high) (now sides) (now outs) (now ins) ⌝ }
-    ensures { λ r. ⌜ Chosen k b near (now (fars .entry)) (i + 1) (r .low) (r .high) (now (sides .exit)) (now (outs .exit)) (now (ins .exit)) ⌝ }
+    slots: &mut [u8],
+    best: &mut [u32],
+) -> usize
+    requires { ⌜ (0 < s) × (m < 128) × (i < 128) × Room (now sides) (now slots) (now best) ⌝ }
+    ensures { λ r. ⌜ Put limit live s m i (now (sides .entry)) (now (slots .entry)) (now (best .entry)) r (now (sides .exit)) (now (slots .exit)) (now (best .exit)) ⌝ }
 {
-    let s = fars[i];
-    let rest = ground::bit_alone(k) - 1 - s;
-    let low = ends.low;
-    let high = ends.high;
-    let outside = goes_out(b, near, s);
-    let inside = goes_in(near, s);
-    let first = takes(outside, s);
-    let second = takes(inside, rest);
-    outs[i] = ground::byte(slot(outside, s, low));
-    ins[i] = ground::byte(slot(inside, rest, high - 1));
-    sides[low] = kept(first, s);
-    sides[high - 1] = kept(second, rest);
-    Ends {
-        low: low + first,
-        high: high - second,
-    }
+    sides[m] = s;
+    best[64 + m] = CAP;
+    slots[i] = ground::byte(slot(live, s, m));
+    m + takes(live, s)
 }
 
-// All rows go by.
-fn choose(
-    k: usize,
+// The rows go by with image k outside, ascending: of those that may stay the far sides are stored; how many.
+fn choose_out(
     b: usize,
     near: u64,
     fars: &[u64],
     count: usize,
     sides: &mut [u64],
     outs: &mut [u8],
-    ins: &mut [u8],
-) -> Ends
-    requires { ⌜ (1 ≤ k) × (k < 64) × (b < 64) × ((0 < count) → bit near b ≡ 1) × Rowed k (now fars) count × Chosen k b near (now fars) 0 0 127 (now sides) (now outs) (now ins) ⌝ }
-    ensures { λ r. ⌜ Chosen k b near (now (fars .entry)) count (r .low) (r .high) (now (sides .exit)) (now (outs .exit)) (now (ins .exit)) ⌝ }
+    best: &mut [u32],
+) -> usize
+    requires { ⌜ (b < 64) × Rising (now fars) count × Room (now sides) (now outs) (now best) ⌝ }
+    ensures { λ r. ⌜ Outs limit b near (now (fars .entry)) count r (now (sides .exit)) (now (outs .exit)) (now (best .exit)) ⌝ }
 {
-    let mut ends = Ends { low: 0, high: 127 };
+    let mut m = 0;
     let mut i = 0;
     while i < count {
-        ends = turn_row(k, b, near, fars, i, ends, sides, outs, ins);
+        let s = fars[i];
+        m = store(goes_out(b, near, s), s, m, i, sides, outs, best);
         i += 1;
     }
-    ends
+    m
 }
 
-// What image k brings to the rows over the first k images, image k outside and inside, and to its own link: the places `outs` and
-// `ins` of their values, and the values, that of its own link at place 191. In `steps`, lent for the work, nothing is left that counts.
+// The rows go by with image k inside, descending: of those that may stay what they do not hold of the first k images is stored, behind
+// the `low` sides that stand there; how many sides then.
+fn choose_in(
+    k: usize,
+    near: u64,
+    fars: &[u64],
+    count: usize,
+    low: usize,
+    sides: &mut [u64],
+    ins: &mut [u8],
+    best: &mut [u32],
+) -> usize
+    requires { ⌜ (1 ≤ k) × (k < 64) × Rowed k (now fars) count × (low + storedOf (inSide k (now fars)) (inLive near (now fars)) count < 128) × Room (now sides) (now ins) (now best) ⌝ }
+    ensures { λ r. ⌜ Ins limit k near (now (fars .entry)) 0 count low r (now (sides .entry)) (now (best .entry)) (now (sides .exit)) (now (ins .exit)) (now (best .exit)) ⌝ }
+{
+    let full = ground::bit_alone(k) - 1;
+    let mut m = low;
+    let mut i = count;
+    while 0 < i {
+        i -= 1;
+        let s = fars[i];
+        m = store(goes_in(near, s), full - s, m, i, sides, ins, best);
+    }
+    m
+}
+
+// What image k brings to the rows over the first k images, image k outside and inside: the values `best` at the places `outs` and
+// `ins`; and the place of what it brings to its own link. In `sides` and `steps`, lent for the work, nothing is left that counts.
 pub fn brought(
     t: &[u32],
     n: usize,
@@ -202,16 +211,20 @@ pub fn brought(
     count: usize,
     outs: &mut [u8],
     ins: &mut [u8],
+    sides: &mut [u64],
     steps: &mut [u32],
     best: &mut [u32],
-)
-    requires { ⌜ CostTable limit n (now t) × (1 ≤ k) × (k < n) × Rowed k (now fars) count × (length (now outs) ≡ 128) × (length (now ins) ≡ 128) × (length (now steps) ≡ 384) × Fresh limit (now best) ⌝ }
-    ensures { λ _. ⌜ Answered limit (cost (now (t .entry)) n) k (now (fars .entry)) count (now (outs .exit)) (now (ins .exit)) (now (best .exit)) ⌝ }
+) -> usize
+    requires { ⌜ CostTable limit n (now t) × (1 ≤ k) × (k < n) × Rowed k (now fars) count × (length (now outs) ≡ 128) × (length (now ins) ≡ 128) × (length (now sides) ≡ 128) × (length (now steps) ≡ 384) × (length (now best) ≡ 192) ⌝ }
+    ensures { λ r. ⌜ Answered limit (cost (now (t .entry)) n) k (now (fars .entry)) count r (now (outs .exit)) (now (ins .exit)) (now (best .exit)) ⌝ }
 {
     let b = closest(t, n, k);
     let near = near_images(t, n, k, b);
-    let mut sides = [0u64; 128];
-    sides[127] = ground::bit_alone(k) - 1;
-    let ends = choose(k, b, near, fars, count, &mut sides, outs, ins);
-    chains::images(t, n, k, &sides, ends, steps, best);
+    let low = choose_out(b, near, fars, count, sides, outs, best);
+    let m = choose_in(k, near, fars, count, low, sides, ins, best);
+    sides[m] = ground::bit_alone(k) - 1;
+    best[63] = 0;
+    best[64 + m] = CAP;
+    chains::images(t, n, k, sides, m + 1, steps, best);
+    64 + m
 }

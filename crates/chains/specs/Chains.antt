@@ -36,24 +36,20 @@ unfoldable pub heldAt : List ℕ → ℕ → ℕ → ℕ
 heldAt B z zero = 2 ^ z
 heldAt B z (suc i) = pick (eqb (bit (getD B i 0) z) 1) (getD B i 0) (heldAt B z i)
 
--- its place, counted from 1; 0 before any
-unfoldable pub lastAt : List ℕ → ℕ → ℕ → ℕ
-lastAt B z zero = zero
-lastAt B z (suc i) = pick (eqb (bit (getD B i 0) z) 1) (suc i) (lastAt B z i)
+-- how many of the first i sides hold z
+unfoldable pub depthAt : List ℕ → ℕ → ℕ → ℕ
+depthAt B z zero = zero
+depthAt B z (suc i) = pick (eqb (bit (getD B i 0) z) 1) (suc (depthAt B z i)) (depthAt B z i)
 
 -- the first m sides are over the first k images, and of two that hold one image the later holds all of the earlier
 pub record Chained (k : ℕ) (B : List ℕ) (m : ℕ) : Type 0 where
   pub fits : (i : ℕ) → i < m → getD B i 0 < 2 ^ k
   pub grows : (i j z y : ℕ) → i < j → j < m → bit (getD B i 0) z ≡ 1 → bit (getD B j 0) z ≡ 1 → bit (getD B i 0) y ≡ 1 → bit (getD B j 0) y ≡ 1
 
--- a list of 128 places where nothing stands from place low up to place high
-pub record Gap (low high : ℕ) (B : List ℕ) : Type 0 where
+-- a chain for each image, and all the first k images as the last of the m sides
+pub record Family (k : ℕ) (B : List ℕ) (m : ℕ) : Type 0 where
   pub room : length B ≡ 128
-  pub few : high ≤ 128
-  pub empty : (j : ℕ) → low ≤ j → j < high → getD B j 0 ≡ 0
-
--- a whole list of sides: a chain for each image, and all the first k images at the end
-pub record Family (k low high : ℕ) (B : List ℕ) : Type 0 where
-  pub gap : Gap low high B
-  pub chained : Chained k B 128
-  pub whole : getD B 127 0 ≡ 2 ^ k - 1
+  pub some : 0 < m
+  pub few : m ≤ 128
+  pub chained : Chained k B m
+  pub whole : (i : ℕ) → suc i ≡ m → getD B i 0 ≡ 2 ^ k - 1

@@ -4,6 +4,7 @@ pub mod Lowest
 pub mod Chain
 pub mod Ends
 pub mod Places
+pub mod Uppers
 pub mod Climbs
 pub mod Descents
 pub mod Walked

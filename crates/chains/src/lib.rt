@@ -1,7 +1,7 @@
 // What one image more, k, brings to all sides of a reading at once. A side is a number whose ones are the images on the other side
 // of k. For an image z the sides that hold z grow, so that one walk up and down them gives each what k brings with z.
 ghost use mathlib.Core.Path.{_≡_};
-ghost use Prim.Native.Nat.{ℕ, _+_, _-_, _*_, _^_, _<_, _≤_, min, max};
+ghost use Prim.Native.Nat.{_+_, _-_, _*_, _^_, _<_, _≤_, min};
 ghost use lib.Bits.{bitAnd};
 ghost use lib.Count.{trailingZeros};
 ghost use lib.Dec.{eqb};
@@ -9,18 +9,12 @@ ghost use lib.ListN.{getD, length, set};
 ghost use Rattle.ground.specs.Bits.{bit};
 ghost use Rattle.ground.specs.Least.{leastOn};
 ghost use Rattle.theory.specs.Tables.{limit, cost, CostTable};
-ghost use Rattle.chains.specs.Chains.{ahead, gapOn, Chained, Gap, Family};
+ghost use Rattle.chains.specs.Chains.{ahead, gapOn, Chained, Family};
 ghost use Rattle.chains.specs.Walks.{Next, Linked, Climbed, Up};
 ghost use Rattle.chains.specs.Values.{Least, Brought};
 
 // What no value that counts exceeds: the start of every least value.
 const CAP: u32 = 4 * theory::LIMIT;
-
-// Where the sides stand in a list of 128: below place `low`, and from place `high` on. Between them nothing stands.
-pub struct Ends {
-    pub low: usize,
-    pub high: usize,
-}
 
 // The least over some images: of how much farther each is from k than from z, and of how much farther from z than from k.
 struct Both {
@@ -28,16 +22,16 @@ struct Both {
     apart: u32,
 }
 
-// How far up a chain: the side held, the least over it, and its place counted from 1.
+// How far up a chain: the side held, the least over it, and how many sides it has below, itself among them.
 struct Cut {
     held: u64,
     near: u32,
-    last: u32,
+    depth: usize,
 }
 
 // A place as a number to keep.
 fn number_of(i: usize) -> u32
-    requires { ⌜ i ≤ 128 ⌝ }
+    requires { ⌜ i < 128 ⌝ }
     ensures { λ r. ⌜ r ≡ i ⌝ }
 {
     i as u32
@@ -95,19 +89,6 @@ fn level(t: &[u32], n: usize, k: usize, z: usize, m: u64, near: u32) -> Both
     }
 }
 
-// Place j, or the next one where something may stand.
-fn skip(low: usize, high: usize, j: usize) -> usize
-    ensures { λ r. ⌜ (j ≤ r) × (r ≤ max j high) × ((l : ℕ) → j ≤ l → l < r → (low ≤ l) × (l < high)) ⌝ }
-{
-    if j < low {
-        return j;
-    }
-    if high < j {
-        return j;
-    }
-    high
-}
-
 // Whether the side s contains m.
 fn contains(s: u64, m: u64) -> bool
     ensures { λ r. ⌜ r ≡ eqb (bitAnd m s) m ⌝ }
@@ -115,34 +96,30 @@ fn contains(s: u64, m: u64) -> bool
     m & s == m
 }
 
-// The first place from `from` on whose side contains m, or 128 where there is none.
-fn next(sides: &[u64], ends: Ends, m: u64, from: usize) -> usize
-    requires { ⌜ Gap (ends .low) (ends .high) (now sides) × (from ≤ 128) ⌝ }
-    ensures { λ r. ⌜ Next (now (sides .entry)) m from r ⌝ }
+// The first place from `from` on whose side contains s, or the number of sides where there is none.
+fn next(sides: &[u64], count: usize, s: u64, from: usize) -> usize
+    requires { ⌜ (count ≤ length (now sides)) × (from ≤ count) ⌝ }
+    ensures { λ r. ⌜ Next (now (sides .entry)) count s from r ⌝ }
 {
-    let low = ends.low;
-    let high = ends.high;
-    let mut j = skip(low, high, from);
-    while j < 128 {
-        if contains(sides[j], m) {
+    let mut j = from;
+    while j < count {
+        if contains(sides[j], s) {
             return j;
         }
-        j = skip(low, high, j + 1);
+        j += 1;
     }
     j
 }
 
-// The upper side of each side: the place of the first later one that contains it, 128 for the last.
-fn link(sides: &[u64], ends: Ends, uppers: &mut [u8])
-    requires { ⌜ Gap (ends .low) (ends .high) (now sides) × (length (now uppers) ≡ 128) ⌝ }
-    ensures { λ _. ⌜ Linked (now (sides .entry)) 128 (now (uppers .exit)) ⌝ }
+// The upper side of each side: the place of the first later one that contains it.
+fn link(sides: &[u64], count: usize, uppers: &mut [u8])
+    requires { ⌜ (length (now sides) ≡ 128) × (count ≤ 128) × (length (now uppers) ≡ 128) ⌝ }
+    ensures { λ _. ⌜ Linked (now (sides .entry)) count count (now (uppers .exit)) ⌝ }
 {
-    let low = ends.low;
-    let high = ends.high;
-    let mut i = skip(low, high, 0);
-    while i < 128 {
-        uppers[i] = ground::byte(next(sides, ends, sides[i], i + 1));
-        i = skip(low, high, i + 1);
+    let mut i = 0;
+    while i < count {
+        uppers[i] = ground::byte(next(sides, count, sides[i], i + 1));
+        i += 1;
     }
 }
 
@@ -157,56 +134,59 @@ fn turn_up(
     cut: Cut,
     steps: &mut [u32],
 ) -> Cut
-    requires { ⌜ CostTable limit n (now t) × (k < n) × (z < k) × (i < 128) × (length (now sides) ≡ 128) × Chained k (now sides) 128 × (bit (getD (now sides) i 0) z ≡ 1) × Up limit (cost (now t) n) k z (now sides) i (cut .held) (cut .near) (cut .last) (now steps) ⌝ }
-    ensures { λ r. ⌜ Up limit (cost (now (t .entry)) n) k z (now (sides .entry)) (i + 1) (r .held) (r .near) (r .last) (now (steps .exit)) ⌝ }
+    requires { ⌜ CostTable limit n (now t) × (k < n) × (z < k) × (i < 128) × (length (now sides) ≡ 128) × Chained k (now sides) (i + 1) × (bit (getD (now sides) i 0) z ≡ 1) × Up limit (cost (now t) n) k z (now sides) i (cut .held) (cut .near) (cut .depth) (now steps) ⌝ }
+    ensures { λ r. ⌜ Up limit (cost (now (t .entry)) n) k z (now (sides .entry)) (i + 1) (r .held) (r .near) (r .depth) (now (steps .exit)) ⌝ }
 {
     let s = sides[i];
     let b = level(t, n, k, z, s - cut.held, cut.near);
     let near = b.near;
-    steps[3 * i] = near;
-    steps[3 * i + 1] = b.apart;
-    steps[3 * i + 2] = cut.last;
+    let depth = cut.depth;
+    steps[3 * depth] = near;
+    steps[3 * depth + 1] = b.apart;
+    steps[3 * depth + 2] = number_of(i);
     Cut {
         held: s,
         near,
-        last: number_of(i + 1),
+        depth: depth + 1,
     }
 }
 
-// Up the chain of z, from z alone past all sides that hold it.
+// Up the chain of z, from z alone past all sides that hold it; how many they are.
 fn up(
     t: &[u32],
     n: usize,
     k: usize,
     z: usize,
     sides: &[u64],
-    ends: Ends,
+    count: usize,
     uppers: &[u8],
     steps: &mut [u32],
-)
-    requires { ⌜ CostTable limit n (now t) × (k < n) × (z < k) × Family k (ends .low) (ends .high) (now sides) × Linked (now sides) 128 (now uppers) × (length (now steps) ≡ 384) ⌝ }
-    ensures { λ _. ⌜ Climbed limit (cost (now (t .entry)) n) k z (now (sides .entry)) 128 (now (steps .exit)) ⌝ }
+) -> usize
+    requires { ⌜ CostTable limit n (now t) × (k < n) × (z < k) × Family k (now sides) count × Linked (now sides) count count (now uppers) × (length (now steps) ≡ 384) ⌝ }
+    ensures { λ r. ⌜ Climbed limit (cost (now (t .entry)) n) k z (now (sides .entry)) count r (now (steps .exit)) ⌝ }
 {
     let alone = ground::bit_alone(z);
     let mut cut = Cut {
         held: alone,
         near: theory::LIMIT + tables::entry(t, n, k, z),
-        last: 0,
+        depth: 0,
     };
-    let mut i = next(sides, ends, alone, 0);
-    while i < 128 {
+    let mut i = next(sides, count, alone, 0);
+    while i < count {
         cut = turn_up(t, n, k, z, sides, i, cut, steps);
         i = ground::wide(uppers[i]);
     }
+    cut.depth
 }
 
-// The side at place i is lowered by the least over it and a, the least beside it; the least beside the side before it.
-fn turn_down(i: usize, a: u32, steps: &[u32], best: &mut [u32]) -> u32
-    requires { ⌜ (i < 128) × (length (now steps) ≡ 384) × (length (now best) ≡ 192) × (getD (now steps) (3 * i) 0 ≤ 4 * limit) × (a ≤ 4 * limit) ⌝ }
-    ensures { λ r. ⌜ (r ≡ min a (getD (now (steps .entry)) (3 * i + 1) 0)) × (now (best .exit) ≡ set (now (best .entry)) (64 + i) (min (getD (now (best .entry)) (64 + i) 0) (getD (now (steps .entry)) (3 * i) 0 + a))) ⌝ }
+// The side of depth q is lowered by the least over it and a, the least beside it; the least beside the side before it.
+fn turn_down(q: usize, a: u32, steps: &[u32], best: &mut [u32]) -> u32
+    requires { ⌜ (q < 128) × (length (now steps) ≡ 384) × (length (now best) ≡ 192) × (getD (now steps) (3 * q) 0 ≤ 4 * limit) × (getD (now steps) (3 * q + 2) 0 < 128) × (a ≤ 4 * limit) ⌝ }
+    ensures { λ r. ⌜ (r ≡ min a (getD (now (steps .entry)) (3 * q + 1) 0)) × (now (best .exit) ≡ set (now (best .entry)) (64 + getD (now (steps .entry)) (3 * q + 2) 0) (min (getD (now (best .entry)) (64 + getD (now (steps .entry)) (3 * q + 2) 0) 0) (getD (now (steps .entry)) (3 * q) 0 + a))) ⌝ }
 {
-    best[64 + i] = ground::lower(best[64 + i], steps[3 * i] + a);
-    ground::lower(a, steps[3 * i + 1])
+    let i = place_of(steps[3 * q + 2]);
+    best[64 + i] = ground::lower(best[64 + i], steps[3 * q] + a);
+    ground::lower(a, steps[3 * q + 1])
 }
 
 // Image z takes its turn: up its chain, and down again from all images to z alone. Every side that holds z is lowered by what image
@@ -217,43 +197,42 @@ fn turn_image(
     k: usize,
     z: usize,
     sides: &[u64],
-    ends: Ends,
+    count: usize,
     uppers: &[u8],
     steps: &mut [u32],
     best: &mut [u32],
 )
-    requires { ⌜ CostTable limit n (now t) × (k < n) × (z < k) × Family k (ends .low) (ends .high) (now sides) × Linked (now sides) 128 (now uppers) × (length (now steps) ≡ 384) × Least limit (cost (now t) n) k (now sides) z (now best) ⌝ }
-    ensures { λ _. ⌜ Least limit (cost (now (t .entry)) n) k (now (sides .entry)) (z + 1) (now (best .exit)) ⌝ }
+    requires { ⌜ CostTable limit n (now t) × (k < n) × (z < k) × Family k (now sides) count × Linked (now sides) count count (now uppers) × (length (now steps) ≡ 384) × Least limit (cost (now t) n) k (now sides) count z (now best) ⌝ }
+    ensures { λ _. ⌜ Least limit (cost (now (t .entry)) n) k (now (sides .entry)) count (z + 1) (now (best .exit)) ⌝ }
 {
-    up(t, n, k, z, sides, ends, uppers, steps);
+    let mut q = up(t, n, k, z, sides, count, uppers, steps);
     let alone = theory::LIMIT + tables::entry(t, n, k, z);
     let mut a = alone;
-    let mut p = 128;
-    while 0 < p {
-        a = turn_down(p - 1, a, steps, best);
-        p = place_of(steps[3 * (p - 1) + 2]);
+    while 0 < q {
+        q -= 1;
+        a = turn_down(q, a, steps, best);
     }
     best[z] = alone + a;
 }
 
-// What image k brings to each side, and to each own link of the first k images.
+// What image k brings to each of the sides, and to each own link of the first k images.
 pub fn images(
     t: &[u32],
     n: usize,
     k: usize,
     sides: &[u64],
-    ends: Ends,
+    count: usize,
     steps: &mut [u32],
     best: &mut [u32],
 )
-    requires { ⌜ CostTable limit n (now t) × (k < n) × Family k (ends .low) (ends .high) (now sides) × (length (now steps) ≡ 384) × Least limit (cost (now t) n) k (now sides) 0 (now best) ⌝ }
-    ensures { λ _. ⌜ Brought limit (cost (now (t .entry)) n) k (now (sides .entry)) (now (best .exit)) ⌝ }
+    requires { ⌜ CostTable limit n (now t) × (k < n) × Family k (now sides) count × (length (now steps) ≡ 384) × Least limit (cost (now t) n) k (now sides) count 0 (now best) ⌝ }
+    ensures { λ _. ⌜ Brought limit (cost (now (t .entry)) n) k (now (sides .entry)) count (now (best .exit)) ⌝ }
 {
     let mut uppers = [0u8; 128];
-    link(sides, ends, &mut uppers);
+    link(sides, count, &mut uppers);
     let mut z = 0;
     while z < k {
-        turn_image(t, n, k, z, sides, ends, &uppers, steps, best);
+        turn_image(t, n, k, z, sides, count, &uppers, steps, best);
         z += 1;
     }
 }

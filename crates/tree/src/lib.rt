@@ -16,9 +16,6 @@ ghost use Rattle.tree.specs.Putting.{loweredIn, Given, PutAll, Room};
 ghost use Rattle.tree.specs.Readings.{short, roomCheck, measuredCheck, exactCheck, measuredOutcome, exactOutcome};
 ghost use Rattle.tree.specs.Writing.{Wrote};
 
-// What no value that counts exceeds: the start of every least value.
-const CAP: u32 = 4 * theory::LIMIT;
-
 // The cost c, lowered by the value w, from which two limits are taken off.
 fn cost_more(c: u32, w: u32) -> u32
     ensures { λ r. ⌜ r ≡ min c (w - 2 * limit) ⌝ }
@@ -91,7 +88,8 @@ fn put_rows(
 }
 
 // The rows over one image more, k, from the rows f and v over the first k: the old rows with image k outside, its own link, the old
-// rows with image k inside. They ascend by themselves, and no more than two are added (Law C3). `steps` is lent for the work.
+// rows with image k inside. They ascend by themselves, and no more than two are added (Law C3). `steps` and `best` are lent for the
+// work, and so is `fars` until the new rows are put there.
 fn grow(
     t: &[u32],
     n: usize,
@@ -102,19 +100,19 @@ fn grow(
     fars: &mut [u64],
     costs: &mut [u32],
     steps: &mut [u32],
+    best: &mut [u32],
 ) -> usize
-    requires { ⌜ CostTable limit n (now t) × (1 ≤ k) × (k < n) × Held limit (cost (now t) n) k (now f) (now v) count × (length (now fars) ≡ 128) × (length (now costs) ≡ 128) × (length (now steps) ≡ 384) ⌝ }
+    requires { ⌜ CostTable limit n (now t) × (1 ≤ k) × (k < n) × Held limit (cost (now t) n) k (now f) (now v) count × (length (now fars) ≡ 128) × (length (now costs) ≡ 128) × (length (now steps) ≡ 384) × (length (now best) ≡ 192) ⌝ }
     ensures { λ r. ⌜ Held limit (cost (now (t .entry)) n) (k + 1) (now (fars .exit)) (now (costs .exit)) r ⌝ }
 {
-    let mut best = [CAP; 192];
-    best[63] = 0;
     let mut outs = [0u8; 128];
     let mut ins = [0u8; 128];
-    brought::brought(t, n, k, f, count, &mut outs, &mut ins, steps, &mut best);
-    let outside = put_rows(k, 0, f, v, count, &outs, &best, 0, fars, costs);
+    let own = brought::brought(t, n, k, f, count, &mut outs, &mut ins, fars, steps, best);
+    let value = best[own];
     let image = ground::bit_alone(k);
-    let own = turn_row(k, image, 2 * theory::LIMIT, best[191], outside, fars, costs);
-    put_rows(k, image, f, v, count, &ins, &best, own, fars, costs)
+    let outside = put_rows(k, 0, f, v, count, &outs, best, 0, fars, costs);
+    let middle = turn_row(k, image, 2 * theory::LIMIT, value, outside, fars, costs);
+    put_rows(k, image, f, v, count, &ins, best, middle, fars, costs)
 }
 
 // The first `count` rows, written row by row into the two lent slices.
@@ -138,10 +136,22 @@ fn measured_rows(n: usize, t: &[u32], f: &mut [u64], v: &mut [u32]) -> usize
     let mut fars = [0u64; 128];
     let mut costs = [0u32; 128];
     let mut steps = [0u32; 384];
+    let mut best = [0u32; 192];
     let mut count = 0;
     let mut k = 1;
     while k < n {
-        count = grow(t, n, k, f, v, count, &mut fars, &mut costs, &mut steps);
+        count = grow(
+            t,
+            n,
+            k,
+            f,
+            v,
+            count,
+            &mut fars,
+            &mut costs,
+            &mut steps,
+            &mut best,
+        );
         write_rows(&fars, &costs, count, f, v);
         k += 1;
     }

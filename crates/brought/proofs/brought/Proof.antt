@@ -1,17 +1,18 @@
 -- `brought::brought` meets its contract: the sides that are asked form chains, and their values are those of the rows. Assumes nothing.
-use mathlib.Core.Path.{ap, _≡_}
+use mathlib.Core.Path.{ap, refl, sym, _∙_, _≡_}
 use Prim.Native.Nat.{suc, _-_, _<_, _^_}
 use native.Mathlib.Omega.{arith}
+use lib.ListN.{length-set}
+use lib.Pow.{pow-pos}
 use Rattle.theory.specs.Laws.FourPoint.{well-formed-less}
 use Rattle.theory.specs.Tables.{WellFormed, cost, limit}
-use Rattle.brought.specs.Laws.Answers.{answered, chosen-family, least-none, near-row}
-use Rattle.brought.specs.Laws.Choosing.{chosen-none, filled}
+use Rattle.brought.specs.Laws.Answers.{answered, chosen-family, chosen-few, chosen-fit, chosen-least}
 use borrow.Author.Needs.{needs}
 use Rattle.brought.proofs.brought.Statement.{statement}
 use Rattle.brought.proofs.brought.Tie as tie
 
 abbrev start : tie.After-near-images → tie.Start
-start e = e .before .before .before .before .before .before .before .before
+start e = e .before .before .before .before .before .before .before .before .before
 
 formed : (e : tie.After-near-images) → let a = start e .args in WellFormed limit (cost (a .t .now) (a .n)) (suc (a .k))
 formed e = well-formed-less _ _ _ _ (start e .pre .2) (start e .pre .0 .formed)
@@ -19,67 +20,101 @@ formed e = well-formed-less _ _ _ _ (start e .pre .2) (start e .pre .0 .formed)
 few : (e : tie.After-near-images) → start e .args .k < 64
 few e = omega (arith, start e .pre .0 .few, start e .pre .2)
 
+-- there is room for the last side
+room : (i : tie.After-choose-in) → i .choose-in .result < 127
+room i =
+    let o = i .before .before .before .before .before .before .before .before .before .before in
+    let e = o .before .before .before .before in
+    let p = start e .pre in
+    chosen-few _ _ _ (formed e) (p .1) (few e) _ _ (e .before .closest .ensures) (e .near-images .ensures) _ _ (p .3) _ _ _ _ (o .choose-out .ensures) _ _ _ _ (i .choose-in .ensures)
+
 closest-requires : tie.Need-closest-requires
 closest-requires c κs = search needs
 
 near-images-requires : tie.Need-near-images-requires
 near-images-requires c κs = search needs
 
+choose-out-requires : tie.Need-choose-out-requires
+choose-out-requires c κs =
+    let e = c .before .before .before in
+    let p = start e .pre in
+    (omega (arith, e .before .closest .ensures .below, few e), p .3 .rising, record { sides = p .6; places = p .4; values = p .8 })
+
+choose-in-requires : tie.Need-choose-in-requires
+choose-in-requires c κs =
+    let o = c .before .before .before .before .before .before .before .before .before in
+    let e = o .before .before .before .before in
+    let p = start e .pre in
+    let m = o .choose-out .ensures .room in
+    (p .1, few e, p .3, omega (arith, chosen-fit _ _ _ (formed e) (p .1) (few e) _ _ (e .before .closest .ensures) (e .near-images .ensures) _ _ (p .3) _ _ _ _ (o .choose-out .ensures), p .3 .rising .few), record { sides = m .sides; places = p .5; values = m .values })
+
 bit-alone-requires : tie.Need-bit-alone-requires
-bit-alone-requires c κs = search needs
+bit-alone-requires c κs = few (c .before .before .before .before .before .before .before .before .before .before .before .before .before .before .before .before .before .before .before .before)
 
 sub-sides : tie.Need-sub-sides
-sub-sides c = search needs
+sub-sides c = omega (arith, c .bit-alone .ensures, pow-pos (c .before .before .before .before .before .before .before .before .before .before .before .before .before .before .before .before .before .before .before .before .before .before .before .before .before .before .before .before .before .before .args .k))
 
-array-write-sides : tie.Need-array-write-sides
-array-write-sides c = search needs
+mul-sides : tie.Need-mul-sides
+mul-sides c = omega (arith, room (c .before .before .before .before .before .before .before))
 
-slice-aggregate-choose : tie.Need-slice-aggregate-choose
-slice-aggregate-choose c = search needs
+slice-write-sides : tie.Need-slice-write-sides
+slice-write-sides c = let i = c .before .before .before .before .before .before .before in omega (arith, room i, i .choose-in .ensures .room .sides)
 
-choose-requires : tie.Need-choose-requires
-unfolding filled
-choose-requires c κs =
-    let e = c .before .before .before .before in
-    let p = start e .pre in
-    let x = e .before .closest .ensures in
-    let full = ap (λ m. m - 1) (c .before .before .before .bit-alone .ensures) in
-    (p .1, few e, omega (arith, x .below, few e), near-row _ _ _ (formed e) (p .1) (few e) _ _ x (e .near-images .ensures) _ _ (p .3), p .3, chosen-none _ _ _ _ _ _ _ full (p .4) (p .5))
+slice-write-best : tie.Need-slice-write-best
+slice-write-best c = omega (arith, c .before .before .before .before .before .before .before .choose-in .ensures .room .values)
 
-slice-aggregate-images : tie.Need-slice-aggregate-images
-slice-aggregate-images c = search needs
+add-best : tie.Need-add-best
+add-best c = omega (arith, room (c .before .before .before .before .before .before .before))
+
+mul-best : tie.Need-mul-best
+mul-best c = omega (arith, room (c .before .before .before .before .before .before .before))
+
+slice-write-best-2 : tie.Need-slice-write-best-2
+slice-write-best-2 c = let i = c .before .before .before .before .before .before .before in simp length-set (omega (arith, room i, i .choose-in .ensures .room .values))
+
+add-images : tie.Need-add-images
+add-images c = omega (arith, room (c .before .before .before .before .before .before .before .before))
 
 images-requires : tie.Need-images-requires
 images-requires c κs =
-    let h = c .before .before .before .before .before .before .before .before in
-    let e = h .before .before .before .before .before in
-    let p = start e .pre in (
+    let i = c .before .before .before .before .before .before .before .before .before .before in
+    let o = i .before .before .before .before .before .before .before .before .before .before in
+    let e = o .before .before .before .before in
+    let p = start e .pre in
+    let full = ap (λ x. x - 1) (c .before .before .before .bit-alone .ensures) in (
       p .0,
       p .2,
-      chosen-family _ _ _ (formed e) (p .1) (few e) _ _ (e .before .closest .ensures) (e .near-images .ensures) _ _ (p .3) _ _ _ _ _ (h .choose .ensures),
-      p .6,
-      least-none _ _ _ _ _ (p .7),
+      chosen-family _ _ _ (formed e) (p .1) (few e) _ _ (e .before .closest .ensures) (e .near-images .ensures) _ _ (p .3) _ _ _ _ (o .choose-out .ensures) _ _ _ _ (i .choose-in .ensures) _ _ _ full refl refl,
+      p .7,
+      chosen-least _ _ _ (formed e) (p .1) (few e) _ _ (e .before .closest .ensures) (e .near-images .ensures) _ _ (p .3) _ _ _ _ (o .choose-out .ensures) _ _ _ _ (i .choose-in .ensures) _ _ _ full refl refl,
     )
 
+add-result : tie.Need-add-result
+add-result c = omega (arith, room (c .before .before .before .before .before .before .before .before .before .before .before .before .before .before .before))
+
 same-length : tie.Need-same-length
-same-length c = search needs
+same-length c = let o = c .before .before .before .before .before .before .before .before .before .before .before .before .before .before .before .before .before .before .before .before .before .before .before .before .before in o .choose-out .ensures .room .places ∙ sym (start (o .before .before .before .before) .pre .4)
 
 same-length-2 : tie.Need-same-length-2
-same-length-2 c = search needs
+same-length-2 c = c .before .before .before .before .before .before .before .before .before .before .before .before .before .before .before .choose-in .ensures .room .places ∙ sym (c .before .before .before .before .before .before .before .before .before .before .before .before .before .before .before .before .before .before .before .before .before .before .before .before .before .before .before .before .before .before .before .before .before .before .before .before .before .before .pre .5)
 
 same-length-3 : tie.Need-same-length-3
-same-length-3 c = search needs
+same-length-3 c = simp length-set (c .before .before .before .before .before .before .before .before .before .before .before .before .before .before .before .choose-in .ensures .room .sides ∙ sym (c .before .before .before .before .before .before .before .before .before .before .before .before .before .before .before .before .before .before .before .before .before .before .before .before .before .before .before .before .before .before .before .before .before .before .before .before .before .before .pre .6))
 
 same-length-4 : tie.Need-same-length-4
-same-length-4 c = search needs
+same-length-4 c = c .before .before .before .before .images .kept .1 .1 .1 .1 .1 .0
+
+same-length-5 : tie.Need-same-length-5
+same-length-5 c = c .before .before .before .before .images .ensures .room ∙ sym (c .before .before .before .before .before .before .before .before .before .before .before .before .before .before .before .before .before .before .before .before .before .before .before .before .before .before .before .before .before .before .before .before .before .before .before .before .before .before .pre .8)
 
 returns : tie.Need-returns
 returns c =
-    let i = c .before .before .before .before in
-    let h = i .before .before .before .before .before .before .before .before .before in
-    let e = h .before .before .before .before .before in
+    let y = c .before .before .before .before .before .before .before .before in
+    let i = y .before .before .before .before .before .before .before in
+    let o = i .before .before .before .before .before .before .before .before .before .before in
+    let e = o .before .before .before .before in
     let p = start e .pre in
-    answered _ _ _ (formed e) (p .1) (few e) _ _ (e .before .closest .ensures) (e .near-images .ensures) _ _ (p .3) _ _ _ _ _ (h .choose .ensures) _ (i .images .ensures)
+    answered _ _ _ (formed e) (p .1) (few e) _ _ (e .before .closest .ensures) (e .near-images .ensures) _ _ (p .3) _ _ _ _ (o .choose-out .ensures) _ _ _ _ (i .choose-in .ensures) _ _ _ (ap (λ x. x - 1) (y .bit-alone .ensures)) refl refl _ (c .before .before .before .before .images .ensures)
 
 pub brought-spec : {M : Type 1} → statement M
 brought-spec =
@@ -87,15 +122,22 @@ brought-spec =
     (tie.spec
     closest-requires
     near-images-requires
+    choose-out-requires
+    choose-in-requires
     bit-alone-requires
     sub-sides
-    array-write-sides
-    slice-aggregate-choose
-    choose-requires
-    slice-aggregate-images
+    mul-sides
+    slice-write-sides
+    slice-write-best
+    add-best
+    mul-best
+    slice-write-best-2
+    add-images
     images-requires
+    add-result
     same-length
     same-length-2
     same-length-3
     same-length-4
+    same-length-5
     returns)

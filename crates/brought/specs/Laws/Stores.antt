@@ -1,9 +1,8 @@
--- One row more: its two sides are stored where they may stay, in front and behind, and nothing else moves. Assumes nothing.
-use mathlib.Core.Bool.{Bool, not, true, false}
+-- One side more behind the sides so far: what stood before it stays, and the new one takes its place or leaves it. Assumes nothing.
+use mathlib.Core.Bool.{Bool, false, not, true}
 use mathlib.Core.List.{List}
-use mathlib.Core.Logic.{inl, inr, _⊎_}
-use mathlib.Core.Path.{ap, sym, _∙_, _≡_}
-use Prim.Native.Nat.{ℕ, _+_, _-_, _<_, _^_, _≤_}
+use mathlib.Core.Path.{ap, refl, _∙_, _≡_}
+use Prim.Native.Nat.{ℕ, _*_, _+_, _<_, _≤_}
 use native.Mathlib.Omega.{arith}
 use lib.Dec.{eqb}
 use lib.ListN.{getD, length, length-set, set}
@@ -12,119 +11,115 @@ use borrow.Author.Tests.{eqb-false, eqb-true, not-true}
 use borrow.Table.Steps.{cases}
 use Rattle.ground.specs.Counts.{one-if}
 use Rattle.ground.specs.Laws.Tests.{and-l, and-r}
-use Rattle.chains.specs.Chains.{Gap, pick}
-use Rattle.brought.specs.Chosen.{Highs, Lows, Rowed, Slot, alone, by-image, nowhere, slotOf, stored, taken}
-use Rattle.brought.specs.Near.{goesIn, goesOut}
+use Rattle.brought.specs.Chosen.{Slot, Stored, alone, by-image, nowhere, slotOf, stored, taken}
+use Rattle.brought.specs.Choosing.{Put, Room, Same}
 
--- a side was stored, since it may stay and is no image alone; or it was not
+-- a side was stored for good, since it may stay and is no image alone; or it was not
 pub data Took (x : ℕ) (live : Bool) (S : ℕ) : Type 0 where
   put : x ≡ 1 → live ≡ true → alone S ≡ false → Took x live S
   left : x ≡ 0 → Took x live S
 
-pub took : (live : Bool) (S x : ℕ) → x ≡ one-if (taken live S) → Took x live S
-took live S x e =
+pub took : (live : Bool) (S : ℕ) → Took (one-if (taken live S)) live S
+took live S =
     cases (taken live S)
-    (λ t. put (e ∙ rw t) (and-l live (not (alone S)) t) (not-true (alone S) (and-r live (not (alone S)) t)))
-    (λ t. left (e ∙ rw t))
+    (λ t. put (rw t) (and-l live (not (alone S)) t) (not-true (alone S) (and-r live (not (alone S)) t)))
+    (λ t. left (rw t))
 
-pub took-most : {x S : ℕ} {live : Bool} → Took x live S → x ≤ 1
-took-most (put e l a) = omega arith
-took-most (left e) = omega arith
+-- more sides, of which the first m are the same
+slot-kept : {m m′ : ℕ} {B B′ : List ℕ} {live : Bool} {A x : ℕ} → m ≤ m′ → ((j : ℕ) → j < m → getD B′ j 0 ≡ getD B j 0) → Slot m B live A x → Slot m′ B′ live A x
+slot-kept h s (by-image e t) = by-image e t
+slot-kept h s (stored j e l t) = stored j e (omega arith) (s j l ∙ t)
+slot-kept h s (nowhere e t) = nowhere e t
 
--- S stored at place low where x is 1, and A before place high where y is
-pub record Stores (low high : ℕ) (B : List ℕ) (x S y A : ℕ) (next : List ℕ) : Type 0 where
-  pub room : low + 2 < high
-  pub at-low : getD next low 0 ≡ pick (eqb x 1) S 0
-  pub at-high : getD next (high - 1) 0 ≡ pick (eqb y 1) A 0
-  pub elsewhere : (j : ℕ) → (j ≡ low → ⊥) → (j ≡ high - 1 → ⊥) → getD next j 0 ≡ getD B j 0
-
-pub stores : (low high : ℕ) (B : List ℕ) (x S y A : ℕ) (next : List ℕ) → low + 2 < high → Gap low high B
-    → next ≡ set (set B low (pick (eqb x 1) S 0)) (high - 1) (pick (eqb y 1) A 0) → Stores low high B x S y A next
-stores low high B x S y A next h g e = record {
-  room = h;
-  at-low = ap (λ m. getD m low 0) e ∙ getD-set-other (set B low u) (high - 1) low v 0 (λ q. omega arith) ∙ getD-set-same B low u 0 (omega (arith, g .room, g .few));
-  at-high = ap (λ m. getD m (high - 1) 0) e ∙ getD-set-same (set B low u) (high - 1) v 0 (simp length-set (omega (arith, g .room, g .few)));
-  elsewhere = λ j p q. ap (λ m. getD m j 0) e ∙ getD-set-other (set B low u) (high - 1) j v 0 q ∙ getD-set-other B low j u 0 p;
+pub stored-same : {L : ℕ} {a : ℕ → ℕ} {live : ℕ → Bool} {p q low m : ℕ} {B slots best B′ best′ : List ℕ} → Same m B best B′ best′
+    → Stored L a live p q low m B slots best → Stored L a live p q low m B′ slots best′
+stored-same s t = record {
+  order = t .order;
+  from = λ j g h. let r = t .from j g h in (r .0, r .1, r .2, s .sides j h ∙ r .3, r .4);
+  up = λ j l g h k. rw (s .sides j (omega arith), s .sides l k) (t .up j l g h k);
+  slot = λ r g h. slot-kept (omega arith) (s .sides) (t .slot r g h);
+  caps = λ j g h. s .values j h ∙ t .caps j g h;
 }
-  where
-    u : ℕ
-    u = pick (eqb x 1) S 0
 
-    v : ℕ
-    v = pick (eqb y 1) A 0
-
-module _ (low high : ℕ) (B : List ℕ) (x S y A : ℕ) (next : List ℕ) (st : Stores low high B x S y A next) where
-  -- what stood in front or behind is where it was
-  pub in-front : (j : ℕ) → j < low → getD next j 0 ≡ getD B j 0
-  in-front j h = st .elsewhere j (λ e. omega arith) (λ e. omega (arith, st .room))
-
-  pub behind : (j : ℕ) → high ≤ j → getD next j 0 ≡ getD B j 0
-  behind j h = st .elsewhere j (λ e. omega (arith, st .room)) (λ e. omega (arith, st .room))
-
-  pub gap-more : x ≤ 1 → y ≤ 1 → length next ≡ 128 → Gap low high B → Gap (low + x) (high - y) next
-  gap-more p q r g = record {
-    room = r;
-    few = omega (arith, g .few);
-    empty = λ j a b. cases (eqb j low)
-        (λ e. let t = eqb-true j low e in let z : x ≡ 0 = omega arith in rw t (st .at-low ∙ rw z))
-        (λ e. cases (eqb j (high - 1))
-        (λ s. let t = eqb-true j (high - 1) s in let z : y ≡ 0 = omega (arith, st .room) in rw t (st .at-high ∙ rw z))
-        (λ s. st .elsewhere j (eqb-false j low e) (eqb-false j (high - 1) s) ∙ g .empty j (omega arith) (omega arith)));
+module _ (L : ℕ) (live : Bool) (s m i : ℕ) (B slots best : List ℕ) (r : ℕ) (B′ slots′ best′ : List ℕ) (room : Room B slots best) (g : m < 128) (h : i < 128) (u : Put L live s m i B slots best r B′ slots′ best′) where
+  pub put-room : Room B′ slots′ best′
+  put-room = record {
+    sides = rw (u .side) (simp length-set (room .sides));
+    places = rw (u .slot) (simp length-set (room .places));
+    values = rw (u .value) (simp length-set (room .values));
   }
 
-  -- where the value of a row before stands, it stays
-  pub slot-kept : {live : Bool} {T v : ℕ} → Slot low high B live T v → Slot (low + x) (high - y) next live T v
-  slot-kept (by-image e a) = by-image e a
-  slot-kept (stored j e h (inl p) t) = stored j e h (inl (omega arith)) (in-front j p ∙ t)
-  slot-kept (stored j e h (inr p) t) = stored j e h (inr (omega arith)) (behind j p ∙ t)
-  slot-kept (nowhere e l) = nowhere e l
+  pub put-same : Same m B best B′ best′
+  put-same = record {
+    sides = λ j l. ap (λ n. getD n j 0) (u .side) ∙ getD-set-other B m j s 0 (λ e. omega arith);
+    values = λ j l. ap (λ n. getD n (64 + j) 0) (u .value) ∙ getD-set-other best (64 + m) (64 + j) (4 * L) 0 (λ e. omega arith);
+  }
 
-  -- and where that of the new row will
-  pub slot-new : (live : Bool) (T j v : ℕ) → v ≡ slotOf live T j → j < 128
-      → (live ≡ true → alone T ≡ false → ((j < low + x) ⊎ (high - y ≤ j)) × (getD next j 0 ≡ T)) → Slot (low + x) (high - y) next live T v
-  slot-new live T j v ev g p =
-      cases (alone T)
-      (λ e. by-image (ev ∙ rw e) e)
+  -- the side and its value
+  side-here : getD B′ m 0 ≡ s
+  side-here = ap (λ n. getD n m 0) (u .side) ∙ getD-set-same B m s 0 (omega (arith, room .sides))
+
+  value-here : getD best′ (64 + m) 0 ≡ 4 * L
+  value-here = ap (λ n. getD n (64 + m) 0) (u .value) ∙ getD-set-same best (64 + m) (4 * L) 0 (omega (arith, room .values))
+
+  slot-here : getD slots′ i 0 ≡ slotOf live s m
+  slot-here = ap (λ n. getD n i 0) (u .slot) ∙ getD-set-same slots i (slotOf live s m) 0 (omega (arith, room .places))
+
+  slot-other : (j : ℕ) → (j ≡ i → ⊥) → getD slots′ j 0 ≡ getD slots j 0
+  slot-other j o = ap (λ n. getD n j 0) (u .slot) ∙ getD-set-other slots i j (slotOf live s m) 0 o
+
+  pub put-more : m ≤ r
+  put-more = go (one-if (taken live s)) (took live s) (u .counted)
+    where
+      go : (x : ℕ) → Took x live s → r ≡ m + x → m ≤ r
+      go x t e = omega arith
+
+  slot-new : Slot r B′ live s (slotOf live s m)
+  slot-new =
+      cases (alone s)
+      (λ e. by-image (rw e) e)
       (λ e. cases live
-      (λ l. let s = p l e in stored j (ev ∙ rw (e, l)) g (s .0) (s .1))
-      (λ l. nowhere (ev ∙ rw (e, l)) l))
+      (λ l. let q : r ≡ m + 1 = u .counted ∙ rw (l, e) in stored m (rw (e, l)) (omega arith) side-here)
+      (λ l. nowhere (rw (e, l)) l))
 
-  pub lows-more : {b N : ℕ} {k count : ℕ} (f : List ℕ) (i : ℕ) → Rowed k f count → i < count → S ≡ getD f i 0 → Took x (goesOut b N S) S → Lows b N f i low B → Lows b N f (i + 1) (low + x) next
-  lows-more f i r h es (left e) l =
-      let q : low + x ≡ low = omega arith in
-      rw q (record {
-        from = λ j p. let s = l .from j p in (s .0, omega (arith, s .1), in-front j p ∙ s .2, s .3);
-        up = λ j m p q. rw (in-front j (omega arith), in-front m q) (l .up j m p q);
-      })
-  lows-more {b} {N} f i r h es (put e live a) l =
-      let q : low + x ≡ low + 1 = omega arith in
-      let here : getD next low 0 ≡ getD f i 0 = st .at-low ∙ rw e es in
-      rw q (record {
-        from = λ j p. cases (eqb j low)
-            (λ t. let g = eqb-true j low t in (i, omega arith, ap (λ m. getD next m 0) g ∙ here, ap (goesOut b N) (sym es) ∙ live))
-            (λ t. let g : j < low = omega (arith, eqb-false j low t) in let s = l .from j g in (s .0, omega (arith, s .1), in-front j g ∙ s .2, s .3));
-        up = λ j m p o. cases (eqb m low)
-            (λ t. let g = eqb-true m low t in let s = l .from j (omega arith) in
-            rw (in-front j (omega arith), g, here, s .2) (r .up (s .0) i (s .1) h))
-            (λ t. let g : m < low = omega (arith, eqb-false m low t) in rw (in-front j (omega arith), in-front m g) (l .up j m p g));
-      })
+  -- row i joins the rows from p to q, above all of them
+  module _ (a : ℕ → ℕ) (lives : ℕ → Bool) (p q p′ q′ low : ℕ) (ea : a i ≡ s) (el : lives i ≡ live) (first : p′ ≤ p) (last : q ≤ q′) (here : (p′ ≤ i) × (i < q′))
+      (only : (j : ℕ) → p′ ≤ j → j < q′ → (j ≡ i → ⊥) → (p ≤ j) × (j < q)) (above : (j : ℕ) → p ≤ j → j < q → (a j < s) × (j ≡ i → ⊥))
+      (t : Stored L a lives p q low m B slots best) where
+    slots-more : (j : ℕ) → p′ ≤ j → j < q′ → Slot r B′ (lives j) (a j) (getD slots′ j 0)
+    slots-more j x y =
+        cases (eqb j i)
+        (λ e. let o = eqb-true j i e in rw (o, slot-here, ea, el) slot-new)
+        (λ e. let o = only j x y (eqb-false j i e) in rw (slot-other j (eqb-false j i e)) (slot-kept put-more (put-same .sides) (t .slot j (o .0) (o .1))))
 
-  pub highs-more : {N k count : ℕ} (f : List ℕ) (i : ℕ) → Rowed k f count → i < count → A ≡ 2 ^ k - 1 - getD f i 0 → Took y (goesIn N (getD f i 0)) A → Highs k N f i high B → Highs k N f (i + 1) (high - y) next
-  highs-more f i r h ea (left e) l =
-      let q : high - y ≡ high = omega arith in
-      rw q (record {
-        from = λ j p g. let s = l .from j p g in (s .0, omega (arith, s .1), behind j p ∙ s .2, s .3);
-        up = λ j m p q g. rw (behind j p, behind m (omega arith)) (l .up j m p q g);
-      })
-  highs-more {N} {k} f i r h ea (put e live a) l =
-      let q : high - y ≡ high - 1 = omega arith in
-      let here : getD next (high - 1) 0 ≡ 2 ^ k - 1 - getD f i 0 = st .at-high ∙ rw e ea in
-      rw q (record {
-        from = λ j p g. cases (eqb j (high - 1))
-            (λ t. let o = eqb-true j (high - 1) t in (i, omega arith, ap (λ m. getD next m 0) o ∙ here, live))
-            (λ t. let o : high ≤ j = omega (arith, eqb-false j (high - 1) t) in let s = l .from j o g in (s .0, omega (arith, s .1), behind j o ∙ s .2, s .3));
-        up = λ j m p o g. cases (eqb j (high - 1))
-            (λ t. let u = eqb-true j (high - 1) t in let s = l .from m (omega (arith, st .room)) g in
-            rw (behind m (omega (arith, st .room)), u, here, s .2) (omega (arith, r .up (s .0) i (s .1) h, r .far i h .fits, r .far (s .0) (omega (arith, s .1)) .fits)))
-            (λ t. let u : high ≤ j = omega (arith, eqb-false j (high - 1) t) in rw (behind j u, behind m (omega arith)) (l .up j m u o g));
-      })
+    from-old : (j : ℕ) → low ≤ j → j < m → (r : ℕ) × (p′ ≤ r) × (r < q′) × (getD B′ j 0 ≡ a r) × (lives r ≡ true)
+    from-old j x y = let f = t .from j x y in (f .0, omega (arith, f .1), omega (arith, f .2), put-same .sides j y ∙ f .3, f .4)
+
+    pub stored-more : Stored L a lives p′ q′ low r B′ slots′ best′
+    stored-more = go (one-if (taken live s)) (took live s) (u .counted)
+      where
+        go : (x : ℕ) → Took x live s → r ≡ m + x → Stored L a lives p′ q′ low r B′ slots′ best′
+        go x (left e) c =
+            let o : r ≡ m = omega arith in
+            record {
+              order = omega (arith, t .order);
+              from = λ j x y. from-old j x (omega arith);
+              up = λ j l x y z. rw (put-same .sides j (omega arith), put-same .sides l (omega arith)) (t .up j l x y (omega arith));
+              slot = slots-more;
+              caps = λ j x y. put-same .values j (omega arith) ∙ t .caps j x (omega arith);
+            }
+        go x (put e l w) c =
+            let o : r ≡ m + 1 = omega arith in
+            record {
+              order = omega (arith, t .order);
+              from = λ j x y. cases (eqb j m)
+                  (λ q. let k = eqb-true j m q in (i, here .0, here .1, rw (k, ea) side-here, el ∙ l))
+                  (λ q. from-old j x (omega (arith, eqb-false j m q)));
+              up = λ j k x y z. cases (eqb k m)
+                  (λ q. let o = eqb-true k m q in let f = t .from j x (omega arith) in rw (o, side-here, put-same .sides j (omega arith), f .3) (above (f .0) (f .1) (f .2) .0))
+                  (λ q. let h : k < m = omega (arith, eqb-false k m q) in rw (put-same .sides j (omega arith), put-same .sides k h) (t .up j k x y h));
+              slot = slots-more;
+              caps = λ j x y. cases (eqb j m)
+                  (λ q. rw (eqb-true j m q) value-here)
+                  (λ q. let h : j < m = omega (arith, eqb-false j m q) in put-same .values j h ∙ t .caps j x h);
+            }

@@ -11,11 +11,11 @@ use Rattle.chains.proofs.images.Statement.{statement}
 use Rattle.chains.proofs.images.Tie as tie
 
 abbrev Inv-loop : tie.InvT-loop
-Inv-loop t n k sides ends steps₀ best₀ uppers z₀ steps best z =
-    (z ≤ k) × (length steps ≡ 384) × Least limit (cost t n) k sides z best
+Inv-loop t n k sides count steps₀ best₀ uppers z₀ steps best z =
+    (z ≤ k) × (length steps ≡ 384) × Least limit (cost t n) k sides count z best
 
 abbrev μ-loop : tie.MeasureT-loop
-μ-loop t n k sides ends steps₀ best₀ uppers z₀ steps best z = k - z
+μ-loop t n k sides count steps₀ best₀ uppers z₀ steps best z = k - z
 
 slice-aggregate-link : tie.Need-slice-aggregate-link Inv-loop μ-loop
 slice-aggregate-link c = search needs
@@ -58,7 +58,7 @@ returns c =
     let b = c .before .before .before .before .before .before .before .before .before in
     let i = c .before .loop .inv in
     let e : c .before .loop .z ≡ b .args .k = omega (arith, i .0) in
-    least-end _ _ _ _ (b .pre .2 .chained) _ (rw e at (i .2))
+    least-end _ _ _ _ _ (b .pre .2 .chained) _ (rw e at (i .2))
 
 pub images-spec : {M : Type 1} → statement M
 images-spec =

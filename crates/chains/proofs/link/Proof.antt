@@ -3,25 +3,19 @@ use mathlib.Core.Path.{sym, _∙_, _≡_}
 use Prim.Native.Nat.{_-_, _≤_}
 use native.Mathlib.Omega.{arith}
 use Rattle.chains.specs.Walks.{Linked}
-use Rattle.chains.specs.Laws.Places.{linked-more, linked-none, skipped}
+use Rattle.chains.specs.Laws.Uppers.{linked-more}
 use borrow.Author.Needs.{needs}
 use Rattle.chains.proofs.link.Statement.{statement}
 use Rattle.chains.proofs.link.Tie as tie
 
 abbrev Inv-loop : tie.InvT-loop
-Inv-loop sides ends uppers₀ low high i₀ uppers i = (i ≤ 128) × Linked sides i uppers
+Inv-loop sides count uppers₀ i₀ uppers i = (i ≤ count) × Linked sides count i uppers
 
 abbrev μ-loop : tie.MeasureT-loop
-μ-loop sides ends uppers₀ low high i₀ uppers i = 128 - i
-
-skip-requires : tie.Need-skip-requires Inv-loop μ-loop
-skip-requires c κs = search needs
+μ-loop sides count uppers₀ i₀ uppers i = count - i
 
 loop-holds : tie.Need-loop-holds Inv-loop μ-loop
-loop-holds c =
-    let s = c .skip .ensures in
-    let p = c .before .before .before .pre in
-    (omega (arith, s .1, p .0 .few), linked-none _ _ _ (p .0) _ (p .1) (s .2))
+loop-holds c = (search needs, record { room = c .before .before .pre .2; upper = λ j h. absurd (omega arith) })
 
 mul-next : tie.Need-mul-next Inv-loop μ-loop
 mul-next c = search needs
@@ -39,31 +33,26 @@ byte-requires : tie.Need-byte-requires Inv-loop μ-loop
 byte-requires c κs = search needs
 
 slice-write-uppers : tie.Need-slice-write-uppers Inv-loop μ-loop
-slice-write-uppers c = omega (arith, c .before .before .before .before .loop .inv .1 .room)
+slice-write-uppers c = let l = c .before .before .before .before in omega (arith, l .loop .inv .1 .room, l .before .before .before .pre .1)
 
-add-skip : tie.Need-add-skip Inv-loop μ-loop
-add-skip c = search needs
-
-skip-requires-2 : tie.Need-skip-requires-2 Inv-loop μ-loop
-skip-requires-2 c κs = search needs
+add-i : tie.Need-add-i Inv-loop μ-loop
+add-i c = search needs
 
 loop-less : tie.Need-loop-less Inv-loop μ-loop
-loop-less c = omega (arith, c .skip2 .ensures .0)
+loop-less c = search needs
 
 loop-again : tie.Need-loop-again Inv-loop μ-loop
 loop-again c =
-    let s = c .skip2 .ensures in
-    let l = c .before .before .before .before .before in
-    let p = l .before .before .before .before .pre in (
-      omega (arith, s .1, p .0 .few),
-      linked-more _ _ _ _ _ (search needs) (omega (arith, s .0)) (λ j a b. skipped _ _ _ (p .0) (s .2 j a b)) (l .loop .inv .1) (rw (c .before .byte .ensures) (c .before .before .next .ensures)),
-    )
+    let l = c .before .before .before .before in
+    (search needs, linked-more _ _ _ _ _ (omega (arith, l .before .before .before .pre .1)) (l .loop .inv .1) (rw (c .byte .ensures) (c .before .next .ensures)))
 
 same-length : tie.Need-same-length Inv-loop μ-loop
-same-length c = c .before .loop .inv .1 .room ∙ sym (c .before .before .before .before .before .pre .1)
+same-length c = c .before .loop .inv .1 .room ∙ sym (c .before .before .before .before .pre .2)
 
 returns : tie.Need-returns Inv-loop μ-loop
-returns c = let e : c .before .loop .i ≡ 128 = omega (arith, c .before .loop .inv .0) in rw e at (c .before .loop .inv .1)
+returns c =
+    let l = c .before in
+    let e : l .loop .i ≡ l .before .before .before .args .count = omega (arith, l .loop .inv .0) in rw e at (l .loop .inv .1)
 
 pub link-spec : {M : Type 1} → statement M
 link-spec =
@@ -71,7 +60,6 @@ link-spec =
     (tie.spec
     Inv-loop
     μ-loop
-    skip-requires
     loop-holds
     mul-next
     shared-slice-read-next
@@ -79,8 +67,7 @@ link-spec =
     next-requires
     byte-requires
     slice-write-uppers
-    add-skip
-    skip-requires-2
+    add-i
     loop-less
     loop-again
     same-length

@@ -6,6 +6,21 @@ use borrow.Author.Needs.{needs}
 use Rattle.chains.proofs.turn_down.Statement.{statement}
 use Rattle.chains.proofs.turn_down.Tie as tie
 
+mul-place-of : tie.Need-mul-place-of
+mul-place-of c = search needs
+
+add-place-of : tie.Need-add-place-of
+add-place-of c = search needs
+
+mul-place-of-2 : tie.Need-mul-place-of-2
+mul-place-of-2 c = search needs
+
+shared-slice-read-place-of : tie.Need-shared-slice-read-place-of
+shared-slice-read-place-of c = search needs
+
+place-of-requires : tie.Need-place-of-requires
+place-of-requires c κs = search needs
+
 add-lower : tie.Need-add-lower
 add-lower c = search needs
 
@@ -59,13 +74,19 @@ same-length c = search needs
 
 returns : tie.Need-returns
 returns c =
-    let a = c .before .before .before .before .before .before .before .args in
-    (rw (c .lower2 .ensures), ap (set (a .best .now) (64 + a .i)) (c .before .before .lower .ensures))
+    let p = c .before .before .before .before .before .place-of in
+    let a = c .before .before .before .before .before .before .before .before .before .args in
+    (rw (c .lower2 .ensures), rw (← (p .ensures)) (ap (set (a .best .now) (64 + p .result)) (c .before .before .lower .ensures)))
 
 pub turn-down-spec : {M : Type 1} → statement M
 turn-down-spec =
     tie.close
     (tie.spec
+    mul-place-of
+    add-place-of
+    mul-place-of-2
+    shared-slice-read-place-of
+    place-of-requires
     add-lower
     mul-lower
     slice-read-lower

@@ -1,35 +1,36 @@
 -- `chains::up` meets its contract: the sides below place i are passed, and place i holds z. Assumes nothing.
-use Prim.Native.Nat.{_+_, _-_, _<_, _≤_}
 use mathlib.Core.Path.{ap, sym, _∙_, _≡_}
+use Prim.Native.Nat.{_+_, _-_, _<_, _≤_}
 use native.Mathlib.Omega.{arith}
 use lib.ListN.{getD}
 use Rattle.ground.specs.Bits.{bit}
 use Rattle.theory.specs.Tables.{cost, limit}
 use Rattle.theory.specs.Laws.FourPoint.{well-formed-less}
 use Rattle.chains.specs.Walks.{Up}
+use Rattle.chains.specs.Laws.Chain.{chained-less}
 use Rattle.chains.specs.Laws.Climbs.{up-none, up-past}
 use Rattle.chains.specs.Laws.Ends.{near-own}
-use Rattle.chains.specs.Laws.Places.{Holder, first-holder, upper-holder}
+use Rattle.chains.specs.Laws.Uppers.{Holder, first-holder, upper-holder}
 use borrow.Author.Needs.{needs}
 use Rattle.chains.proofs.up.Statement.{statement}
 use Rattle.chains.proofs.up.Tie as tie
 
 abbrev Inv-loop : tie.InvT-loop
-Inv-loop t n k z sides uppers steps₀ alone cut₀ i₀ steps cut i =
-    (i ≤ 128) × (i < 128 → bit (getD sides i 0) z ≡ 1) × Up limit (cost t n) k z sides i (cut .held) (cut .near) (cut .last) steps
+Inv-loop t n k z sides count uppers steps₀ alone cut₀ i₀ steps cut i =
+    (i ≤ count) × (i < count → bit (getD sides i 0) z ≡ 1) × Up limit (cost t n) k z sides i (cut .held) (cut .near) (cut .depth) steps
 
 abbrev μ-loop : tie.MeasureT-loop
-μ-loop t n k z sides uppers steps₀ alone cut₀ i₀ steps cut i = 128 - i
+μ-loop t n k z sides count uppers steps₀ alone cut₀ i₀ steps cut i = count - i
 
 abbrev start : tie.In-loop Inv-loop μ-loop → tie.Start Inv-loop μ-loop
 start l = l .before .before .before .before .before .before .before .before .before
 
 -- the next place that holds z
-upper : (c : tie.After-wide Inv-loop μ-loop) → let l = c .before .before .before .before .before .before in Holder (start l .args .sides .now) (start l .args .z) (l .before .loop .i + 1) (c .wide .result)
+upper : (c : tie.After-wide Inv-loop μ-loop) → let l = c .before .before .before .before .before .before in let a = start l .args in Holder (a .sides .now) (a .count) (a .z) (l .before .loop .i + 1) (c .wide .result)
 upper c =
     let l = c .before .before .before .before .before .before in
     let p = start l .pre in
-    upper-holder _ _ _ _ _ _ (p .3 .chained) (p .4) (l .loop-test .taken) (l .before .loop .inv .1 (l .loop-test .taken)) (c .wide .ensures)
+    upper-holder _ _ _ _ _ _ _ (p .3 .chained) (p .4) (l .loop-test .taken) (l .before .loop .inv .1 (l .loop-test .taken)) (c .wide .ensures)
 
 bit-alone-requires : tie.Need-bit-alone-requires Inv-loop μ-loop
 bit-alone-requires c κs = search needs
@@ -45,10 +46,9 @@ next-requires c κs = search needs
 
 loop-holds : tie.Need-loop-holds Inv-loop μ-loop
 loop-holds c =
-    let b = c .before .before .before .before .before .before .before in
-    let p = b .pre in
+    let p = c .before .before .before .before .before .before .before .pre in
     let own = c .before .before .bit-alone .ensures in
-    let h = first-holder _ _ _ _ (p .2) (rw own at (c .next .ensures)) in
+    let h = first-holder _ _ _ _ _ (p .2) (rw own at (c .next .ensures)) in
     let w = well-formed-less _ _ _ _ (p .1) (p .0 .formed) in (
       h .few,
       h .holds,
@@ -60,11 +60,11 @@ turn-up-requires c κs =
     let l = c .before in
     let p = start l .pre in
     let i = l .before .loop .inv in
-    (p .0, p .1, p .2, l .loop-test .taken, p .3 .gap .room, p .3 .chained, i .1 (l .loop-test .taken), i .2)
+    let t = l .loop-test .taken in
+    (p .0, p .1, p .2, omega (arith, p .3 .few), p .3 .room, chained-less _ _ _ _ (omega arith) (p .3 .chained), i .1 t, i .2)
 
 shared-slice-read-wide : tie.Need-shared-slice-read-wide Inv-loop μ-loop
-shared-slice-read-wide c =
-    let l = c .before .before .before .before .before in omega (arith, l .loop-test .taken, start l .pre .4 .room)
+shared-slice-read-wide c = let l = c .before .before .before .before .before in omega (arith, l .loop-test .taken, start l .pre .4 .room, start l .pre .3 .few)
 
 wide-requires : tie.Need-wide-requires Inv-loop μ-loop
 wide-requires c κs = search needs
@@ -81,7 +81,7 @@ same-length : tie.Need-same-length Inv-loop μ-loop
 same-length c = c .before .loop .inv .2 .climbed .room ∙ sym (c .before .before .before .before .before .before .before .before .before .pre .5)
 
 returns : tie.Need-returns Inv-loop μ-loop
-returns c = let e : c .before .loop .i ≡ 128 = omega (arith, c .before .loop .inv .0) in rw e at (c .before .loop .inv .2 .climbed)
+returns c = let e : c .before .loop .i ≡ c .before .before .before .before .before .before .before .before .before .args .count = omega (arith, c .before .loop .inv .0) in rw e at (c .before .loop .inv .2 .climbed)
 
 pub up-spec : {M : Type 1} → statement M
 up-spec =

@@ -11,7 +11,7 @@ use borrow.Table.Steps.{cases}
 use Rattle.ground.specs.Bits.{bit}
 use Rattle.ground.specs.Laws.Bits.{bit-lt, bit-pow, bit-pow-other}
 use Rattle.ground.specs.Least.{leastOn}
-use Rattle.chains.specs.Chains.{Chained, ahead, apartOn, gapOn, heldAt, lastAt, nearOn}
+use Rattle.chains.specs.Chains.{Chained, ahead, apartOn, depthAt, gapOn, heldAt, nearOn}
 use Rattle.chains.specs.Laws.Parts.{least-beside, least-whole}
 
 -- ## One side more
@@ -25,21 +25,24 @@ module _ (B : List ℕ) (z i : ℕ) where
   unfolding heldAt
   held-out e = rw (ne-eqb (bit (getD B i 0) z) 1 e)
 
-  pub last-in : bit (getD B i 0) z ≡ 1 → lastAt B z (suc i) ≡ suc i
-  unfolding lastAt
-  last-in e = rw (eq-eqb (bit (getD B i 0) z) 1 e)
+  pub depth-in : bit (getD B i 0) z ≡ 1 → depthAt B z (suc i) ≡ suc (depthAt B z i)
+  unfolding depthAt
+  depth-in e = rw (eq-eqb (bit (getD B i 0) z) 1 e)
 
-  pub last-out : (bit (getD B i 0) z ≡ 1 → ⊥) → lastAt B z (suc i) ≡ lastAt B z i
-  unfolding lastAt
-  last-out e = rw (ne-eqb (bit (getD B i 0) z) 1 e)
+  pub depth-out : (bit (getD B i 0) z ≡ 1 → ⊥) → depthAt B z (suc i) ≡ depthAt B z i
+  unfolding depthAt
+  depth-out e = rw (ne-eqb (bit (getD B i 0) z) 1 e)
 
 pub held-none : (B : List ℕ) (z : ℕ) → heldAt B z 0 ≡ 2 ^ z
 unfolding heldAt
 held-none B z = refl
 
-pub last-none : (B : List ℕ) (z : ℕ) → lastAt B z 0 ≡ 0
-unfolding lastAt
-last-none B z = refl
+pub depth-none : (B : List ℕ) (z : ℕ) → depthAt B z 0 ≡ 0
+unfolding depthAt
+depth-none B z = refl
+
+pub chained-less : (k : ℕ) (B : List ℕ) (m n : ℕ) → m ≤ n → Chained k B n → Chained k B m
+chained-less k B m n h c = record { fits = λ i l. c .fits i (omega arith); grows = λ i j z y g l. c .grows i j z y g (omega arith) }
 
 -- ## Along the chain of z
 

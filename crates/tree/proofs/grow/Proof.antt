@@ -1,8 +1,8 @@
 -- `tree::grow` meets its contract: the three parts, one behind the other, are the reading over one image more. Assumes nothing.
-use mathlib.Core.Path.{ap, refl, _≡_}
+use mathlib.Core.Path.{ap, refl, sym, _∙_, _≡_}
 use Prim.Native.Nat.{min, suc, _*_, _-_, _<_, _^_}
 use native.Mathlib.Omega.{arith}
-use lib.ListN.{getD}
+use lib.ListN.{getD, length}
 use Rattle.ground.specs.Filters.{filter}
 use Rattle.theory.specs.Laws.FourPoint.{well-formed-less}
 use Rattle.theory.specs.OneMore.{more, stays}
@@ -13,13 +13,13 @@ use Rattle.tree.specs.Growing.{stayed}
 use Rattle.tree.specs.Putting.{loweredIn}
 use Rattle.tree.specs.Laws.Growing.{lowered-stayed}
 use Rattle.tree.specs.Laws.Grown.{held-more, room-inside, room-outside, room-own}
-use Rattle.tree.specs.Laws.Rowed.{caps, fresh, held-few, held-given, held-rowed}
+use Rattle.tree.specs.Laws.Rowed.{held-few, held-given, held-rowed}
 use borrow.Author.Needs.{needs}
 use Rattle.tree.proofs.grow.Statement.{statement}
 use Rattle.tree.proofs.grow.Tie as tie
 
 abbrev start : tie.After-brought → tie.Start
-start h = h .before .before .before .before .before .before .before .before .before .before .before
+start h = h .before .before .before .before .before .before .before .before .before .before .before .before .before
 
 formed : (b : tie.Start) → let a = b .args in WellFormed limit (cost (a .t .now) (a .n)) (suc (a .k))
 formed b = well-formed-less _ _ _ _ (b .pre .2) (b .pre .0 .formed)
@@ -33,19 +33,19 @@ few b = omega (arith, b .pre .0 .few, b .pre .2)
 rowed : (b : tie.Start) → Rowed (b .args .k) (b .args .f .now) (b .args .count)
 rowed b = let p = b .pre in held-rowed _ _ _ (fewer b) _ _ _ (p .3) (held-few _ _ _ (p .1) (few b) (fewer b) _ _ _ (p .3))
 
+rooms : (h : tie.After-brought) → length (h .brought .last .1 .1 .1 .1 .1 .1 .1 .0) ≡ 128
+rooms h = h .brought .kept .1 .1 .1 .1 .1 .1 .1 .0 ∙ start h .pre .4
+
 -- of the lowered rows those stay that the theory names, image k outside and inside
-outside : (h : tie.After-brought) → let a = start h .args in filter (stays (suc (a .k))) (loweredIn limit 0 (a .f .now) (a .v .now) (h .brought .last .1 .1 .1 .1 .1 .0) (h .brought .last .1 .1 .1 .1 .1 .1 .1 .1 .0) (a .count)) ≡ stayed limit (cost (a .t .now) (a .n)) (a .k) 0 (measured limit (cost (a .t .now) (a .n)) (a .k))
+outside : (h : tie.After-brought) → let a = start h .args in filter (stays (suc (a .k))) (loweredIn limit 0 (a .f .now) (a .v .now) (h .brought .last .1 .1 .1 .1 .1 .0) (h .brought .last .1 .1 .1 .1 .1 .1 .1 .1 .1 .0) (a .count)) ≡ stayed limit (cost (a .t .now) (a .n)) (a .k) 0 (measured limit (cost (a .t .now) (a .n)) (a .k))
 outside h = lowered-stayed _ _ _ _ _ _ _ _ _ _ (start h .pre .3 .is) (h .brought .ensures .outside)
 
-inside : (h : tie.After-brought) → let a = start h .args in filter (stays (suc (a .k))) (loweredIn limit (2 ^ a .k) (a .f .now) (a .v .now) (h .brought .last .1 .1 .1 .1 .1 .1 .0) (h .brought .last .1 .1 .1 .1 .1 .1 .1 .1 .0) (a .count)) ≡ stayed limit (cost (a .t .now) (a .n)) (a .k) (2 ^ a .k) (measured limit (cost (a .t .now) (a .n)) (a .k))
+inside : (h : tie.After-brought) → let a = start h .args in filter (stays (suc (a .k))) (loweredIn limit (2 ^ a .k) (a .f .now) (a .v .now) (h .brought .last .1 .1 .1 .1 .1 .1 .0) (h .brought .last .1 .1 .1 .1 .1 .1 .1 .1 .1 .0) (a .count)) ≡ stayed limit (cost (a .t .now) (a .n)) (a .k) (2 ^ a .k) (measured limit (cost (a .t .now) (a .n)) (a .k))
 inside h = lowered-stayed _ _ _ _ _ _ _ _ _ _ (start h .pre .3 .is) (h .brought .ensures .inside)
 
 -- the own link of image k, as the theory has it
-own : (h : tie.After-brought) → let a = start h .args in min (2 * limit) (getD (h .brought .last .1 .1 .1 .1 .1 .1 .1 .1 .0) 191 0 - 2 * limit) ≡ more limit (cost (a .t .now) (a .n)) (a .k) (2 ^ a .k) (2 * limit) .1
+own : (h : tie.After-brought) → let a = start h .args in min (2 * limit) (getD (h .brought .last .1 .1 .1 .1 .1 .1 .1 .1 .1 .0) (h .brought .result) 0 - 2 * limit) ≡ more limit (cost (a .t .now) (a .n)) (a .k) (2 ^ a .k) (2 * limit) .1
 own h = ap (λ m. min (2 * limit) (m - 2 * limit)) (h .brought .ensures .own)
-
-array-write-best : tie.Need-array-write-best
-array-write-best c = search needs
 
 slice-aggregate-brought : tie.Need-slice-aggregate-brought
 slice-aggregate-brought c = search needs
@@ -53,107 +53,104 @@ slice-aggregate-brought c = search needs
 slice-aggregate-brought-2 : tie.Need-slice-aggregate-brought-2
 slice-aggregate-brought-2 c = search needs
 
-slice-aggregate-brought-3 : tie.Need-slice-aggregate-brought-3
-slice-aggregate-brought-3 c = search needs
-
 brought-requires : tie.Need-brought-requires
-unfolding caps
-brought-requires c κs = let b = c .before .before .before .before .before .before .before .before .before .before in let p = b .pre in (p .0, p .1, p .2, rowed b, refl, refl, p .6, fresh limit)
+brought-requires c κs = let b = c .before .before .before .before .before .before .before .before .before .before .before .before in let p = b .pre in (p .0, p .1, p .2, rowed b, refl, refl, p .4, p .6, p .7)
+
+mul-value : tie.Need-mul-value
+mul-value c = search needs
+
+slice-read-value : tie.Need-slice-read-value
+slice-read-value c = search needs
+
+bit-alone-requires : tie.Need-bit-alone-requires
+bit-alone-requires c κs = few (c .before .before .before .before .before .before .before .before .before .before .before .before .before .before .before .before .before .before .before .before .before .before)
 
 slice-aggregate-put-rows : tie.Need-slice-aggregate-put-rows
 slice-aggregate-put-rows c = search needs
 
-slice-aggregate-put-rows-2 : tie.Need-slice-aggregate-put-rows-2
-slice-aggregate-put-rows-2 c = search needs
-
 put-rows-requires : tie.Need-put-rows-requires
 put-rows-requires c κs =
-    let h = c .before .before .before .before .before .before .before .before .before in
+    let h = c .before .before .before .before .before .before .before .before .before .before .before .before .before .before in
     let b = start h in
     let p = b .pre in (
       few b,
       held-given limit _ _ _ _ _ _ _ _ (few b) (search needs) (p .3) (rowed b) (h .brought .kept .1 .1 .1 .1 .1 .0) (h .brought .ensures .room) (h .brought .ensures .outside),
-      room-outside limit _ _ (p .1) (few b) (formed b) _ (outside h) _ _ (p .4) (p .5),
+      room-outside limit _ _ (p .1) (few b) (formed b) _ (outside h) _ _ (rooms h) (p .5),
     )
-
-bit-alone-requires : tie.Need-bit-alone-requires
-bit-alone-requires c κs = few (c .before .before .before .before .before .before .before .before .before .before .before .before .before .before .before .before .before .before .before .before .before .before .before .before .before)
 
 mul-turn-row : tie.Need-mul-turn-row
 mul-turn-row c = search needs
 
-array-read-turn-row : tie.Need-array-read-turn-row
-array-read-turn-row c = search needs
-
 turn-row-requires : tie.Need-turn-row-requires
 turn-row-requires c κs =
-    let o = c .before .before .before .before .before .before .before in
-    let h = o .before .before .before .before .before .before .before .before .before .before in
+    let o = c .before .before .before .before .before .before in
+    let h = o .before .before .before .before .before .before .before .before .before .before .before .before .before .before .before in
     let b = start h in
     let p = b .pre in
-    let r = room-own limit _ _ (p .1) (few b) (formed b) _ (outside h) _ _ (p .4) (p .5) _ _ _ (o .put-rows .ensures) in
+    let r = room-own limit _ _ (p .1) (few b) (formed b) _ (outside h) _ _ (rooms h) (p .5) _ _ _ (o .put-rows .ensures) in
     (few b, r .0, r .1)
 
-slice-aggregate-put-rows-3 : tie.Need-slice-aggregate-put-rows-3
-slice-aggregate-put-rows-3 c = search needs
-
-slice-aggregate-put-rows-4 : tie.Need-slice-aggregate-put-rows-4
-slice-aggregate-put-rows-4 c = search needs
+slice-aggregate-put-rows-2 : tie.Need-slice-aggregate-put-rows-2
+slice-aggregate-put-rows-2 c = search needs
 
 put-rows-requires-2 : tie.Need-put-rows-requires-2
 put-rows-requires-2 c κs =
     let w = c .before .before .before .before .before .before .before .before in
-    let o = w .before .before .before .before .before .before .before .before in
-    let h = o .before .before .before .before .before .before .before .before .before .before in
+    let o = w .before .before .before .before .before .before .before in
+    let h = o .before .before .before .before .before .before .before .before .before .before .before .before .before .before .before in
     let b = start h in
     let p = b .pre in
-    let image = w .before .before .before .bit-alone .ensures in
+    let image = o .before .before .before .before .before .bit-alone .ensures in
     rw image (
       few b,
       held-given limit _ _ _ _ _ _ _ _ (few b) (search needs) (p .3) (rowed b) (h .brought .kept .1 .1 .1 .1 .1 .1 .0) (h .brought .ensures .room) (h .brought .ensures .inside),
-      room-inside limit _ _ (p .1) (few b) (formed b) _ (outside h) _ _ (p .4) (p .5) _ _ _ (o .put-rows .ensures) _ _ _ _ (own h) (rw image at (w .turn-row .ensures)) _ (inside h),
+      room-inside limit _ _ (p .1) (few b) (formed b) _ (outside h) _ _ (rooms h) (p .5) _ _ _ (o .put-rows .ensures) _ _ _ _ (own h) (rw image at (w .turn-row .ensures)) _ (inside h),
     )
 
 same-length : tie.Need-same-length
-same-length c = search needs
+same-length c =
+    let w = c .before .before .before .before .before .before .before .before .before .before .before .before .before in
+    let o = w .before .before .before .before .before .before .before in
+    c .before .before .before .before .put-rows2 .kept .1 .1 .1 .1 .1 .1 .1 .1 .0 ∙ w .turn-row .kept .1 .1 .1 .1 .1 .0 ∙ o .put-rows .kept .1 .1 .1 .1 .1 .1 .1 .1 .0 ∙ o .before .before .before .before .before .before .before .before .before .before .before .before .before .before .before .brought .kept .1 .1 .1 .1 .1 .1 .1 .0
 
 same-length-2 : tie.Need-same-length-2
 same-length-2 c = search needs
 
 same-length-3 : tie.Need-same-length-3
-same-length-3 c = search needs
+same-length-3 c = c .before .before .before .before .before .before .before .before .before .before .before .before .before .before .before .before .before .before .before .before .before .before .before .before .before .before .before .before .before .before .before .before .before .before .before .brought .kept .1 .1 .1 .1 .1 .1 .1 .1 .0
+
+same-length-4 : tie.Need-same-length-4
+same-length-4 c = search needs
 
 returns : tie.Need-returns
 returns c =
     let w = c .before .before .before .before .before .before .before .before .before .before .before .before .before in
-    let o = w .before .before .before .before .before .before .before .before in
-    let h = o .before .before .before .before .before .before .before .before .before .before in
+    let o = w .before .before .before .before .before .before .before in
+    let h = o .before .before .before .before .before .before .before .before .before .before .before .before .before .before .before in
     let b = start h in
     let p = b .pre in
-    let image = w .before .before .before .bit-alone .ensures in
-    held-more limit _ _ (p .1) (few b) (formed b) _ (outside h) _ _ (p .4) (p .5) _ _ _ (o .put-rows .ensures) _ _ _ _ (own h) (rw image at (w .turn-row .ensures))
+    let image = o .before .before .before .before .before .bit-alone .ensures in
+    held-more limit _ _ (p .1) (few b) (formed b) _ (outside h) _ _ (rooms h) (p .5) _ _ _ (o .put-rows .ensures) _ _ _ _ (own h) (rw image at (w .turn-row .ensures))
     _ (inside h) _ _ _ (rw image at (c .before .before .before .before .put-rows2 .ensures))
 
 pub grow-spec : {M : Type 1} → statement M
 grow-spec =
     tie.close
     (tie.spec
-    array-write-best
     slice-aggregate-brought
     slice-aggregate-brought-2
-    slice-aggregate-brought-3
     brought-requires
-    slice-aggregate-put-rows
-    slice-aggregate-put-rows-2
-    put-rows-requires
+    mul-value
+    slice-read-value
     bit-alone-requires
+    slice-aggregate-put-rows
+    put-rows-requires
     mul-turn-row
-    array-read-turn-row
     turn-row-requires
-    slice-aggregate-put-rows-3
-    slice-aggregate-put-rows-4
+    slice-aggregate-put-rows-2
     put-rows-requires-2
     same-length
     same-length-2
     same-length-3
+    same-length-4
     returns)

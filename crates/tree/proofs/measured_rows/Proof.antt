@@ -12,14 +12,14 @@ use Rattle.tree.proofs.measured_rows.Statement.{statement}
 use Rattle.tree.proofs.measured_rows.Tie as tie
 
 abbrev Inv-loop : tie.InvT-loop
-Inv-loop n t f₀ v₀ fars₀ costs₀ steps₀ count₀ k₀ f v fars costs steps count k =
-    (1 ≤ k) × (k ≤ n) × Held limit (cost t n) k f v count × (length fars ≡ 128) × (length costs ≡ 128) × (length steps ≡ 384)
+Inv-loop n t f₀ v₀ fars₀ costs₀ steps₀ best₀ count₀ k₀ f v fars costs steps best count k =
+    (1 ≤ k) × (k ≤ n) × Held limit (cost t n) k f v count × (length fars ≡ 128) × (length costs ≡ 128) × (length steps ≡ 384) × (length best ≡ 192)
 
 abbrev μ-loop : tie.MeasureT-loop
-μ-loop n t f₀ v₀ fars₀ costs₀ steps₀ count₀ k₀ f v fars costs steps count k = n - k
+μ-loop n t f₀ v₀ fars₀ costs₀ steps₀ best₀ count₀ k₀ f v fars costs steps best count k = n - k
 
 loop-holds : tie.Need-loop-holds Inv-loop μ-loop
-loop-holds c = let p = c .before .before .before .pre in (search needs, search needs, held-none _ _ _ _ (p .1) (p .2), refl, refl, refl)
+loop-holds c = let p = c .before .before .before .pre in (search needs, search needs, held-none _ _ _ _ (p .1) (p .2), refl, refl, refl, refl)
 
 slice-aggregate-grow : tie.Need-slice-aggregate-grow Inv-loop μ-loop
 slice-aggregate-grow c = search needs
@@ -30,11 +30,14 @@ slice-aggregate-grow-2 c = search needs
 slice-aggregate-grow-3 : tie.Need-slice-aggregate-grow-3 Inv-loop μ-loop
 slice-aggregate-grow-3 c = search needs
 
+slice-aggregate-grow-4 : tie.Need-slice-aggregate-grow-4 Inv-loop μ-loop
+slice-aggregate-grow-4 c = search needs
+
 grow-requires : tie.Need-grow-requires Inv-loop μ-loop
 grow-requires c κs =
-    let l = c .before .before .before .before .before .before in
+    let l = c .before .before .before .before .before .before .before in
     let i = l .loop .inv in
-    (l .before .before .before .before .pre .0, i .0, search needs, i .2, i .3, i .4, i .5)
+    (l .before .before .before .before .pre .0, i .0, search needs, i .2, i .3, i .4, i .5, i .6)
 
 slice-aggregate-write-rows : tie.Need-slice-aggregate-write-rows Inv-loop μ-loop
 slice-aggregate-write-rows c = search needs
@@ -44,8 +47,8 @@ slice-aggregate-write-rows-2 c = search needs
 
 write-rows-requires : tie.Need-write-rows-requires Inv-loop μ-loop
 write-rows-requires c κs =
-    let h = c .before .before .before .before .before .before .before .grow .ensures in
-    let i = c .before .before .before .before .before .before .before .before .before .before .before .before .before .before .loop .inv .2 in
+    let h = c .before .before .before .before .before .before .before .before .grow .ensures in
+    let i = c .before .before .before .before .before .before .before .before .before .before .before .before .before .before .before .before .loop .inv .2 in
     (omega (arith, h .few, h .far-room), omega (arith, h .few, h .cost-room), omega (arith, h .few, i .far-room), omega (arith, h .few, i .cost-room))
 
 add-k : tie.Need-add-k Inv-loop μ-loop
@@ -57,15 +60,16 @@ loop-less c = search needs
 loop-again : tie.Need-loop-again Inv-loop μ-loop
 loop-again c =
     let w = c .before .before .before .before in
-    let g = w .before .before .before .before .before .before .before .before .grow in
-    let i = c .before .before .before .before .before .before .before .before .before .before .before .before .before .before .before .before .before .before .before .loop .inv in
+    let g = w .before .before .before .before .before .before .before .before .before .grow in
+    let i = c .before .before .before .before .before .before .before .before .before .before .before .before .before .before .before .before .before .before .before .before .before .loop .inv in
     let m = w .write-rows .kept in (
       omega (arith, i .0),
-      omega (arith, c .before .before .before .before .before .before .before .before .before .before .before .before .before .before .before .before .before .before .loop-test .taken),
+      omega (arith, c .before .before .before .before .before .before .before .before .before .before .before .before .before .before .before .before .before .before .before .before .loop-test .taken),
       held-written _ _ _ _ _ _ _ _ _ _ (g .ensures) (w .write-rows .ensures .0) (w .write-rows .ensures .1) (m .1 .1 .1 .0 ∙ i .2 .far-room) (m .1 .1 .1 .1 .0 ∙ i .2 .cost-room),
       g .kept .1 .1 .1 .1 .1 .1 .0 ∙ i .3,
       g .kept .1 .1 .1 .1 .1 .1 .1 .0 ∙ i .4,
       g .kept .1 .1 .1 .1 .1 .1 .1 .1 .0 ∙ i .5,
+      g .kept .1 .1 .1 .1 .1 .1 .1 .1 .1 .0 ∙ i .6,
     )
 
 same-length : tie.Need-same-length Inv-loop μ-loop
@@ -89,6 +93,7 @@ measured-rows-spec =
     slice-aggregate-grow
     slice-aggregate-grow-2
     slice-aggregate-grow-3
+    slice-aggregate-grow-4
     grow-requires
     slice-aggregate-write-rows
     slice-aggregate-write-rows-2

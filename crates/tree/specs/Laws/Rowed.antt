@@ -15,7 +15,7 @@ use Rattle.theory.specs.Laws.RowsGrow.{rows-most}
 use Rattle.theory.specs.LinkTables.{Row, far, fars}
 use Rattle.theory.specs.Readings.{drawn, row, rows}
 use Rattle.theory.specs.Tables.{WellFormed}
-use Rattle.brought.specs.Answers.{Fresh, Valued}
+use Rattle.brought.specs.Answers.{Valued}
 use Rattle.brought.specs.Chosen.{Rowed}
 use Rattle.tree.specs.Held.{Held}
 use Rattle.tree.specs.Laws.Held.{rowsIn-mem, with-image}
@@ -52,12 +52,15 @@ module _ (L : ℕ) (d : ℕ → ℕ → ℕ) (k : ℕ) (c : WellFormed L d k) (f
 
   pub held-rowed : count ≤ 123 → Rowed k f count
   held-rowed few = record {
+    rising = record {
+      some = λ i l. let t = known i l in rw (t .1) (t .3 .some);
+      up = λ i j g l. rw (here i (omega arith), here j l) (between-up 1 (2 ^ k) (rows L d k) i j (rows-between L d k c) g (omega (arith, counted)));
+      few = few;
+      room = omega (arith, h .few, h .far-room);
+    };
     far = λ i l. let t = known i l in rw (t .1) (t .3);
-    up = λ i j g l. rw (here i (omega arith), here j l) (between-up 1 (2 ^ k) (rows L d k) i j (rows-between L d k c) g (omega (arith, counted)));
     nested = λ i j a b. let s = known i a in let t = known j b in
         rw (s .1, t .1) (uncrossed-nested k (s .0) (t .0) (drawn-uncrossed L d k c (s .0) (t .0) (s .3) (t .3) (s .2) (t .2)));
-    few = few;
-    room = omega (arith, h .few, h .far-room);
   }
 
 -- there are few of them
@@ -69,7 +72,7 @@ held-few L d (suc (suc k)) g l c f v count h = omega (arith, counted L d (suc (s
 pub held-given : (L : ℕ) (d : ℕ → ℕ → ℕ) (k add : ℕ) (f v slots best : List ℕ) (count : ℕ) → k < 64 → add ≤ 2 ^ k → Held L d k f v count → Rowed k f count
     → length slots ≡ 128 → length best ≡ 192 → Valued L d k add f count slots best → Given add f v slots best count
 held-given L d k add f v slots best count g a h r s b w = record {
-  far-room = r .room;
+  far-room = r .rising .room;
   cost-room = omega (arith, h .few, h .cost-room);
   slot-room = omega (arith, h .few);
   few = h .few;
@@ -77,24 +80,3 @@ held-given L d k add f v slots best count g a h r s b w = record {
   fits = λ i l. with-image k (getD f i 0) add g (r .far i l .fits) a;
   place = w .place;
 }
-
--- ## The values before any image took its turn
-
-unfoldable pub caps : ℕ → ℕ → List ℕ → List ℕ
-caps zero v l = l
-caps (suc m) v l = v ∷ caps m v l
-
-caps-at : (m v j : ℕ) (l : List ℕ) → j < m → getD (caps m v l) j 0 ≡ v
-unfolding caps
-caps-at zero v j l h = absurd (omega arith)
-caps-at (suc m) v zero l h = refl
-caps-at (suc m) v (suc j) l h = caps-at m v j l (omega arith)
-
-caps-behind : (m v x j : ℕ) (l : List ℕ) → getD (caps m v (x ∷ l)) (suc m + j) 0 ≡ getD l j 0
-unfolding caps
-caps-behind zero v x j l = let e : suc zero + j ≡ suc j = omega arith in rw e
-caps-behind (suc m) v x j l = let e : suc (suc m) + j ≡ suc (suc m + j) = omega arith in rw e (caps-behind m v x j l)
-
-pub fresh : (L : ℕ) → Fresh L (caps 63 (4 * L) (0 ∷ caps 128 (4 * L) []))
-unfolding caps
-fresh L = record { room = refl; none = refl; caps = λ j h. caps-behind 63 (4 * L) 0 j (caps 128 (4 * L) []) ∙ caps-at 128 (4 * L) j [] h }
