@@ -22,9 +22,9 @@ static double turn(Call *call, double seconds) {
 
 void race(size_t count, Call *const *calls, double *microseconds) {
     for (size_t i = 0; i < count; i++) microseconds[i] = 1e30;
-    for (int k = 0; k < 9; k++)
+    for (int k = 0; k < 45; k++)
         for (size_t i = 0; i < count; i++) {
-            double x = turn(calls[i], 0.03);
+            double x = turn(calls[i], 0.006);
             if (x < microseconds[i]) microseconds[i] = x;
         }
 }

@@ -1,23 +1,10 @@
--- The way from a side to its upper side, and the walk up the chain of an image z. Assumes nothing.
+-- The walk up the chain of an image z. Assumes nothing.
 use mathlib.Core.List.{List}
 use mathlib.Core.Path.{_≡_}
-use Prim.Native.Nat.{ℕ, _*_, _+_, _-_, _<_, _≤_}
-use lib.Bits.{bitAnd}
+use Prim.Native.Nat.{ℕ, _*_, _+_, _-_, _<_}
 use lib.ListN.{getD, length}
 use Rattle.ground.specs.Bits.{bit}
 use Rattle.chains.specs.Chains.{depthAt, gapOn, heldAt, nearOn}
-
--- j is the first place from i on whose side contains s, and m, the number of sides, where there is none
-pub record Next (B : List ℕ) (m s i j : ℕ) : Type 0 where
-  pub from : i ≤ j
-  pub few : j ≤ m
-  pub none : (l : ℕ) → i ≤ l → l < j → bitAnd s (getD B l 0) ≡ s → ⊥
-  pub holds : j < m → bitAnd s (getD B j 0) ≡ s
-
--- the upper side of each of the first i sides: the first later one that contains it
-pub record Linked (B : List ℕ) (m i : ℕ) (uppers : List ℕ) : Type 0 where
-  pub room : length uppers ≡ 128
-  pub upper : (j : ℕ) → j < i → Next B m (getD B j 0) (j + 1) (getD uppers j 0)
 
 -- three numbers are kept of a side j that holds z, in the order of the chain: the least over it, what it adds beside the side before
 -- it, and its place

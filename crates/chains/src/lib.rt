@@ -10,7 +10,8 @@ ghost use Rattle.ground.specs.Bits.{bit};
 ghost use Rattle.ground.specs.Least.{leastOn};
 ghost use Rattle.theory.specs.Tables.{limit, cost, CostTable};
 ghost use Rattle.chains.specs.Chains.{ahead, gapOn, Chained, Family};
-ghost use Rattle.chains.specs.Walks.{Next, Linked, Climbed, Up};
+ghost use Rattle.chains.specs.Links.{Next, Marked, Linking, Linked};
+ghost use Rattle.chains.specs.Walks.{Climbed, Up};
 ghost use Rattle.chains.specs.Values.{Least, Brought};
 
 // What no value that counts exceeds: the start of every least value.
@@ -111,14 +112,39 @@ fn next(sides: &[u64], count: usize, s: u64, from: usize) -> usize
     j
 }
 
-// The upper side of each side: the place of the first later one that contains it.
-fn link(sides: &[u64], count: usize, uppers: &mut [u8])
-    requires { ⌜ (length (now sides) ≡ 128) × (count ≤ 128) × (length (now uppers) ≡ 128) ⌝ }
-    ensures { λ _. ⌜ Linked (now (sides .entry)) count count (now (uppers .exit)) ⌝ }
+// Every image of m has its first side at place j.
+fn mark(m: u64, j: usize, links: &mut [u8])
+    requires { ⌜ (j < 128) × (length (now links) ≡ 192) ⌝ }
+    ensures { λ _. ⌜ Marked m j 0 (now (links .entry)) (now (links .exit)) ⌝ }
 {
+    let mut rest = m;
+    while rest != 0 {
+        links[128 + lowest(rest)] = ground::byte(j);
+        rest = without_lowest(rest);
+    }
+}
+
+// Side i gets its upper side, and the images that none of the sides before it holds their first; all images seen so far.
+fn turn_link(sides: &[u64], count: usize, i: usize, seen: u64, links: &mut [u8]) -> u64
+    requires { ⌜ (length (now sides) ≡ 128) × (i < count) × (count ≤ 128) × Linking (now sides) count i seen (now links) ⌝ }
+    ensures { λ r. ⌜ Linking (now (sides .entry)) count (i + 1) r (now (links .exit)) ⌝ }
+{
+    let s = sides[i];
+    links[i] = ground::byte(next(sides, count, s, i + 1));
+    let both = seen | s;
+    mark(both - seen, i, links);
+    both
+}
+
+// The upper side of each side, the place of the first later one that contains it; and from place 128 on the first side of each image.
+fn link(sides: &[u64], count: usize, links: &mut [u8])
+    requires { ⌜ (length (now sides) ≡ 128) × (count ≤ 128) × (length (now links) ≡ 192) ⌝ }
+    ensures { λ _. ⌜ Linked (now (sides .entry)) count (now (links .exit)) ⌝ }
+{
+    let mut seen = 0;
     let mut i = 0;
     while i < count {
-        uppers[i] = ground::byte(next(sides, count, sides[i], i + 1));
+        seen = turn_link(sides, count, i, seen, links);
         i += 1;
     }
 }
@@ -159,10 +185,10 @@ fn up(
     z: usize,
     sides: &[u64],
     count: usize,
-    uppers: &[u8],
+    links: &[u8],
     steps: &mut [u32],
 ) -> usize
-    requires { ⌜ CostTable limit n (now t) × (k < n) × (z < k) × Family k (now sides) count × Linked (now sides) count count (now uppers) × (length (now steps) ≡ 384) ⌝ }
+    requires { ⌜ CostTable limit n (now t) × (k < n) × (z < k) × Family k (now sides) count × Linked (now sides) count (now links) × (length (now steps) ≡ 384) ⌝ }
     ensures { λ r. ⌜ Climbed limit (cost (now (t .entry)) n) k z (now (sides .entry)) count r (now (steps .exit)) ⌝ }
 {
     let alone = ground::bit_alone(z);
@@ -171,10 +197,10 @@ fn up(
         near: theory::LIMIT + tables::entry(t, n, k, z),
         depth: 0,
     };
-    let mut i = next(sides, count, alone, 0);
+    let mut i = ground::wide(links[128 + z]);
     while i < count {
         cut = turn_up(t, n, k, z, sides, i, cut, steps);
-        i = ground::wide(uppers[i]);
+        i = ground::wide(links[i]);
     }
     cut.depth
 }
@@ -198,14 +224,14 @@ fn turn_image(
     z: usize,
     sides: &[u64],
     count: usize,
-    uppers: &[u8],
+    links: &[u8],
     steps: &mut [u32],
     best: &mut [u32],
 )
-    requires { ⌜ CostTable limit n (now t) × (k < n) × (z < k) × Family k (now sides) count × Linked (now sides) count count (now uppers) × (length (now steps) ≡ 384) × Least limit (cost (now t) n) k (now sides) count z (now best) ⌝ }
+    requires { ⌜ CostTable limit n (now t) × (k < n) × (z < k) × Family k (now sides) count × Linked (now sides) count (now links) × (length (now steps) ≡ 384) × Least limit (cost (now t) n) k (now sides) count z (now best) ⌝ }
     ensures { λ _. ⌜ Least limit (cost (now (t .entry)) n) k (now (sides .entry)) count (z + 1) (now (best .exit)) ⌝ }
 {
-    let mut q = up(t, n, k, z, sides, count, uppers, steps);
+    let mut q = up(t, n, k, z, sides, count, links, steps);
     let alone = theory::LIMIT + tables::entry(t, n, k, z);
     let mut a = alone;
     while 0 < q {
@@ -228,11 +254,11 @@ pub fn images(
     requires { ⌜ CostTable limit n (now t) × (k < n) × Family k (now sides) count × (length (now steps) ≡ 384) × Least limit (cost (now t) n) k (now sides) count 0 (now best) ⌝ }
     ensures { λ _. ⌜ Brought limit (cost (now (t .entry)) n) k (now (sides .entry)) count (now (best .exit)) ⌝ }
 {
-    let mut uppers = [0u8; 128];
-    link(sides, count, &mut uppers);
+    let mut links = [0u8; 192];
+    link(sides, count, &mut links);
     let mut z = 0;
     while z < k {
-        turn_image(t, n, k, z, sides, count, &uppers, steps, best);
+        turn_image(t, n, k, z, sides, count, &links, steps, best);
         z += 1;
     }
 }

@@ -1,39 +1,26 @@
--- `chains::link` meets its contract: the sides below place i have their upper side. Assumes nothing.
+-- `chains::link` meets its contract: the sides below place i have gone by. Assumes nothing.
 use mathlib.Core.Path.{sym, _∙_, _≡_}
 use Prim.Native.Nat.{_-_, _≤_}
 use native.Mathlib.Omega.{arith}
-use Rattle.chains.specs.Walks.{Linked}
-use Rattle.chains.specs.Laws.Uppers.{linked-more}
+use Rattle.chains.specs.Links.{Linking}
+use Rattle.chains.specs.Laws.Uppers.{linking-end, linking-none}
 use borrow.Author.Needs.{needs}
 use Rattle.chains.proofs.link.Statement.{statement}
 use Rattle.chains.proofs.link.Tie as tie
 
 abbrev Inv-loop : tie.InvT-loop
-Inv-loop sides count uppers₀ i₀ uppers i = (i ≤ count) × Linked sides count i uppers
+Inv-loop sides count links₀ seen₀ i₀ links seen i = (i ≤ count) × Linking sides count i seen links
 
 abbrev μ-loop : tie.MeasureT-loop
-μ-loop sides count uppers₀ i₀ uppers i = count - i
+μ-loop sides count links₀ seen₀ i₀ links seen i = count - i
 
 loop-holds : tie.Need-loop-holds Inv-loop μ-loop
-loop-holds c = (search needs, record { room = c .before .before .pre .2; upper = λ j h. absurd (omega arith) })
+loop-holds c = (search needs, linking-none _ _ _ (c .before .before .pre .2))
 
-mul-next : tie.Need-mul-next Inv-loop μ-loop
-mul-next c = search needs
-
-shared-slice-read-next : tie.Need-shared-slice-read-next Inv-loop μ-loop
-shared-slice-read-next c = search needs
-
-add-next : tie.Need-add-next Inv-loop μ-loop
-add-next c = search needs
-
-next-requires : tie.Need-next-requires Inv-loop μ-loop
-next-requires c κs = search needs
-
-byte-requires : tie.Need-byte-requires Inv-loop μ-loop
-byte-requires c κs = search needs
-
-slice-write-uppers : tie.Need-slice-write-uppers Inv-loop μ-loop
-slice-write-uppers c = let l = c .before .before .before .before in omega (arith, l .loop .inv .1 .room, l .before .before .before .pre .1)
+turn-link-requires : tie.Need-turn-link-requires Inv-loop μ-loop
+turn-link-requires c κs =
+    let p = c .before .before .before .before .before .pre in
+    (p .0, search needs, p .1, c .before .before .loop .inv .1)
 
 add-i : tie.Need-add-i Inv-loop μ-loop
 add-i c = search needs
@@ -42,9 +29,7 @@ loop-less : tie.Need-loop-less Inv-loop μ-loop
 loop-less c = search needs
 
 loop-again : tie.Need-loop-again Inv-loop μ-loop
-loop-again c =
-    let l = c .before .before .before .before in
-    (search needs, linked-more _ _ _ _ _ (omega (arith, l .before .before .before .pre .1)) (l .loop .inv .1) (rw (c .byte .ensures) (c .before .next .ensures)))
+loop-again c = (search needs, c .before .before .turn-link .ensures)
 
 same-length : tie.Need-same-length Inv-loop μ-loop
 same-length c = c .before .loop .inv .1 .room ∙ sym (c .before .before .before .before .pre .2)
@@ -52,7 +37,8 @@ same-length c = c .before .loop .inv .1 .room ∙ sym (c .before .before .before
 returns : tie.Need-returns Inv-loop μ-loop
 returns c =
     let l = c .before in
-    let e : l .loop .i ≡ l .before .before .before .args .count = omega (arith, l .loop .inv .0) in rw e at (l .loop .inv .1)
+    let e : l .loop .i ≡ l .before .before .before .args .count = omega (arith, l .loop .inv .0) in
+    linking-end _ _ _ _ (rw e at (l .loop .inv .1))
 
 pub link-spec : {M : Type 1} → statement M
 link-spec =
@@ -61,12 +47,7 @@ link-spec =
     Inv-loop
     μ-loop
     loop-holds
-    mul-next
-    shared-slice-read-next
-    add-next
-    next-requires
-    byte-requires
-    slice-write-uppers
+    turn-link-requires
     add-i
     loop-less
     loop-again
