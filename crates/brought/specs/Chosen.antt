@@ -2,7 +2,7 @@
 use mathlib.Core.Bool.{Bool, false, not, true, _&&_}
 use mathlib.Core.List.{List}
 use mathlib.Core.Path.{_≡_}
-use Prim.Native.Nat.{suc, zero, ℕ, _*_, _+_, _-_, _<_, _^_, _≤_}
+use Prim.Native.Nat.{suc, zero, ℕ, _*_, _+_, _-_, _<_, _≤_}
 use lib.Bits.{bitAnd}
 use lib.Count.{trailingZeros}
 use lib.Dec.{eqb}
@@ -10,7 +10,6 @@ use lib.ListN.{getD, length}
 use Rattle.ground.specs.Counts.{one-if}
 use Rattle.theory.specs.FarSides.{FarSide, Nested}
 use Rattle.chains.specs.Chains.{pick}
-use Rattle.brought.specs.Near.{goesIn, goesOut}
 
 -- some images each, ascending, and few
 pub record Rising (f : List ℕ) (count : ℕ) : Type 0 where

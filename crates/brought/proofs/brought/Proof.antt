@@ -1,6 +1,6 @@
 -- `brought::brought` meets its contract: the sides that are asked form chains, and their values are those of the rows. Assumes nothing.
-use mathlib.Core.Path.{ap, refl, sym, _∙_, _≡_}
-use Prim.Native.Nat.{suc, _-_, _<_, _^_}
+use mathlib.Core.Path.{ap, refl, sym, _∙_}
+use Prim.Native.Nat.{suc, _-_, _<_}
 use native.Mathlib.Omega.{arith}
 use lib.ListN.{length-set}
 use lib.Pow.{pow-pos}

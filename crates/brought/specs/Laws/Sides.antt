@@ -16,7 +16,7 @@ use Rattle.ground.specs.Laws.Bits.{bit-and, bit-full, bit-lt}
 use Rattle.ground.specs.Laws.Tests.{or-cases}
 use Rattle.theory.specs.FarSides.{Nested, Within}
 use Rattle.theory.specs.Laws.Nested.{bit-holds, holds-false, holds-true}
-use Rattle.chains.specs.Chains.{Chained, Family}
+use Rattle.chains.specs.Chains.{Family}
 use Rattle.brought.specs.Choosing.{inLive, inSide, outLive, outSide}
 use Rattle.brought.specs.Chosen.{Rowed, Stored}
 use Rattle.brought.specs.Near.{goesIn, goesOut}

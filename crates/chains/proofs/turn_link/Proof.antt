@@ -1,5 +1,4 @@
 -- `chains::turn_link` meets its contract: one side more has gone by. Assumes nothing.
-use mathlib.Core.Path.{_∙_, _≡_}
 use Prim.Native.Nat.{_<_, _^_}
 use native.Mathlib.Omega.{arith}
 use lib.ListN.{length-set}

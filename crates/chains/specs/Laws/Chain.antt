@@ -1,7 +1,7 @@
 -- Along the chain of an image z: what is least over a side, and beside it, from the side before. Assumes nothing.
 use mathlib.Core.List.{List}
 use mathlib.Core.Path.{refl, _≡_}
-use Prim.Native.Nat.{min, suc, zero, ℕ, _*_, _+_, _-_, _<_, _^_, _≤_}
+use Prim.Native.Nat.{min, suc, zero, ℕ, _*_, _-_, _<_, _^_, _≤_}
 use native.Mathlib.Omega.{arith}
 use lib.Dec.{eqb}
 use lib.ListN.{getD}

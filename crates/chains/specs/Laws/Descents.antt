@@ -1,7 +1,7 @@
 -- The walk down a chain: at the top, one side further down, and what a turn asks. Assumes nothing.
 use mathlib.Core.List.{List}
 use mathlib.Core.Path.{ap, refl, sym, _∙_, _≡_}
-use Prim.Native.Nat.{min, suc, zero, ℕ, _*_, _+_, _-_, _<_, _^_, _≤_}
+use Prim.Native.Nat.{min, suc, zero, ℕ, _*_, _+_, _-_, _<_, _≤_}
 use native.Mathlib.Omega.{arith}
 use lib.Dec.{eqb, ltb}
 use lib.ListN.{getD, length, length-set, set}

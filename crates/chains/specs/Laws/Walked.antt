@@ -16,7 +16,7 @@ use Rattle.ground.specs.Least.{leastOn}
 use Rattle.ground.specs.Laws.Least.{le-leastOn, leastOn-cap, leastOn-le}
 use Rattle.theory.specs.OneMore.{broughtFast, broughtSide}
 use Rattle.theory.specs.Tables.{WellFormed}
-use Rattle.chains.specs.Chains.{Chained, apartOn, nearOn}
+use Rattle.chains.specs.Chains.{Chained}
 use Rattle.chains.specs.Values.{Brought, Least}
 use Rattle.chains.specs.Laws.Chain.{held-none}
 use Rattle.chains.specs.Laws.Descents.{Down, DownTo, down-end, lowered}

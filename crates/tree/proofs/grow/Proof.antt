@@ -1,5 +1,5 @@
 -- `tree::grow` meets its contract: the three parts, one behind the other, are the reading over one image more. Assumes nothing.
-use mathlib.Core.Path.{ap, refl, sym, _∙_, _≡_}
+use mathlib.Core.Path.{ap, refl, _∙_, _≡_}
 use Prim.Native.Nat.{min, suc, _*_, _-_, _<_, _^_}
 use native.Mathlib.Omega.{arith}
 use lib.ListN.{getD, length}
@@ -70,9 +70,7 @@ slice-aggregate-put-rows c = search needs
 
 put-rows-requires : tie.Need-put-rows-requires
 put-rows-requires c κs =
-    let h = c .before .before .before .before .before .before .before .before .before .before .before .before .before .before in
-    let b = start h in
-    let p = b .pre in (
+    let h = c .before .before .before .before .before .before .before .before .before .before .before .before .before .before in let b = start h in let p = b .pre in (
       few b,
       held-given limit _ _ _ _ _ _ _ _ (few b) (search needs) (p .3) (rowed b) (h .brought .kept .1 .1 .1 .1 .1 .0) (h .brought .ensures .room) (h .brought .ensures .outside),
       room-outside limit _ _ (p .1) (few b) (formed b) _ (outside h) _ _ (rooms h) (p .5),
@@ -85,8 +83,7 @@ turn-row-requires : tie.Need-turn-row-requires
 turn-row-requires c κs =
     let o = c .before .before .before .before .before .before in
     let h = o .before .before .before .before .before .before .before .before .before .before .before .before .before .before .before in
-    let b = start h in
-    let p = b .pre in
+    let b = start h in let p = b .pre in
     let r = room-own limit _ _ (p .1) (few b) (formed b) _ (outside h) _ _ (rooms h) (p .5) _ _ _ (o .put-rows .ensures) in
     (few b, r .0, r .1)
 
@@ -98,8 +95,7 @@ put-rows-requires-2 c κs =
     let w = c .before .before .before .before .before .before .before .before in
     let o = w .before .before .before .before .before .before .before in
     let h = o .before .before .before .before .before .before .before .before .before .before .before .before .before .before .before in
-    let b = start h in
-    let p = b .pre in
+    let b = start h in let p = b .pre in
     let image = o .before .before .before .before .before .bit-alone .ensures in
     rw image (
       few b,
@@ -109,8 +105,7 @@ put-rows-requires-2 c κs =
 
 same-length : tie.Need-same-length
 same-length c =
-    let w = c .before .before .before .before .before .before .before .before .before .before .before .before .before in
-    let o = w .before .before .before .before .before .before .before in
+    let w = c .before .before .before .before .before .before .before .before .before .before .before .before .before in let o = w .before .before .before .before .before .before .before in
     c .before .before .before .before .put-rows2 .kept .1 .1 .1 .1 .1 .1 .1 .1 .0 ∙ w .turn-row .kept .1 .1 .1 .1 .1 .0 ∙ o .put-rows .kept .1 .1 .1 .1 .1 .1 .1 .1 .0 ∙ o .before .before .before .before .before .before .before .before .before .before .before .before .before .before .before .brought .kept .1 .1 .1 .1 .1 .1 .1 .0
 
 same-length-2 : tie.Need-same-length-2
@@ -127,8 +122,7 @@ returns c =
     let w = c .before .before .before .before .before .before .before .before .before .before .before .before .before in
     let o = w .before .before .before .before .before .before .before in
     let h = o .before .before .before .before .before .before .before .before .before .before .before .before .before .before .before in
-    let b = start h in
-    let p = b .pre in
+    let b = start h in let p = b .pre in
     let image = o .before .before .before .before .before .bit-alone .ensures in
     held-more limit _ _ (p .1) (few b) (formed b) _ (outside h) _ _ (rooms h) (p .5) _ _ _ (o .put-rows .ensures) _ _ _ _ (own h) (rw image at (w .turn-row .ensures))
     _ (inside h) _ _ _ (rw image at (c .before .before .before .before .put-rows2 .ensures))

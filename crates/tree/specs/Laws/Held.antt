@@ -1,7 +1,7 @@
 -- The measured reading of the first k images, held in local arrays: what is known of each row, and that it can be copied.
 -- Assumes nothing.
 use mathlib.Core.List.{List, List·Memᴰ, List·Memᴰ·head, Memᴰ·append-left, Memᴰ·append-right, [], _++_, _∷_}
-use mathlib.Core.Path.{ap, ap₂, refl, subst, _∙_, _≡_}
+use mathlib.Core.Path.{ap, ap₂, refl, _∙_, _≡_}
 use Prim.Native.Nat.{suc, zero, ℕ, _+_, _<_, _^_, _≤_}
 use native.Mathlib.Omega.{arith}
 use lib.Dec.{eqb}

@@ -1,8 +1,8 @@
 -- The rows held in local arrays are rows as `brought` asks for them, and what it answers can be put. Assumes nothing.
 use mathlib.Core.Bool.{true}
 use mathlib.Core.List.{List, List·Memᴰ, [], _∷_}
-use mathlib.Core.Path.{ap, refl, subst, sym, _∙_, _≡_}
-use Prim.Native.Nat.{suc, zero, ℕ, _*_, _+_, _<_, _^_, _≤_}
+use mathlib.Core.Path.{ap, subst, sym, _∙_, _≡_}
+use Prim.Native.Nat.{suc, zero, ℕ, _<_, _^_, _≤_}
 use native.Mathlib.Omega.{arith}
 use lib.ListN.{getD, length, length-map, take}
 use lib.Seq.{getD-take}
