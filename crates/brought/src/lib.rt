@@ -13,9 +13,6 @@ ghost use Rattle.brought.specs.Choosing.{inSide, inLive, Put, Room, Outs
 ghost use Rattle.brought.specs.Chosen.{alone, taken, slotOf, storedOf, Rising, Rowed};
 ghost use Rattle.brought.specs.Near.{Closest, NearImages, nearImage, goesOut, goesIn};
 
-// What no value that counts exceeds: the start of every least value.
-const CAP: u32 = 4 * theory::LIMIT;
-
 // Of b and y the one that is nearer to k, as seen from image 0.
 fn closer(t: &[u32], n: usize, k: usize, b: usize, y: usize) -> usize
     requires { ⌜ CostTable limit n (now t) × (k < n) × (b < n) × (y < n) ⌝ }
@@ -147,7 +144,7 @@ fn store(
     ensures { λ r. ⌜ Put limit live s m i (now (sides .entry)) (now (slots .entry)) (now (best .entry)) r (now (sides .exit)) (now (slots .exit)) (now (best .exit)) ⌝ }
 {
     sides[m] = s;
-    best[64 + m] = CAP;
+    best[64 + m] = theory::CAP;
     slots[i] = ground::byte(slot(live, s, m));
     m + takes(live, s)
 }
@@ -224,7 +221,7 @@ pub fn brought(
     let m = choose_in(k, near, fars, count, low, sides, ins, best);
     sides[m] = ground::bit_alone(k) - 1;
     best[63] = 0;
-    best[64 + m] = CAP;
+    best[64 + m] = theory::CAP;
     chains::images(t, n, k, sides, m + 1, steps, best);
     64 + m
 }

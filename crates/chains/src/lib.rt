@@ -14,9 +14,6 @@ ghost use Rattle.chains.specs.Links.{Next, Marked, Linking, Linked};
 ghost use Rattle.chains.specs.Walks.{Climbed, Up};
 ghost use Rattle.chains.specs.Values.{Least, Brought};
 
-// What no value that counts exceeds: the start of every least value.
-const CAP: u32 = 4 * theory::LIMIT;
-
 // The least over some images: of how much farther each is from k than from z, and of how much farther from z than from k.
 struct Both {
     near: u32,
@@ -76,7 +73,7 @@ fn level(t: &[u32], n: usize, k: usize, z: usize, m: u64, near: u32) -> Both
     ensures { λ r. ⌜ (r .near ≡ min near (leastOn k (bit m) 1 (4 * limit) (ahead limit (cost (now (t .entry)) n) k z))) × (r .apart ≡ gapOn limit (cost (now (t .entry)) n) k z m) ⌝ }
 {
     let mut low = near;
-    let mut gap = CAP;
+    let mut gap = theory::CAP;
     let mut rest = m;
     while rest != 0 {
         let y = lowest(rest);

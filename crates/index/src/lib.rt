@@ -12,9 +12,6 @@ ghost use Rattle.theory.specs.Tables.{limit, cost, CostTable};
 ghost use Rattle.index.specs.Call.{badFarSide, indexCheck, indexAnswer};
 ghost use Rattle.index.specs.Sides.{Images, Split, moreAt, nearAt, choicesAt, sideAt};
 
-// What no value that counts exceeds: the start of every least value.
-const CAP: u32 = 4 * theory::LIMIT;
-
 // The image at place i of a list.
 fn image_at(list: &[u8], i: usize) -> usize
     requires { ⌜ i < length (now list) ⌝ }
@@ -65,7 +62,7 @@ fn near(t: &[u32], n: usize, k: usize, e: usize, other: &[u8], count: usize) -> 
     requires { ⌜ CostTable limit n (now t) × Images n count (now other) × (k < n) × (e < n) ⌝ }
     ensures { λ r. ⌜ (r ≡ nearAt limit (cost (now (t .entry)) n) k (now (other .entry)) count e) × (r ≤ 4 * limit) ⌝ }
 {
-    let mut best = CAP;
+    let mut best = theory::CAP;
     let mut i = 0;
     while i < count {
         best = turn_near(t, n, k, e, image_at(other, i), best);
@@ -89,7 +86,7 @@ fn least_side(t: &[u32], n: usize, k: usize, e: usize, low: u32, own: &[u8], cou
     requires { ⌜ CostTable limit n (now t) × Images n count (now own) × (k < n) × (e < n) × (low ≤ 4 * limit) ⌝ }
     ensures { λ r. ⌜ r ≡ sideAt limit (cost (now (t .entry)) n) k (now (own .entry)) count e low ⌝ }
 {
-    let mut best = CAP;
+    let mut best = theory::CAP;
     let mut i = 0;
     while i < count {
         best = turn_side(t, n, k, e, low, image_at(own, i), best);
@@ -130,7 +127,7 @@ fn least_more(
     requires { ⌜ CostTable limit n (now t) × Images n count (now own) × Images n rest (now other) × (k < n) ⌝ }
     ensures { λ r. ⌜ r ≡ moreAt limit (cost (now (t .entry)) n) k (now (own .entry)) count (now (other .entry)) rest ⌝ }
 {
-    let mut best = CAP;
+    let mut best = theory::CAP;
     let mut i = 0;
     while i < rest {
         let e = image_at(other, i);
@@ -156,7 +153,7 @@ fn shifted_index(n: usize, t: &[u32], s: u64) -> u32
     requires { ⌜ CostTable limit n (now t) × FarSide n s ⌝ }
     ensures { λ r. ⌜ r ≡ shifted limit (cost (now (t .entry)) n) n (bit s) ⌝ }
 {
-    let mut v = CAP;
+    let mut v = theory::CAP;
     let mut k = 1;
     while k < n {
         v = one_more(t, n, s, k, v);

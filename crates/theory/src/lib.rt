@@ -1,4 +1,4 @@
-// The meaning of everything is in specs/. Here stand only the limit, the check that every call begins with, and the one test
+// The meaning of everything is in specs/. Here stand only the limits, the check that every call begins with, and the one test
 // that a definition names as code.
 use ground::Check;
 ghost use mathlib.Core.Path.{_≡_};
@@ -7,6 +7,9 @@ ghost use Rattle.theory.specs.FarSides.{inner};
 
 // The limit on an entry, `limit` of specs/Tables.antt; a doubled cost is at most twice as much.
 pub const LIMIT: u32 = 1000000;
+
+// What no value of a choice exceeds, two limits added to it: the start of every least value.
+pub const CAP: u32 = 4 * LIMIT;
 
 // Refusal 1.
 pub fn check_images(n: usize) -> Check

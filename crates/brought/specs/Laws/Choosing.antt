@@ -5,10 +5,7 @@ use mathlib.Core.Path.{ap₂, refl, sym, _∙_, _≡_}
 use Prim.Native.Nat.{suc, zero, ℕ, _+_, _-_, _<_, _≤_}
 use native.Mathlib.Numerals.{add-one}
 use native.Mathlib.Omega.{arith}
-use lib.Dec.{eqb}
 use lib.ListN.{getD}
-use borrow.Author.Tests.{eqb-false, eqb-true}
-use borrow.Table.Steps.{cases}
 use Rattle.ground.specs.Counts.{one-if}
 use Rattle.brought.specs.Chosen.{Rising, Rowed, Stored, storedOf, taken}
 use Rattle.brought.specs.Choosing.{Ins, Outs, Put, Room, Same, inLive, inSide, outLive, outSide}
@@ -20,7 +17,7 @@ module _ (a : ℕ → ℕ) (live : ℕ → Bool) where
   unfolding storedOf
   of-none = refl
 
-  pub of-more : (n : ℕ) → storedOf a live (n + 1) ≡ storedOf a live n + one-if (taken (live n) (a n))
+  of-more : (n : ℕ) → storedOf a live (n + 1) ≡ storedOf a live n + one-if (taken (live n) (a n))
   unfolding storedOf
   of-more n = rw add-one
 
@@ -32,18 +29,10 @@ module _ (a : ℕ → ℕ) (live : ℕ → Bool) where
       go x (left e) = omega arith
 
   -- each row stores one side at most
-  pub of-most : (n : ℕ) → storedOf a live n ≤ n
+  of-most : (n : ℕ) → storedOf a live n ≤ n
   unfolding storedOf
   of-most zero = omega arith
   of-most (suc n) = omega (arith, of-most n, one-most n)
-
-  -- fewer rows store no more
-  pub of-fewer : (m n : ℕ) → m ≤ n → storedOf a live m ≤ storedOf a live n
-  unfolding storedOf
-  of-fewer m zero h = let e : m ≡ 0 = omega arith in rw e (omega arith)
-  of-fewer m (suc n) h =
-      cases (eqb m (suc n)) (λ e. rw (eqb-true m (suc n) e) (omega arith))
-      (λ e. omega (arith, of-fewer m n (omega (arith, eqb-false m (suc n) e))))
 
 -- no row has gone by
 stored-none : (L : ℕ) (a : ℕ → ℕ) (live : ℕ → Bool) (p low : ℕ) (B slots best : List ℕ) → Stored L a live p p low low B slots best

@@ -24,7 +24,7 @@ use Rattle.theory.specs.Tables.{WellFormed}
 use Rattle.brought.specs.Near.{Closest, NearImages, goesIn, goesOut, nearImage}
 
 -- what is not within has an image that is not there
-pub not-within : (k S N : ℕ) → S < 2 ^ k → (bitAnd S N ≡ S → ⊥) → (y : ℕ) × (y < k) × (bit S y ≡ 1) × (bit N y ≡ 0)
+not-within : (k S N : ℕ) → S < 2 ^ k → (bitAnd S N ≡ S → ⊥) → (y : ℕ) × (y < k) × (bit S y ≡ 1) × (bit N y ≡ 0)
 not-within k S N f h = go (find k (λ i. holds S i && not (holds N i)))
   where
     go : ((i : ℕ) × (i < k) × ((holds S i && not (holds N i)) ≡ true)) ⊎ ((i : ℕ) → i < k → (holds S i && not (holds N i)) ≡ false)

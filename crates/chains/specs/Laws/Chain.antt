@@ -54,13 +54,6 @@ module _ (k : ℕ) (B : List ℕ) (m : ℕ) (c : Chained k B m) (z : ℕ) (hz : 
       (λ e. rw (held-in B z i (eqb-true (bit (getD B i 0) z) 1 e)) (c .fits i h))
       (λ e. rw (held-out B z i (eqb-false (bit (getD B i 0) z) 1 e)) (held-fits i (omega arith)))
 
-  pub held-z : (i : ℕ) → bit (heldAt B z i) z ≡ 1
-  held-z zero = rw (held-none B z) (bit-pow z)
-  held-z (suc i) =
-      cases (eqb (bit (getD B i 0) z) 1)
-      (λ e. let t = eqb-true (bit (getD B i 0) z) 1 e in rw (held-in B z i t) t)
-      (λ e. rw (held-out B z i (eqb-false (bit (getD B i 0) z) 1 e)) (held-z i))
-
   -- what is held is within every later side of the chain
   pub held-within : (i j : ℕ) → i ≤ j → j < m → bit (getD B j 0) z ≡ 1 → (y : ℕ) → bit (heldAt B z i) y ≤ bit (getD B j 0) y
   held-within zero j h l t y =

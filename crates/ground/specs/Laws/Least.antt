@@ -80,10 +80,6 @@ module _ (s : ℕ → ℕ) (g cap : ℕ) (f : ℕ → ℕ) where
   pub leastOn-end : (i n : ℕ) {m : ℕ} → i ≤ n → n ≤ i → m ≡ leastOn i s g cap f → m ≡ leastOn n s g cap f
   leastOn-end i n l h e = let q : i ≡ n = omega arith in rw (← q) e
 
--- over more numbers it is at most as much
-pub leastOn-fewer : (s : ℕ → ℕ) (g cap : ℕ) (f : ℕ → ℕ) (m n : ℕ) → m ≤ n → leastOn n s g cap f ≤ leastOn m s g cap f
-leastOn-fewer s g cap f m n h = le-leastOn s g cap f m (leastOn n s g cap f) (leastOn-cap s g cap f n) (λ a o. leastOn-le s g cap f n a (omega arith, o .1))
-
 -- only the numbers below n count
 pub leastOn-same : (s t : ℕ → ℕ) (g cap : ℕ) (f h : ℕ → ℕ) (n : ℕ) → ((a : ℕ) → a < n → s a ≡ t a) → ((a : ℕ) → a < n → f a ≡ h a)
     → leastOn n s g cap f ≡ leastOn n t g cap h

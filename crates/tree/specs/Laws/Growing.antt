@@ -33,7 +33,7 @@ lowered-length L k add f v slots best i (suc n) h =
     (omega (arith, lowered-length L k add f v slots best i n (omega (arith, eqb-false i (suc n) e)))))
 
 -- where the values are what image k brings, the lowered rows are the changed ones
-pub lowered-changed : (L : ℕ) (d : ℕ → ℕ → ℕ) (k add : ℕ) (f v slots best : List ℕ) (count n : ℕ) → n ≤ count → Valued L d k add f count slots best
+lowered-changed : (L : ℕ) (d : ℕ → ℕ → ℕ) (k add : ℕ) (f v slots best : List ℕ) (count n : ℕ) → n ≤ count → Valued L d k add f count slots best
     → loweredIn L add f v slots best n ≡ map (changed L d k add) (rowsIn f v n)
 unfolding loweredIn rowsIn
 lowered-changed L d k add f v slots best count zero h w = refl
