@@ -17,6 +17,7 @@ static uint32_t tree[4096], other[4096], noisy[4096], back[4096], costs[125], pl
 static uint64_t fars[125], plain_fars[125], inner_side;
 static uint8_t cost_bytes[KEMOTUIKI_COST_BYTES], link_bytes[KEMOTUIKI_LINK_BYTES], fewer_bytes[KEMOTUIKI_LINK_BYTES], bytes[KEMOTUIKI_COST_BYTES];
 static volatile size_t sink;
+static int printing;
 
 static void ours_exact(void) { sink = kemotuiki_exact(n, tree, n * n, fars, 125, costs, 125).value; }
 static void c_exact(void) { plain_exact(n, tree, n * n, plain_fars, plain_costs, 125, &plain_rows); sink = plain_rows; }
@@ -63,13 +64,12 @@ static void race_both(const char *name, Call *ours, Call *plain) {
         exit(1);
     }
     race(2, calls, us);
-    printf("| %s | %zu | %.1f | %.1f | %.2f |\n", name, n, us[0], us[1], us[0] / us[1]);
-    fflush(stdout);
+    if (printing) printf("| %s | %zu | %.1f | %.1f | %.2f |\n", name, n, us[0], us[1], us[0] / us[1]);
 }
 
-int main(void) {
+/* One pass over all calls; status 1 if two answers differ. */
+static int all_calls(void) {
     static const size_t sizes[] = {9, 16, 32, 64};
-    printf("| Call | n | archive, µs | C, µs | archive / C |\n|---|---|---|---|---|\n");
     for (size_t k = 0; k < 4; k++) {
         n = sizes[k];
         seed(7), random_tree(n, tree);
@@ -98,6 +98,16 @@ int main(void) {
         store_fewer();
         race_both("choice", ours_choice, c_choice);
     }
-    shapes();
+    return 0;
+}
+
+int main(void) {
+    for (int pass = 0; pass < PASSES; pass++) {
+        begin_pass();
+        printing = pass == PASSES - 1;
+        if (printing) printf("| Call | n | archive, µs | C, µs | archive / C |\n|---|---|---|---|---|\n");
+        if (all_calls()) return 1;
+        shapes(printing);
+    }
     return 0;
 }

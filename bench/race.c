@@ -3,6 +3,9 @@
 
 #include <time.h>
 
+static double least[256][4]; /* of each race so far; 0 before its first turn */
+static size_t races;
+
 static double now(void) {
     struct timespec t;
     clock_gettime(CLOCK_PROCESS_CPUTIME_ID, &t);
@@ -20,11 +23,14 @@ static double turn(Call *call, double seconds) {
     return 1e6 * (end - start) / times;
 }
 
+void begin_pass(void) { races = 0; }
+
 void race(size_t count, Call *const *calls, double *microseconds) {
-    for (size_t i = 0; i < count; i++) microseconds[i] = 1e30;
-    for (int k = 0; k < 45; k++)
+    double *best = least[races++];
+    for (int k = 0; k < 5; k++)
         for (size_t i = 0; i < count; i++) {
             double x = turn(calls[i], 0.006);
-            if (x < microseconds[i]) microseconds[i] = x;
+            if (best[i] == 0 || x < best[i]) best[i] = x;
         }
+    for (size_t i = 0; i < count; i++) microseconds[i] = best[i];
 }

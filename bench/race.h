@@ -3,5 +3,11 @@
 
 typedef void Call(void);
 
-/* Microseconds a call of each: the least of 45 short turns, in processor time, so that a busy machine does little harm. */
+enum { PASSES = 12 };
+
+/* The races of a table are run in several passes, always in the same order, so that a machine that is busy for a while does little
+ * harm. Each pass begins with this. */
+void begin_pass(void);
+
+/* Microseconds a call of each, at most four: the least of five short turns in this pass and in those before it, in processor time. */
 void race(size_t count, Call *const *calls, double *microseconds);

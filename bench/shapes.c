@@ -13,6 +13,7 @@
 #include "race.h"
 #include "tables.h"
 
+static int printing;
 static size_t n, rows;
 static uint32_t table[4096], costs[125];
 static uint64_t fars[125];
@@ -52,15 +53,16 @@ static void shape(const char *name, void (*make)(size_t n, uint32_t *t), int rai
     if (raised) raise(n, table);
     compare(name);
     race(COUNT, calls, us);
+    if (!printing) return;
     printf("| %s | %zu | %.1f | %.1f | %.2f | %.1f | %.1f |", name, n, us[0], us[1], us[0] / us[1], us[2], us[2] / us[0]);
     if (COUNT > 3) printf(" %.1f | %.1f |", us[COUNT - 1], us[COUNT - 1] / us[0]);
     printf("\n");
-    fflush(stdout);
 }
 
-void shapes(void) {
+void shapes(int print) {
     static const size_t sizes[] = {9, 16, 32, 64};
-    printf("\n%s", head);
+    printing = print;
+    if (printing) printf("\n%s", head);
     for (size_t k = 0; k < 4; k++) {
         n = sizes[k];
         shape("caterpillar", caterpillar, 0);

@@ -1,2 +1,2 @@
-/* Prints the second table: the measured reading on tables of every shape. */
-void shapes(void);
+/* One pass over the second table, the measured reading on tables of every shape; printed if asked. */
+void shapes(int print);
