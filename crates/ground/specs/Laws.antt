@@ -21,3 +21,4 @@ pub mod Buffers
 pub mod Refusals
 pub mod Lowest
 pub mod Outcomes
+pub mod InOrder

@@ -3,5 +3,7 @@ pub mod FirstChecks
 pub mod BadRows
 pub mod Checks
 pub mod Links
+-- Its checks by their numbers, in order.
+pub mod InOrder
 -- What is true of them.
 pub mod Laws

@@ -4,5 +4,7 @@ pub mod Outcome
 pub mod Next
 -- What was written then, that a refused call altered nothing, and that no second answer meets the promise.
 pub mod Promises
+-- Its checks by their numbers, in order.
+pub mod InOrder
 -- What is true of it.
 pub mod Laws

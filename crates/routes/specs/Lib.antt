@@ -4,5 +4,7 @@ pub mod Outcomes
 pub mod Climbs
 -- What the promises are worth.
 pub mod Promises
+-- Its checks by their numbers, in order.
+pub mod InOrder
 -- What is true of it.
 pub mod Laws

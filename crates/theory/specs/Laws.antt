@@ -40,4 +40,5 @@ pub mod Routes
 pub mod Comparison
 -- Checks and outcomes that several calls share.
 pub mod Checks
+pub mod InOrder
 pub mod Outcomes

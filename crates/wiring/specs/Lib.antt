@@ -2,6 +2,8 @@
 pub mod Check
 pub mod Once
 pub mod Scan
+-- Its checks by their numbers, in order.
+pub mod InOrder
 -- What refusal 7 is worth.
 pub mod Promises
 -- What is true of it.

@@ -1,0 +1,36 @@
+-- The checks of a cost table by their numbers: 1, 2 and 4, 5, 6. Assumes nothing.
+use mathlib.Core.Bool.{not}
+use mathlib.Core.List.{List, [], _∷_}
+use Prim.Native.Nat.{ℕ, _*_, _+_, _-_}
+use native.Mathlib.Omega.{arith}
+use lib.Dec.{eqb, ltb}
+use lib.ListN.{length}
+use Rattle.ground.specs.InOrder.{InOrder, Step, _by_}
+use Rattle.ground.specs.Laws.InOrder.{all-only, join-order, refuse-order, refuseIf-only, step-order}
+use Rattle.ground.specs.Lowest.{checkAll}
+use Rattle.ground.specs.Refusals.{refusal}
+use Rattle.theory.specs.Checks.{imagesCheck}
+use Rattle.theory.specs.Laws.InOrder.{images-order}
+use Rattle.tables.specs.Checks.{costsCheck, diagonalCheck, entriesCheck, entryCheck, lengthCheck, mirrorCheck, sizeCheck, symmetryCheck, zeroCheck}
+
+-- 1, 2
+abbrev pub sizeSteps : ℕ → List ℕ → List Step
+sizeSteps n t = 1 by imagesCheck n ∷ 2 by lengthCheck n t ∷ []
+
+pub size-order : (n : ℕ) (t : List ℕ) → InOrder (sizeSteps n t) (sizeCheck n t)
+size-order n t = join-order (images-order n) (refuse-order (not (eqb (length t) (n * n))) (refusal 2 0 0 0 0) (omega arith))
+
+-- 4, 5, 6
+abbrev pub costsSteps : ℕ → (ℕ → ℕ → ℕ) → ℕ → List Step
+costsSteps L d n = 4 by entriesCheck L d n ∷ 5 by diagonalCheck d n ∷ 6 by symmetryCheck d n ∷ []
+
+pub costs-order : (L : ℕ) (d : ℕ → ℕ → ℕ) (n : ℕ) → InOrder (costsSteps L d n) (costsCheck L d n)
+costs-order L d n =
+    join-order
+    (step-order 4 (entriesCheck L d n) (omega arith)
+    (all-only 4 (λ i. checkAll (entryCheck L d i) 0 n) 0 n (λ i. all-only 4 (entryCheck L d i) 0 n (λ j. refuseIf-only (ltb L (d i j)) (refusal 4 (i + 1) (j + 1) 0 0)))))
+    (join-order
+    (step-order 5 (diagonalCheck d n) (omega arith) (all-only 5 (zeroCheck d) 0 n (λ i. refuseIf-only (ltb 0 (d i i)) (refusal 5 (i + 1) 0 0 0))))
+    (step-order 6 (symmetryCheck d n) (omega arith)
+    (all-only 6 (λ i. checkAll (mirrorCheck d i) (i + 1) (n - (i + 1))) 0 n
+    (λ i. all-only 6 (mirrorCheck d i) (i + 1) (n - (i + 1)) (λ j. refuseIf-only (not (eqb (d i j) (d j i))) (refusal 6 (i + 1) (j + 1) 0 0))))))

@@ -1,0 +1,26 @@
+-- The checks of the two readings by their numbers. Assumes nothing.
+use mathlib.Core.List.{List, [], _++_, _∷_}
+use Prim.Native.Nat.{ℕ, _*_, _-_}
+use native.Mathlib.Omega.{arith}
+use Rattle.ground.specs.InOrder.{InOrder, Step, _by_}
+use Rattle.ground.specs.Laws.InOrder.{join-order, refuse-order}
+use Rattle.ground.specs.Refusals.{refusal}
+use Rattle.theory.specs.Tables.{cost}
+use Rattle.tables.specs.InOrder.{costs-order, costsSteps, size-order, sizeSteps}
+use Rattle.wiring.specs.InOrder.{wiring-order, wiringSteps}
+use Rattle.tree.specs.Readings.{exactCheck, measuredCheck, roomCheck, short}
+
+-- 1, 2, 3, 4, 5, 6, where f and v are the lengths of the outputs
+abbrev pub measuredSteps : ℕ → ℕ → List ℕ → ℕ → ℕ → List Step
+measuredSteps L n t f v = sizeSteps n t ++ (3 by roomCheck n f v ∷ costsSteps L (cost t n) n)
+
+pub measured-order : (L n : ℕ) (t : List ℕ) (f v : ℕ) → InOrder (measuredSteps L n t f v) (measuredCheck L n t f v)
+measured-order L n t f v =
+    join-order (size-order n t) (join-order (refuse-order (short (2 * n - 3) f v) (refusal 3 0 0 0 0) (omega arith)) (costs-order L (cost t n) n))
+
+-- and 7
+abbrev pub exactSteps : ℕ → ℕ → List ℕ → ℕ → ℕ → List Step
+exactSteps L n t f v = measuredSteps L n t f v ++ wiringSteps (cost t n) n
+
+pub exact-order : (L n : ℕ) (t : List ℕ) (f v : ℕ) → InOrder (exactSteps L n t f v) (exactCheck L n t f v)
+exact-order L n t f v = join-order (measured-order L n t f v) (wiring-order (cost t n) n)
