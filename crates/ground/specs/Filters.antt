@@ -16,6 +16,6 @@ module _ {A : Type 0} where
   abbrev pub Each : List A → (A → Type 0) → Type 0
   Each l P = (x : A) → List·Memᴰ x l → P x
 
-  -- how many pass two tests
+  -- x passes both tests
   abbrev pub both : (A → Bool) → (A → Bool) → A → Bool
   both p q x = p x && q x

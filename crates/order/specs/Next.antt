@@ -7,7 +7,7 @@ use lib.Dec.{eqb}
 use Rattle.ground.specs.Bits.{bit}
 use Rattle.ground.specs.Folds.{fold}
 use Rattle.ground.specs.Members.{occurs}
-use Rattle.theory.specs.Order.{better, next}
+use Rattle.theory.specs.Order.{better}
 
 -- the better of w and b, and b where w is placed
 unfoldable pub turnNext : (ℕ → ℕ → ℕ) → ℕ → ℕ → ℕ → ℕ → ℕ → ℕ

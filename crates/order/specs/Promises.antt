@@ -1,6 +1,6 @@
 -- What the promise of the order call says: what an accepted call wrote, that a refused one altered nothing, and that no second
 -- answer meets it. Assumes nothing.
-use mathlib.Core.List.{List, []}
+use mathlib.Core.List.{List, [], _++_, _∷_}
 use mathlib.Core.Path.{ap, refl, sym, _∙_, _≡_}
 use Prim.Native.Nat.{suc, zero, ℕ, _-_, _≤_}
 use native.Mathlib.Omega.{arith}
@@ -18,14 +18,14 @@ use Rattle.ground.specs.declared.Written.the-variants.{Places}
 use Rattle.theory.specs.Demands.{Ordered, ordered}
 use Rattle.theory.specs.FarSides.{FarSide}
 use Rattle.theory.specs.Index.{AtLeast}
-use Rattle.theory.specs.Laws.Runs.{OneRun}
 use Rattle.theory.specs.LinkTables.{Row, allCosts}
 use Rattle.theory.specs.Order.{closed, grow, order}
+use Rattle.theory.specs.OrderRules.{IsNext, OneRun}
 use Rattle.theory.specs.Readings.{Exact}
 use Rattle.theory.specs.Tables.{cost}
-use Rattle.order.specs.Laws.Asked.{Asked, asked-passed, passed-asked}
-use Rattle.order.specs.Laws.Counted.{back-suc, counted, last-suc, occurs-suc}
-use Rattle.order.specs.Outcome.{images, orderChecks, orderOutcome}
+use Rattle.order.specs.Laws.Asked.{asked-passed, passed-asked}
+use Rattle.order.specs.Laws.Counted.{back-suc, last-suc, occurs-suc}
+use Rattle.order.specs.Outcome.{OrderAsked, counted, images, orderChecks, orderOutcome}
 use Rattle.ground.specs.declared.Written.the-variants as written
 
 -- ## The two ways out of the call
@@ -42,8 +42,8 @@ module _ (L n : ℕ) (t : List ℕ) (first last : ℕ) (o : List ℕ) where
 -- ## An accepted call
 
 -- the call found e₀ in the lent places and left e
-pub record Wrote (L n : ℕ) (t : List ℕ) (first last : ℕ) (e₀ e : List ℕ) : Type 0 where
-  pub asked : Asked L n t first last (length e₀)
+pub record OrderLeft (L n : ℕ) (t : List ℕ) (first last : ℕ) (e₀ e : List ℕ) : Type 0 where
+  pub asked : OrderAsked L n t first last (length e₀)
   -- the first n places hold the order, and the rest is as it was
   pub wrote : take n e ≡ images n t first last
   pub rest : drop n e ≡ drop n e₀
@@ -52,13 +52,16 @@ pub record Wrote (L n : ℕ) (t : List ℕ) (first last : ℕ) (e₀ e : List �
   pub once : (i : ℕ) → 1 ≤ i → i ≤ n → occurs i (take n e) ≡ 1
   pub from : getD e 0 0 ≡ first
   pub to : getD e (n - 1) 0 ≡ last
+  -- built from the end: each image is the one not yet placed, other than first, with the least d(x,w) - d(first,w), where x stands behind it;
+  -- the lowest number on a tie
+  pub rule : (a : List ℕ) (w x : ℕ) (l : List ℕ) → counted n e ≡ (first - 1) ∷ (a ++ (w ∷ x ∷ l)) → IsNext (cost t n) (first - 1) x (x ∷ l) n w
   -- every division with index above 0 is a run of neighbours
   pub runs : (S : ℕ) → FarSide n S → AtLeast (cost t n) n (bit S) 1 → OneRun S (first - 1) (counted n e)
   -- on an accepted table the closed sum is the sum of all doubled costs
   pub sums : (T : List Row) → Exact L (cost t n) n T → closed (cost t n) (counted n e) ≡ allCosts T
 
 module _ (L n : ℕ) (t : List ℕ) (first last : ℕ) (e₀ : List ℕ) where
-  front-wrote : Asked L n t first last (length e₀) → (e : List ℕ) → e ≡ front (images n t first last) e₀ → Wrote L n t first last e₀ e
+  front-wrote : OrderAsked L n t first last (length e₀) → (e : List ℕ) → e ≡ front (images n t first last) e₀ → OrderLeft L n t first last e₀ e
   front-wrote a e q = record {
     asked = a;
     wrote = wrote;
@@ -67,6 +70,7 @@ module _ (L n : ℕ) (t : List ℕ) (first last : ℕ) (e₀ : List ℕ) where
     once = λ i l h. rw wrote (once i l h);
     from = rw q (omega (arith, a .first-low));
     to = sym (getD-take n e (n - 1) 0 (omega (arith, a .table .some))) ∙ ap (λ (z : List ℕ). getD z (n - 1) 0) wrote ∙ to;
+    rule = λ a w x l q. all .rule a w x l (sym counted-is ∙ q);
     runs = λ S s p. rw counted-is (all .runs S s p);
     sums = λ T x. rw counted-is (all .sums T x);
   }
@@ -108,16 +112,16 @@ module _ (L n : ℕ) (t : List ℕ) (first last : ℕ) (e₀ : List ℕ) where
   -- ## The laws of the promise
 
   -- asked for what may be asked, it accepts
-  pub order-accepted : (r : Written) (e : List ℕ) → Left (orderOutcome L n t first last e₀) r e → Asked L n t first last (length e₀) → r ≡ Places n
+  pub order-accepted : (r : Written) (e : List ℕ) → Left (orderOutcome L n t first last e₀) r e → OrderAsked L n t first last (length e₀) → r ≡ Places n
   order-accepted r e p a = p .answered ∙ rw (asked-passed L n t first last (length e₀) a)
 
   -- accepted, it was asked for that, answers n and wrote the order
   pub order-wrote : (r : Written) (e : List ℕ) (count : ℕ) → Left (orderOutcome L n t first last e₀) r e → r ≡ Places count
-      → (count ≡ n) × Wrote L n t first last e₀ e
+      → (count ≡ n) × OrderLeft L n t first last e₀ e
   order-wrote r e count p z = go (orderChecks L n t first last (length e₀)) refl p
     where
       go : (c : Check) → orderChecks L n t first last (length e₀) ≡ c → Left (orderOutcome L n t first last e₀) r e
-          → (count ≡ n) × Wrote L n t first last e₀ e
+          → (count ≡ n) × OrderLeft L n t first last e₀ e
       go Passed s p = let w = rw s at (p .answered) in (cc, front-wrote (passed-asked L n t first last (length e₀) s) e (rw s at (p .left)))
       go (Refused q) s p = absurd (let w = rw s at (p .answered) in let y : _≡_ {A = ℕ} 0 1 = cc in omega arith)
 

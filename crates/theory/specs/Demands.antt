@@ -1,29 +1,29 @@
 -- The demands of the two readings and of the order, each as one theorem: what a reader of the demands looks for, and what the
 -- crates above cite. Assumes nothing.
-use mathlib.Core.List.{List, []}
+use mathlib.Core.List.{List, [], _++_, _∷_}
 use mathlib.Core.Logic.{_↔_}
 use mathlib.Core.Path.{_≡_}
 use Prim.Native.Nat.{suc, zero, ℕ, _*_, _+_, _<_, _≤_}
 use native.Mathlib.Omega.{arith}
 use lib.ListN.{length}
 use Rattle.ground.specs.Bits.{bit}
-use Rattle.ground.specs.Filters.{filter}
 use Rattle.theory.specs.FarSides.{FarSide}
-use Rattle.theory.specs.FourPoint.{FourPoint, failing, fails, fours₁}
+use Rattle.theory.specs.FourPoint.{FourPoint, failing}
 use Rattle.theory.specs.Index.{AtLeast, clipped}
 use Rattle.theory.specs.Laws.ClosedSum.{closed-sum}
-use Rattle.theory.specs.Laws.ImageOne.{image-one}
 use Rattle.theory.specs.Laws.OneTree.{measured-tree}
 use Rattle.theory.specs.Laws.OnlyOne.{exact-exists, exact-is}
 use Rattle.theory.specs.Laws.Ring.{one-run}
 use Rattle.theory.specs.Laws.RowCount.{row-count}
-use Rattle.theory.specs.Laws.Runs.{OneRun, one-run-list}
+use Rattle.theory.specs.Laws.Runs.{one-run-list}
 use Rattle.theory.specs.Laws.Sorted.{none-failing}
 use Rattle.theory.specs.Laws.Stable.{cost-near, measured-cost}
 use Rattle.theory.specs.Laws.Under.{measured-under}
+use Rattle.theory.specs.Laws.NextLeft.{next-left}
 use Rattle.theory.specs.Laws.Walk.{order-all}
 use Rattle.theory.specs.LinkTables.{LinkTable, Row, allCosts, costOf, path}
 use Rattle.theory.specs.Order.{AllOnce, closed, order}
+use Rattle.theory.specs.OrderRules.{IsNext, OneRun}
 use Rattle.theory.specs.Readings.{Exact, Near, measured}
 use Rattle.theory.specs.Tables.{WellFormed}
 
@@ -42,8 +42,6 @@ one-tree L n T h t = let c = row-count L n T h t in record { tree = t; least = c
 pub record ExactReading (L : ℕ) (d : ℕ → ℕ → ℕ) (n : ℕ) : Type 0 where
   -- no four images in ascending order fail exactly when the four-point condition holds
   pub scanned : (failing d n ≡ []) ↔ FourPoint d n
-  -- the fours that begin with image 0 decide it already (Law G)
-  pub first-enough : filter (fails d) (fours₁ n 0) ≡ [] → FourPoint d n
   -- the condition holds exactly when some link table has path costs equal to twice the entries
   pub accepted : FourPoint d n ↔ ((T : List Row) × Exact L d n T)
   -- the answer is that table: only one exists, and on an accepted table both readings agree
@@ -55,7 +53,6 @@ exact-reading L d (suc zero) h c = absurd (omega arith)
 exact-reading L d (suc (suc k)) h c =
     record {
       scanned = none-failing L d (suc (suc k)) c;
-      first-enough = image-one L d (suc (suc k)) c;
       accepted = exact-exists L d k c;
       answer = exact-is L d k c;
     }
@@ -99,6 +96,9 @@ stable L D d e n T h c c′ x p = record { near = λ S f. cost-near L D d e n T 
 pub record Ordered (L : ℕ) (d : ℕ → ℕ → ℕ) (n f last : ℕ) : Type 0 where
   -- all images once, first and last at the ends
   pub images : AllOnce n f last (order d n f last)
+  -- built from the end: wherever w stands to the left of x, behind first, it is the one not yet placed, other than first, with the least
+  -- d(x,w) - d(first,w), the lowest number on a tie
+  pub rule : (a : List ℕ) (w x : ℕ) (l : List ℕ) → order d n f last ≡ f ∷ (a ++ (w ∷ x ∷ l)) → IsNext d f x (x ∷ l) n w
   -- every division with index above 0 is a run of neighbours on the ring
   pub runs : (S : ℕ) → FarSide n S → AtLeast d n (bit S) 1 → OneRun S f (order d n f last)
   -- on an accepted table the closed sum is the sum of all doubled costs
@@ -107,6 +107,7 @@ pub record Ordered (L : ℕ) (d : ℕ → ℕ → ℕ) (n f last : ℕ) : Type 0
 pub ordered : (L : ℕ) (d : ℕ → ℕ → ℕ) (n f last : ℕ) → WellFormed L d n → f < n → last < n → (f ≡ last → ⊥) → Ordered L d n f last
 ordered L d n f last c hf hl ne = record {
   images = order-all d n f hf last hl ne;
+  rule = next-left d n f hf last hl ne;
   runs = λ S s p. one-run-list S f _ (one-run L d n c f hf S s p last hl ne);
   sums = λ T x. closed-sum L d n T c x f last hf hl ne;
 }

@@ -8,12 +8,12 @@ use Rattle.ground.specs.Filters.{filter}
 use Rattle.ground.specs.Ranges.{from, gather}
 
 -- how often the largest of three numbers occurs among them
-abbrev pub largest : ℕ → ℕ → ℕ → ℕ
-largest x y z = one-if (eqb x (max x (max y z))) + one-if (eqb y (max x (max y z))) + one-if (eqb z (max x (max y z)))
+abbrev pub timesLargest : ℕ → ℕ → ℕ → ℕ
+timesLargest x y z = one-if (eqb x (max x (max y z))) + one-if (eqb y (max x (max y z))) + one-if (eqb z (max x (max y z)))
 
 -- for all images i, j, k, l, repeats allowed, of the three sums the largest occurs at least twice
 pub record FourPoint (d : ℕ → ℕ → ℕ) (n : ℕ) : Type 0 where
-  pub twice : {i j k l : ℕ} → i < n → j < n → k < n → l < n → 2 ≤ largest (d i j + d k l) (d i k + d j l) (d i l + d j k)
+  pub twice : {i j k l : ℕ} → i < n → j < n → k < n → l < n → 2 ≤ timesLargest (d i j + d k l) (d i k + d j l) (d i l + d j k)
 
 -- four images
 pub record Four : Type 0 where
@@ -41,7 +41,7 @@ fours n = gather (from 0 n) (fours₁ n)
 -- the largest sum of these four occurs once only
 abbrev pub fails : (ℕ → ℕ → ℕ) → Four → Bool
 fails d q =
-    ltb (largest (d (q .first) (q .second) + d (q .third) (q .fourth)) (d (q .first) (q .third) + d (q .second) (q .fourth)) (d (q .first) (q .fourth) + d (q .second) (q .third))) 2
+    ltb (timesLargest (d (q .first) (q .second) + d (q .third) (q .fourth)) (d (q .first) (q .third) + d (q .second) (q .fourth)) (d (q .first) (q .fourth) + d (q .second) (q .third))) 2
 
 -- those that fail, in dictionary order: no wiring, and the first of them shows why
 abbrev pub failing : (ℕ → ℕ → ℕ) → ℕ → List Four

@@ -31,6 +31,7 @@ pub mod Stable
 -- The order around the tree.
 pub mod Next
 pub mod Walk
+pub mod NextLeft
 pub mod Ring
 pub mod ClosedSum
 pub mod Runs

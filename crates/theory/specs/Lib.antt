@@ -8,6 +8,7 @@ pub mod Routes
 pub mod Index
 pub mod Readings
 pub mod Order
+pub mod OrderRules
 pub mod Comparison
 -- How the code gets there: one image more at a time.
 pub mod OneMore

@@ -1,15 +1,12 @@
--- How code writes a lent buffer place by place, lends its rest, and fills a local array. Assumes nothing.
+-- How code writes a lent buffer place by place, and lends its rest. Assumes nothing.
 use mathlib.Core.List.{List, [], append-nil, _++_, _∷_}
-use mathlib.Core.Path.{ap, refl, _∙_, _≡_}
+use mathlib.Core.Path.{ap, refl, _≡_}
 use Prim.Native.Nat.{suc, zero, ℕ, _+_, _-_, _<_, _≤_}
 use native.Mathlib.Numerals.{add-one}
 use native.Mathlib.Omega.{arith}
-use lib.Dec.{eqb}
-use lib.ListN.{drop, drop-of-length-le, getD, length, length-drop, length-set, set, take}
-use lib.Seq.{getD-set-other, getD-set-same, sets, sets-eq, take-all}
-use borrow.Author.Tests.{eqb-false, eqb-true}
-use borrow.Table.Steps.{cases}
-use Rattle.ground.specs.Buffers.{Filled, front, over}
+use lib.ListN.{drop, drop-of-length-le, getD, length, length-drop, set, take}
+use lib.Seq.{sets, sets-eq, take-all}
+use Rattle.ground.specs.Buffers.{front, over}
 
 -- ## The loop that writes place by place: before it, one place more, after it
 
@@ -48,17 +45,3 @@ rest-part b at = take-all (length b - at) (drop at b) (omega (arith, length-drop
 
 pub rest-put : (b m : List ℕ) (at : ℕ) → take at b ++ (m ++ drop (length b - at) (drop at b)) ≡ take at b ++ m
 rest-put b m at = rw (drop-of-length-le (drop at b) {i = length b - at} (omega (arith, length-drop at b)), append-nil m)
-
-pub filled-none : (f : ℕ → ℕ) (p : List ℕ) → Filled f 0 p
-filled-none f p = record { room = omega arith; holds = λ i h. absurd (omega arith) }
-
-pub filled-more : (f : ℕ → ℕ) (n v : ℕ) (p : List ℕ) → n < length p → v ≡ f n → Filled f n p → Filled f (n + 1) (set p n v)
-filled-more f n v p h e q = record {
-  room = simp length-set (omega arith);
-  holds = λ i l. cases (eqb i n)
-      (λ t. let s = eqb-true i n t in rw s (getD-set-same p n v 0 h ∙ e))
-      (λ t. getD-set-other p n i v 0 (eqb-false i n t) ∙ q .holds i (omega (arith, eqb-false i n t)));
-}
-
-pub filled-end : (f : ℕ → ℕ) (i n : ℕ) (p : List ℕ) → i ≤ n → n ≤ i → Filled f i p → Filled f n p
-filled-end f i n p l g q = let e : i ≡ n = omega arith in rw (← e) q

@@ -46,10 +46,6 @@ count-within p M lo (suc N) hi h =
     (λ e. rw e (omega (arith, h N (omega arith) e, count-within p M lo N (M + N) (λ t l f. (h t (omega arith) f .0, omega arith)))))
     (λ e. rw e (omega (arith, count-within p M lo N hi (λ t l f. h t (omega arith) f))))
 
-pub count-most : (N : ℕ) (p : ℕ → Bool) → count N p ≤ N
-count-most zero p = omega arith
-count-most (suc N) p = cases (p N) (λ e. rw e (omega (arith, count-most N p))) (λ e. rw e (omega (arith, count-most N p)))
-
 pub sum-mem : (x : ℕ) (l : List ℕ) → List·Memᴰ x l → 1 ≤ sum l (λ y. one-if (eqb x y))
 sum-mem x (y ∷ l) (List·Memᴰ·head e) = rw (eq-eqb x y e) (omega arith)
 sum-mem x (y ∷ l) (List·Memᴰ·tail m) = omega (arith, sum-mem x l m)

@@ -44,13 +44,6 @@ first-below bad (suc n) k l =
     go zero e l ih = e
     go (suc k) e l ih = ih k (omega arith)
 
-pub first-at : (bad : ℕ → Bool) (n : ℕ) → first bad n < n → bad (first bad n) ≡ true
-unfolding first
-first-at bad zero l = absurd (omega arith)
-first-at bad (suc n) l =
-    let ih = first-at (λ k. bad (suc k)) n in
-    cases (bad zero) (λ e. rw e e) (λ e. let z = rw e at l in rw e (ih (omega arith)))
-
 -- nothing was found
 pub first-all : (bad : ℕ → Bool) (n : ℕ) → ltb (first bad n) n ≡ false → NoneBelow bad n
 first-all bad n e k l = first-below bad n k (omega (arith, ltb-false (first bad n) n e))

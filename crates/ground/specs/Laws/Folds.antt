@@ -1,6 +1,6 @@
 -- How a loop that counts up meets the definition of what it carries. Assumes nothing.
 use mathlib.Core.Path.{refl, _≡_}
-use Prim.Native.Nat.{suc, zero, ℕ, _+_, _<_, _≤_}
+use Prim.Native.Nat.{ℕ, _+_, _≤_}
 use native.Mathlib.Numerals.{add-one}
 use native.Mathlib.Omega.{arith}
 use Rattle.ground.specs.Folds.{fold}
@@ -17,9 +17,3 @@ fold-more step n acc b r e f = rw (add-one, ← e) f
 
 pub fold-end : (step : ℕ → ℕ → ℕ) (i n acc b : ℕ) → i ≤ n → n ≤ i → b ≡ fold step i acc → b ≡ fold step n acc
 fold-end step i n acc b l g e = let q : i ≡ n = omega arith in rw (← q) e
-
--- what every step keeps, the fold has
-pub fold-keeps : (P : ℕ → Type 0) (step : ℕ → ℕ → ℕ) (n acc : ℕ) → P acc → ((i b : ℕ) → i < n → P b → P (step i b)) → P (fold step n acc)
-unfolding fold
-fold-keeps P step zero acc p h = p
-fold-keeps P step (suc n) acc p h = h n _ (omega arith) (fold-keeps P step n acc p (λ i b l. h i b (omega arith)))

@@ -9,7 +9,6 @@ use Rattle.ground.specs.Laws.Tests.{or-false}
 use Rattle.ground.specs.declared.Check.{Check}
 use Rattle.ground.specs.declared.Check.the-variants.{Passed, Refused}
 use Rattle.ground.specs.declared.Refusal.{Refusal}
-use Rattle.ground.specs.declared.Answer.the-variants as answer
 use Rattle.ground.specs.Refusals.{_then_, ifPassed, outside, refuseIf}
 
 -- ## How code that stops at the first refusal meets such a chain

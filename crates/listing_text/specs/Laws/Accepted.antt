@@ -25,8 +25,7 @@ use Rattle.links.specs.Laws.LinkChecks.{rows-length}
 use Rattle.routes.specs.Outcomes.{upperOutcome}
 use Rattle.routes.specs.Promises.{upper-answer}
 use Rattle.routes.specs.Laws.UpperRows.{uppers-length}
-use Rattle.order.specs.Laws.Asked.{Asked}
-use Rattle.order.specs.Outcome.{images, orderOutcome}
+use Rattle.order.specs.Outcome.{OrderAsked, images, orderOutcome}
 use Rattle.order.specs.Promises.{order-accepted, order-wrote}
 use Rattle.tree.specs.Promises.{exact-answer}
 use Rattle.tree.specs.Readings.{exactCheck, exactOutcome, outcome}
@@ -49,7 +48,7 @@ uppers-left n l v o e r t h p =
     let k = upper-answer limit n (length l) l v o (record { table = t; spare = omega (arith, t .few) }) in
     ap (take (length l)) (p .left ∙ ap (λ (w : Outcome Written). w .places) k) ∙ take-at (uppers l) _ (length l) (uppers-length 1 l)
 
-pub order-asked : (n : ℕ) (t o : List ℕ) → CostTable limit n t → 64 ≤ length o → Asked limit n t 1 n (length o)
+pub order-asked : (n : ℕ) (t o : List ℕ) → CostTable limit n t → 64 ≤ length o → OrderAsked limit n t 1 n (length o)
 order-asked n t o c h = record {
   table = c;
   space = omega (arith, c .few);

@@ -3,30 +3,20 @@ use mathlib.Core.Bool.{_||_}
 use mathlib.Core.List.{List}
 use mathlib.Core.Logic.{_↔_}
 use mathlib.Core.Path.{_≡_}
-use Prim.Native.Nat.{ℕ, _≤_}
+use Prim.Native.Nat.{ℕ}
 use lib.Dec.{eqb, ltb}
 use borrow.Author.Tests.{eqb-false, le-ltb, ltb-false, ne-eqb}
 use Rattle.ground.specs.Refusals.{outside, roomCheck, _then_}
 use Rattle.ground.specs.Laws.Refusals.{outside-false, refuseIf-passed, then-passed}
 use Rattle.ground.specs.Laws.Tests.{or-false}
 use Rattle.ground.specs.declared.Check.the-variants.{Passed}
-use Rattle.theory.specs.Tables.{CostTable, cost}
+use Rattle.theory.specs.Tables.{cost}
 use Rattle.tables.specs.Checks.{costsCheck, sizeCheck}
 use Rattle.tables.specs.Laws.Formed.{cost-table}
-use Rattle.order.specs.Outcome.{badEnds, endsCheck, orderChecks}
-
--- a cost table, room for n places, and first and last two different images of 1 to n
-pub record Asked (L n : ℕ) (t : List ℕ) (first last room : ℕ) : Type 0 where
-  pub table : CostTable L n t
-  pub space : n ≤ room
-  pub first-low : 1 ≤ first
-  pub first-high : first ≤ n
-  pub last-low : 1 ≤ last
-  pub last-high : last ≤ n
-  pub differ : first ≡ last → ⊥
+use Rattle.order.specs.Outcome.{OrderAsked, badEnds, endsCheck, orderChecks}
 
 module _ (L n : ℕ) (t : List ℕ) (first last room : ℕ) where
-  pub passed-asked : orderChecks L n t first last room ≡ Passed → Asked L n t first last room
+  pub passed-asked : orderChecks L n t first last room ≡ Passed → OrderAsked L n t first last room
   unfolding orderChecks
   passed-asked e =
       let p = then-passed (sizeCheck n t) (roomCheck n room then costsCheck L (cost t n) n then endsCheck n first last) e in
@@ -46,7 +36,7 @@ module _ (L n : ℕ) (t : List ℕ) (first last room : ℕ) where
         differ = eqb-false first last (b .1);
       }
 
-  pub asked-passed : Asked L n t first last room → orderChecks L n t first last room ≡ Passed
+  pub asked-passed : OrderAsked L n t first last room → orderChecks L n t first last room ≡ Passed
   unfolding orderChecks
   asked-passed a =
       let p = then-passed (sizeCheck n t) (costsCheck L (cost t n) n) (cost-table L n t .1 (a .table)) in
@@ -61,5 +51,5 @@ module _ (L n : ℕ) (t : List ℕ) (first last room : ℕ) where
         ne-eqb first last (a .differ),
       )
 
-  pub asked : (orderChecks L n t first last room ≡ Passed) ↔ Asked L n t first last room
+  pub asked : (orderChecks L n t first last room ≡ Passed) ↔ OrderAsked L n t first last room
   asked = (passed-asked, asked-passed)

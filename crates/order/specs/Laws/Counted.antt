@@ -4,7 +4,7 @@ use mathlib.Core.Path.{ap, ap₂, refl, _≡_}
 use Prim.Native.Nat.{suc, ℕ, _-_}
 use native.Mathlib.Omega.{arith}
 use lib.Dec.{eqb}
-use lib.ListN.{getD, length, take}
+use lib.ListN.{getD, length}
 use borrow.Author.Tests.{eq-eqb, eqb-false, eqb-true, ne-eqb}
 use borrow.Table.Steps.{cases}
 use Rattle.ground.specs.Members.{occurs}
@@ -25,7 +25,3 @@ last-suc x (y ∷ l) = last-suc y l
 pub back-suc : (l : List ℕ) → map (λ i. i - 1) (map suc l) ≡ l
 back-suc [] = refl
 back-suc (x ∷ l) = let e : suc x - 1 ≡ x = omega arith in ap₂ _∷_ e (back-suc l)
-
--- the images at the first n places of e, counted from 0
-abbrev pub counted : ℕ → List ℕ → List ℕ
-counted n e = map (λ i. i - 1) (take n e)

@@ -13,8 +13,9 @@ use Rattle.ground.specs.Bits.{bit}
 use Rattle.ground.specs.Laws.Bits.{bit-none, bit-or, bit-pow, bit-pow-other}
 use Rattle.ground.specs.Folds.{fold}
 use Rattle.ground.specs.Members.{occurs}
-use Rattle.theory.specs.Laws.Next.{Least, None, next-is}
+use Rattle.theory.specs.Laws.Next.{None, next-is}
 use Rattle.theory.specs.Order.{better, next}
+use Rattle.theory.specs.OrderRules.{IsNext}
 use Rattle.order.specs.Next.{Marks, nextLeft, turnNext}
 
 pub turn-lt : (d : ℕ → ℕ → ℕ) (f x placed w b n : ℕ) → w < n → b < n → turnNext d f x placed w b < n
@@ -49,6 +50,6 @@ next-marked d f x placed l h (suc m) = rw (next-marked d f x placed l h m, h .to
 pub next-lt : (d : ℕ → ℕ → ℕ) (f x : ℕ) (l : List ℕ) (n : ℕ) → f < n → next d f x l n < n
 next-lt d f x l n h = go (next-is d f x l n)
   where
-    go : ((next d f x l n ≡ f) × None d f x l n) ⊎ Least d f x l n (next d f x l n) → next d f x l n < n
+    go : ((next d f x l n ≡ f) × None d f x l n) ⊎ IsNext d f x l n (next d f x l n) → next d f x l n < n
     go (inl r) = omega (arith, r .0)
     go (inr r) = r .below

@@ -6,7 +6,7 @@ use native.Mathlib.Omega.{arith}
 use lib.Dec.{eqb, leb}
 use borrow.Author.Tests.{eq-eqb, eqb-false, eqb-true, leb-false, leb-true, ne-eqb}
 use borrow.Table.Steps.{cases}
-use Rattle.theory.specs.FourPoint.{FourPoint, largest}
+use Rattle.theory.specs.FourPoint.{FourPoint, timesLargest}
 use Rattle.theory.specs.Tables.{WellFormed}
 
 pub well-formed-less : (L : ℕ) (d : ℕ → ℕ → ℕ) (m n : ℕ) → m ≤ n → WellFormed L d n → WellFormed L d m
@@ -17,7 +17,7 @@ well-formed-less L d m n h c = record {
 }
 
 -- the same, as none being above both others
-pub none-above : (x y z : ℕ) → 2 ≤ largest x y z → x ≤ max y z
+pub none-above : (x y z : ℕ) → 2 ≤ timesLargest x y z → x ≤ max y z
 none-above x y z h =
     cases (eqb x (max x (max y z)))
     (λ e. cases (eqb y (max x (max y z))) (λ f. omega (arith, eqb-true x (max x (max y z)) e, eqb-true y (max x (max y z)) f))
@@ -25,7 +25,7 @@ none-above x y z h =
     (λ g. absurd (let r = rw (e, f, g) at h in omega arith))))
     (λ e. omega (arith, eqb-false x (max x (max y z)) e))
 
-pub none-above₂ : (x y z : ℕ) → 2 ≤ largest x y z → y ≤ max x z
+pub none-above₂ : (x y z : ℕ) → 2 ≤ timesLargest x y z → y ≤ max x z
 none-above₂ x y z h =
     cases (leb y (max x z)) (λ a. leb-true y (max x z) a)
     (λ a.
@@ -33,7 +33,7 @@ none-above₂ x y z h =
     let r = rw (ne-eqb x (max x (max y z)) (λ e. omega arith), ne-eqb z (max x (max y z)) (λ e. omega arith), eq-eqb y (max x (max y z)) (omega arith)) at h in
     absurd (omega arith))
 
-pub none-above₃ : (x y z : ℕ) → 2 ≤ largest x y z → z ≤ max x y
+pub none-above₃ : (x y z : ℕ) → 2 ≤ timesLargest x y z → z ≤ max x y
 none-above₃ x y z h =
     cases (leb z (max x y)) (λ a. leb-true z (max x y) a)
     (λ a.
@@ -41,24 +41,24 @@ none-above₃ x y z h =
     let r = rw (ne-eqb x (max x (max y z)) (λ e. omega arith), ne-eqb y (max x (max y z)) (λ e. omega arith), eq-eqb z (max x (max y z)) (omega arith)) at h in
     absurd (omega arith))
 
-pub above-none : (x y z : ℕ) → x ≤ max y z → y ≤ max x z → z ≤ max x y → 2 ≤ largest x y z
+pub above-none : (x y z : ℕ) → x ≤ max y z → y ≤ max x z → z ≤ max x y → 2 ≤ timesLargest x y z
 above-none x y z p q r =
     cases (eqb x y) (λ e. by-two (eqb-true x y e))
     (λ e. cases (eqb x z) (λ f. let s = eqb-true x z f in
     rw (eq-eqb x (max x (max y z)) (omega arith), eq-eqb z (max x (max y z)) (omega arith)) (omega arith))
     (λ f. rw (eq-eqb y (max x (max y z)) (omega (arith, eqb-false x y e, eqb-false x z f)), eq-eqb z (max x (max y z)) (omega (arith, eqb-false x y e, eqb-false x z f))) (omega arith)))
   where
-    by-two : x ≡ y → 2 ≤ largest x y z
+    by-two : x ≡ y → 2 ≤ timesLargest x y z
     by-two s = rw (eq-eqb x (max x (max y z)) (omega arith), eq-eqb y (max x (max y z)) (omega arith)) (omega arith)
 
 -- the order of the three plays no part
-pub largest-right : (x y z : ℕ) → 2 ≤ largest x y z → 2 ≤ largest x z y
+pub largest-right : (x y z : ℕ) → 2 ≤ timesLargest x y z → 2 ≤ timesLargest x z y
 largest-right x y z h = above-none x z y (omega (arith, none-above x y z h)) (none-above₃ x y z h) (none-above₂ x y z h)
 
-pub largest-left : (x y z : ℕ) → 2 ≤ largest x y z → 2 ≤ largest y x z
+pub largest-left : (x y z : ℕ) → 2 ≤ timesLargest x y z → 2 ≤ timesLargest y x z
 largest-left x y z h = above-none y x z (none-above₂ x y z h) (none-above x y z h) (omega (arith, none-above₃ x y z h))
 
-pub largest-same : (x y z x′ y′ z′ : ℕ) → x ≡ x′ → y ≡ y′ → z ≡ z′ → 2 ≤ largest x y z → 2 ≤ largest x′ y′ z′
+pub largest-same : (x y z x′ y′ z′ : ℕ) → x ≡ x′ → y ≡ y′ → z ≡ z′ → 2 ≤ timesLargest x y z → 2 ≤ timesLargest x′ y′ z′
 largest-same x y z x′ y′ z′ p q r h =
     above-none x′ y′ z′ (omega (arith, none-above x y z h)) (omega (arith, none-above₂ x y z h)) (omega (arith, none-above₃ x y z h))
 

@@ -13,7 +13,7 @@ use Rattle.ground.specs.Laws.Least.{le-leastOn, leastOn-cap, leastOn-le}
 use Rattle.theory.specs.Index.{gain, shifted}
 use Rattle.theory.specs.Laws.Index.{le-shifted, shifted-cap, shifted-le}
 use Rattle.theory.specs.Tables.{WellFormed}
-use Rattle.theory.specs.OneMore.{brought, more, pairing}
+use Rattle.theory.specs.OneMore.{brought, pairing}
 
 module _ (L : ℕ) (d : ℕ → ℕ → ℕ) (k : ℕ) (s : ℕ → ℕ) where
   pub brought-le : {a b b′ : ℕ} → On (suc k) s (s k) a → On k s (1 - s k) b → On k s (1 - s k) b′ → brought L d k s ≤ pairing L d k a b b′

@@ -19,7 +19,7 @@ use Rattle.theory.specs.FarSides.{FarSide, holds}
 use Rattle.theory.specs.FourPoint.{FourPoint}
 use Rattle.theory.specs.Laws.FourPoint.{NoneAbove, four-point}
 use Rattle.theory.specs.Laws.Nested.{Uncrossed, nested-uncrossed}
-use Rattle.theory.specs.LinkTables.{LinkTable, Row, apart, costs, far, fars, path}
+use Rattle.theory.specs.LinkTables.{LinkTable, Row, apart, far, fars, path}
 use Rattle.theory.specs.Readings.{Meets}
 
 pub path-same : (T : List Row) (i j : ℕ) → path T i j ≡ path T j i

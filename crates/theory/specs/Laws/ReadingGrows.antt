@@ -1,6 +1,6 @@
 -- The algorithm (C3): the measured reading of one image more from the measured reading that is there.
 -- Assumes nothing.
-use mathlib.Core.List.{[], map, map-map, _++_, _∷_}
+use mathlib.Core.List.{map, map-map, _++_, _∷_}
 use mathlib.Core.Path.{ap, ap₂, refl, sym, _∙_, _≡_}
 use Prim.Native.Nat.{suc, ℕ, _*_, _+_, _<_, _^_}
 use native.Mathlib.Omega.{arith}
@@ -55,7 +55,3 @@ module _ (L : ℕ) (d : ℕ → ℕ → ℕ) (k : ℕ) (c : WellFormed L d (suc 
       ap (map (row L d n)) (rows-step L d k c)
       ∙ map-append (row L d n) (filter (drawn L d n) (rows L d (suc k))) (2 ^ suc k ∷ map (λ S. 2 ^ suc k + S) (filter (drawnFar L d k c) (rows L d (suc k))))
       ∙ ap₂ _++_ (sym outside) (ap₂ _∷_ (sym more-own) (sym inside))
-
--- over one image there is no division, and so no row
-pub measured-start : (L : ℕ) (d : ℕ → ℕ → ℕ) → measured L d 1 ≡ []
-measured-start L d = refl

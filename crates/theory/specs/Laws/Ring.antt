@@ -19,10 +19,10 @@ use Rattle.theory.specs.Index.{AtLeast}
 use Rattle.theory.specs.Laws.Divisions.{stay-far, stay-near}
 use Rattle.theory.specs.Laws.FarSides.{far-image}
 use Rattle.theory.specs.Laws.Nested.{bit-holds, bit-holds-not, holds-false, holds-true}
-use Rattle.theory.specs.Laws.Next.{Least}
 use Rattle.theory.specs.Laws.Walk.{End, Placed, grow-end, placed-full, start}
 use Rattle.theory.specs.LinkTables.{apart}
 use Rattle.theory.specs.Order.{along, closed, free, grow, order}
+use Rattle.theory.specs.OrderRules.{IsNext}
 use Rattle.theory.specs.Tables.{WellFormed}
 
 -- 1 for neighbours that S parts
@@ -80,7 +80,7 @@ module _ (L : ℕ) (d : ℕ → ℕ → ℕ) (n : ℕ) (c : WellFormed L d n) (f
   away-other : (u w : ℕ) → away u ≡ true → away w ≡ false → eqb u w ≡ false
   away-other u w a b = ne-eqb u w (λ e. true≢false (sym a ∙ ap away e ∙ b))
 
-  step : (x w : ℕ) (l : List ℕ) → Placed n f x l → Least d f x (x ∷ l) n w → Stage x l → Stage w (x ∷ l)
+  step : (x w : ℕ) (l : List ℕ) → Placed n f x l → IsNext d f x (x ∷ l) n w → Stage x l → Stage w (x ∷ l)
   step x w l q r (before a t h) =
       cases (away w)
       (λ e. within e (omega (arith, turn-away S f w x, ap one-if (ap₂ one-of e a))))

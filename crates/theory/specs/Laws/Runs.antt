@@ -13,6 +13,7 @@ use Rattle.ground.specs.Tests.{one-of}
 use Rattle.theory.specs.Laws.Ring.{away-self, turn, turn-away, turn-back}
 use Rattle.theory.specs.LinkTables.{apart}
 use Rattle.theory.specs.Order.{along, closed}
+use Rattle.theory.specs.OrderRules.{OneRun}
 
 module _ (S f : ℕ) where
   abbrev away : ℕ → Bool
@@ -47,17 +48,7 @@ module _ (S f : ℕ) where
         all-back = rest-out y l t (omega (arith, turn-away S f x y, ap one-if (ap₂ one-of a t)));
       })
 
-  -- f's group, the other group, f's group again
-  pub record OneRun (l : List ℕ) : Type 0 where
-    pub before : List ℕ
-    pub run : List ℕ
-    pub after : List ℕ
-    pub is : l ≡ before ++ (run ++ after)
-    pub all-before : Each before (λ i. away i ≡ false)
-    pub all-run : Each run (λ i. away i ≡ true)
-    pub all-after : Each after (λ i. away i ≡ false)
-
-  passed-twice : (x : ℕ) (l : List ℕ) → away x ≡ false → along (turn S) f x l ≡ 2 → OneRun (x ∷ l)
+  passed-twice : (x : ℕ) (l : List ℕ) → away x ≡ false → along (turn S) f x l ≡ 2 → OneRun S f (x ∷ l)
   passed-twice x [] a e = absurd (omega (arith, turn-back S f x, ap one-if a))
   passed-twice x (y ∷ l) a e =
       cases (away y)
@@ -66,5 +57,5 @@ module _ (S f : ℕ) where
       (λ t. let r = passed-twice y l t (omega (arith, turn-away S f x y, ap one-if (ap₂ one-of a t))) in
       record { before = x ∷ r .before; run = r .run; after = r .after; is = ap (λ z. x ∷ z) (r .is); all-before = each-cons _ x (r .before) a (r .all-before); all-run = r .all-run; all-after = r .all-after })
 
-  pub one-run-list : (l : List ℕ) → closed (turn S) (f ∷ l) ≡ 2 → OneRun (f ∷ l)
+  pub one-run-list : (l : List ℕ) → closed (turn S) (f ∷ l) ≡ 2 → OneRun S f (f ∷ l)
   one-run-list l e = passed-twice f l (away-self S f) e

@@ -13,7 +13,7 @@ use Rattle.ground.specs.Laws.Filters.{filter-none, none-in}
 use Rattle.ground.specs.Laws.Maps.{map-mem, mem-map}
 use Rattle.ground.specs.Ranges.{from}
 use Rattle.ground.specs.Laws.Ranges.{from-mem, gather-mem, mem-from, mem-gather}
-use Rattle.theory.specs.FourPoint.{Four, FourPoint, failing, fails, four, fours, fours₁, fours₂, fours₃, largest}
+use Rattle.theory.specs.FourPoint.{Four, FourPoint, failing, fails, four, fours, fours₁, fours₂, fours₃, timesLargest}
 use Rattle.theory.specs.Laws.FourPoint.{largest-left, largest-right, largest-same}
 use Rattle.theory.specs.Tables.{WellFormed}
 
@@ -71,7 +71,7 @@ module _ (P : ℕ → ℕ → ℕ → ℕ → Type 0) (s : Symmetric P) (h : (i 
 
 -- the condition at four images
 abbrev pub Holds : (ℕ → ℕ → ℕ) → ℕ → ℕ → ℕ → ℕ → ℕ → Type 0
-Holds d n i j k l = i < n → j < n → k < n → l < n → 2 ≤ largest (d i j + d k l) (d i k + d j l) (d i l + d j k)
+Holds d n i j k l = i < n → j < n → k < n → l < n → 2 ≤ timesLargest (d i j + d k l) (d i k + d j l) (d i l + d j k)
 
 pub condition-symmetric : (L : ℕ) (d : ℕ → ℕ → ℕ) (n : ℕ) → WellFormed L d n → Symmetric (Holds d n)
 condition-symmetric L d n c = record {

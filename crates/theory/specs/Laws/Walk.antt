@@ -10,14 +10,13 @@ use lib.Dec.{eqb}
 use lib.ListN.{length}
 use borrow.Author.Tests.{eqb-false, eqb-true, ne-eqb}
 use borrow.Table.Steps.{cases}
-use Rattle.ground.specs.Buffers.{front}
 use Rattle.ground.specs.Filters.{Each}
 use Rattle.ground.specs.Members.{occurs}
 use Rattle.ground.specs.Totals.{total}
 use Rattle.ground.specs.Laws.Totals.{total-each, total-least, total-occurs}
-use Rattle.theory.specs.Laws.Next.{Least, None, next-is}
-use Rattle.theory.specs.OneMore.{step}
+use Rattle.theory.specs.Laws.Next.{None, next-is}
 use Rattle.theory.specs.Order.{AllOnce, grow, lastOf, next, order}
+use Rattle.theory.specs.OrderRules.{IsNext}
 
 -- x and l, with f, are images below n, each once
 pub record Placed (n f x : ℕ) (l : List ℕ) : Type 0 where
@@ -36,10 +35,10 @@ module _ (d : ℕ → ℕ → ℕ) (n f : ℕ) (hf : f < n) where
   size x l p = total-occurs n (f ∷ x ∷ l) (range-all x l p)
 
   -- while images are left, the next one is the least of them
-  pub next-least : (x : ℕ) (l : List ℕ) → Placed n f x l → length l + 2 < n → Least d f x (x ∷ l) n (next d f x (x ∷ l) n)
+  pub next-least : (x : ℕ) (l : List ℕ) → Placed n f x l → length l + 2 < n → IsNext d f x (x ∷ l) n (next d f x (x ∷ l) n)
   next-least x l p h = go (next-is d f x (x ∷ l) n)
     where
-      go : ((next d f x (x ∷ l) n ≡ f) × None d f x (x ∷ l) n) ⊎ Least d f x (x ∷ l) n (next d f x (x ∷ l) n) → Least d f x (x ∷ l) n (next d f x (x ∷ l) n)
+      go : ((next d f x (x ∷ l) n ≡ f) × None d f x (x ∷ l) n) ⊎ IsNext d f x (x ∷ l) n (next d f x (x ∷ l) n) → IsNext d f x (x ∷ l) n (next d f x (x ∷ l) n)
       go (inr r) = r
       go (inl r) =
           absurd (omega (
@@ -49,7 +48,7 @@ module _ (d : ℕ → ℕ → ℕ) (n f : ℕ) (hf : f < n) where
                 cases (eqb (occurs t (f ∷ x ∷ l)) 0) (λ e. absurd (true≢false (sym e ∙ r .1 t s))) (λ e. omega (arith, eqb-false (occurs t (f ∷ x ∷ l)) 0 e))),
           ))
 
-  placed-more : (x w : ℕ) (l : List ℕ) → Placed n f x l → Least d f x (x ∷ l) n w → Placed n f w (x ∷ l)
+  placed-more : (x w : ℕ) (l : List ℕ) → Placed n f x l → IsNext d f x (x ∷ l) n w → Placed n f w (x ∷ l)
   placed-more x w l p q = record { range = range; once = once }
     where
       range : Each (w ∷ x ∷ l) (λ i. i < n)
@@ -75,7 +74,7 @@ module _ (d : ℕ → ℕ → ℕ) (n f : ℕ) (hf : f < n) where
     pub full : length tail + 2 ≡ n
     pub kept : P head tail
 
-  pub grow-end : (P : ℕ → List ℕ → Type 0) → ((x w : ℕ) (l : List ℕ) → Placed n f x l → Least d f x (x ∷ l) n w → P x l → P w (x ∷ l))
+  pub grow-end : (P : ℕ → List ℕ → Type 0) → ((x w : ℕ) (l : List ℕ) → Placed n f x l → IsNext d f x (x ∷ l) n w → P x l → P w (x ∷ l))
       → (m x : ℕ) (l : List ℕ) → length l + m + 2 ≡ n → Placed n f x l → P x l → End P (grow d n f m x l)
   unfolding grow
   grow-end P step zero x l s p h = record { head = x; tail = l; is = refl; placed = p; full = omega arith; kept = h }
