@@ -21,4 +21,5 @@ pub mod Buffers
 pub mod Refusals
 pub mod Lowest
 pub mod Outcomes
+pub mod Steps
 pub mod InOrder

@@ -19,6 +19,7 @@ pub mod Refusals
 pub mod Lowest
 pub mod Outcomes
 -- A fixed number in a fixed order.
+pub mod Steps
 pub mod InOrder
 -- What is true of it, with the proofs.
 pub mod Laws

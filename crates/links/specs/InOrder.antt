@@ -6,9 +6,10 @@ use native.Mathlib.Omega.{arith}
 use lib.Dec.{eqb, ltb}
 use lib.ListN.{length}
 use Rattle.ground.specs.First.{first}
-use Rattle.ground.specs.InOrder.{InOrder, Step, _by_}
+use Rattle.ground.specs.InOrder.{InOrder}
 use Rattle.ground.specs.Laws.InOrder.{join-order, refuse-order, refuseIf-only, step-order, then-only}
 use Rattle.ground.specs.Refusals.{outside, refusal, refuseIf}
+use Rattle.ground.specs.Steps.{Step, _by_}
 use Rattle.theory.specs.Checks.{imagesCheck}
 use Rattle.theory.specs.Laws.InOrder.{images-order}
 use Rattle.links.specs.BadRows.{badRow, missing}

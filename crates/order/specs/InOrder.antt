@@ -2,9 +2,10 @@
 use mathlib.Core.List.{List, [], _++_, _∷_}
 use Prim.Native.Nat.{ℕ}
 use native.Mathlib.Omega.{arith}
-use Rattle.ground.specs.InOrder.{InOrder, Step, _by_}
+use Rattle.ground.specs.InOrder.{InOrder}
 use Rattle.ground.specs.Laws.InOrder.{join-order, refuse-order, room-order}
 use Rattle.ground.specs.Refusals.{refusal, roomCheck}
+use Rattle.ground.specs.Steps.{Step, _by_}
 use Rattle.theory.specs.Tables.{cost}
 use Rattle.tables.specs.InOrder.{costs-order, costsSteps, size-order, sizeSteps}
 use Rattle.order.specs.Outcome.{badEnds, endsCheck, orderChecks}

@@ -2,9 +2,10 @@
 use mathlib.Core.List.{List, [], _++_, _∷_}
 use Prim.Native.Nat.{ℕ, _*_, _-_}
 use native.Mathlib.Omega.{arith}
-use Rattle.ground.specs.InOrder.{InOrder, Step, _by_}
+use Rattle.ground.specs.InOrder.{InOrder}
 use Rattle.ground.specs.Laws.InOrder.{join-order, room-order, step-order, then-only}
 use Rattle.ground.specs.Refusals.{_then_, roomCheck}
+use Rattle.ground.specs.Steps.{Step, _by_}
 use Rattle.theory.specs.Checks.{imageCheck}
 use Rattle.theory.specs.Laws.InOrder.{image-only}
 use Rattle.links.specs.InOrder.{row-order, rowSteps, size-order, sizeSteps}

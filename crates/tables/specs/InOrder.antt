@@ -5,10 +5,11 @@ use Prim.Native.Nat.{ℕ, _*_, _+_, _-_}
 use native.Mathlib.Omega.{arith}
 use lib.Dec.{eqb, ltb}
 use lib.ListN.{length}
-use Rattle.ground.specs.InOrder.{InOrder, Step, _by_}
+use Rattle.ground.specs.InOrder.{InOrder}
 use Rattle.ground.specs.Laws.InOrder.{all-only, join-order, refuse-order, refuseIf-only, step-order}
 use Rattle.ground.specs.Lowest.{checkAll}
 use Rattle.ground.specs.Refusals.{refusal}
+use Rattle.ground.specs.Steps.{Step, _by_}
 use Rattle.theory.specs.Checks.{imagesCheck}
 use Rattle.theory.specs.Laws.InOrder.{images-order}
 use Rattle.tables.specs.Checks.{costsCheck, diagonalCheck, entriesCheck, entryCheck, lengthCheck, mirrorCheck, sizeCheck, symmetryCheck, zeroCheck}

@@ -3,9 +3,10 @@ use mathlib.Core.List.{List, [], _∷_}
 use mathlib.Core.Path.{ap, sym, _≡_}
 use Prim.Native.Nat.{ℕ, _+_}
 use native.Mathlib.Omega.{arith}
-use Rattle.ground.specs.InOrder.{InOrder, Only, Step, _by_}
+use Rattle.ground.specs.InOrder.{InOrder, Only}
 use Rattle.ground.specs.Laws.InOrder.{step-order}
 use Rattle.ground.specs.Refusals.{refusal}
+use Rattle.ground.specs.Steps.{Step, _by_}
 use Rattle.ground.specs.declared.Check.the-variants.{Passed, Refused}
 use Rattle.ground.specs.declared.Refusal.{Refusal}
 use Rattle.theory.specs.FourPoint.{Four, failing}

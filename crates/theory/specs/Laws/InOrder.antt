@@ -2,9 +2,10 @@
 use mathlib.Core.List.{[], _∷_}
 use Prim.Native.Nat.{ℕ}
 use native.Mathlib.Omega.{arith}
-use Rattle.ground.specs.InOrder.{InOrder, Only, _by_}
+use Rattle.ground.specs.InOrder.{InOrder, Only}
 use Rattle.ground.specs.Laws.InOrder.{refuse-order, refuseIf-only}
 use Rattle.ground.specs.Refusals.{outside, refusal}
+use Rattle.ground.specs.Steps.{_by_}
 use Rattle.theory.specs.Checks.{imageCheck, imagesCheck}
 
 -- 1
