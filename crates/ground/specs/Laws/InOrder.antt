@@ -77,11 +77,12 @@ about-own m (s ∷ l) h =
 
 -- ## The answer of a call
 
--- no further check
-pub decides-end : {A : Type 0} (refused : ℕ → Refusal → A) (y : A) → Decides refused [] y y
-decides-end refused y = record { same = refl; own = each-nil Own }
+-- one check, with the table's number m beside its refusal
+pub decides-last : {A : Type 0} (refused : ℕ → Refusal → A) (m : ℕ) {l : List Step} {c : Check} (y : A) → InOrder l c
+    → Decides refused (about m l) y (ifPassed (refused m) c y)
+decides-last refused m {l = l} y p = record { same = rw (p .same) (decided-about refused m l y); own = about-own m l (p .own) }
 
--- a check with the table's number m beside its refusal, and then what follows
+-- the same, and then what follows
 pub decides-next : {A : Type 0} (refused : ℕ → Refusal → A) (m : ℕ) {l k : List Step} {c : Check} {x y : A} → InOrder l c → Decides refused k y x
     → Decides refused (about m l ++ k) y (ifPassed (refused m) c x)
 decides-next refused m {l = l} {k = k} {y = y} p q = record {

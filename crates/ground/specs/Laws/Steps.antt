@@ -26,15 +26,6 @@ module _ {A : Type 0} (refused : ℕ → Refusal → A) where
   decided-join [] m y = refl
   decided-join (s ∷ l) m y = ap (ifPassed (refused (s .table)) (s .check)) (decided-join l m y)
 
-  -- the answer turned into another one
-  pub decided-after : {B : Type 0} (f : A → B) (l : List Step) (y : A) → f (decided refused l y) ≡ decided (λ m q. f (refused m q)) l (f y)
-  decided-after f [] y = refl
-  decided-after {B} f (s ∷ l) y = go (s .check) (decided-after f l y)
-    where
-      go : (c : Check) {z : A} {w : B} → f z ≡ w → f (ifPassed (refused (s .table)) c z) ≡ ifPassed (λ q. f (refused (s .table) q)) c w
-      go Passed e = e
-      go (Refused r) e = refl
-
   pub passes-decided : (l : List Step) (y : A) → Passes l → decided refused l y ≡ y
   passes-decided [] y h = refl
   passes-decided (s ∷ l) y h = rw (h s (List·Memᴰ·head refl)) (passes-decided l y (λ x t. h x (List·Memᴰ·tail t)))
