@@ -23,6 +23,10 @@ _by_ k c = record { table = 0; number = k; check = c }
 abbrev pub about : ℕ → List Step → List Step
 about m l = map (λ s. record { table = m; number = s .number; check = s .check }) l
 
+-- the numbers l, each with the table's number m beside it
+abbrev pub ofTable : ℕ → List ℕ → List (ℕ × ℕ)
+ofTable m l = map (λ k. (m, k)) l
+
 -- the table and the number of each step, in order
 abbrev pub numbersOf : List Step → List (ℕ × ℕ)
 numbersOf l = map (λ s. (s .table, s .number)) l

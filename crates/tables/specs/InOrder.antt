@@ -5,7 +5,7 @@ use Prim.Native.Nat.{ℕ, _*_, _+_, _-_}
 use native.Mathlib.Omega.{arith}
 use lib.Dec.{eqb, ltb}
 use lib.ListN.{length}
-use Rattle.ground.specs.InOrder.{InOrder}
+use Rattle.ground.specs.InOrder.{InOrder, Only}
 use Rattle.ground.specs.Laws.InOrder.{all-only, join-order, refuse-order, refuseIf-only, step-order}
 use Rattle.ground.specs.Lowest.{checkAll}
 use Rattle.ground.specs.Refusals.{refusal}
@@ -14,12 +14,20 @@ use Rattle.theory.specs.Checks.{imagesCheck}
 use Rattle.theory.specs.Laws.InOrder.{images-order}
 use Rattle.tables.specs.Checks.{costsCheck, diagonalCheck, entriesCheck, entryCheck, lengthCheck, mirrorCheck, sizeCheck, symmetryCheck, zeroCheck}
 
+-- 2
+pub length-order : (n : ℕ) (t : List ℕ) → InOrder (2 by lengthCheck n t ∷ []) (lengthCheck n t)
+length-order n t = refuse-order (not (eqb (length t) (n * n))) (refusal 2 0 0 0 0) (omega arith)
+
 -- 1, 2
 abbrev pub sizeSteps : ℕ → List ℕ → List Step
 sizeSteps n t = 1 by imagesCheck n ∷ 2 by lengthCheck n t ∷ []
 
 pub size-order : (n : ℕ) (t : List ℕ) → InOrder (sizeSteps n t) (sizeCheck n t)
-size-order n t = join-order (images-order n) (refuse-order (not (eqb (length t) (n * n))) (refusal 2 0 0 0 0) (omega arith))
+size-order n t = join-order (images-order n) (length-order n t)
+
+-- 4
+pub entry-only : (L : ℕ) (d : ℕ → ℕ → ℕ) (i j : ℕ) → Only 4 (entryCheck L d i j)
+entry-only L d i j = refuseIf-only (ltb L (d i j)) (refusal 4 (i + 1) (j + 1) 0 0)
 
 -- 4, 5, 6
 abbrev pub costsSteps : ℕ → (ℕ → ℕ → ℕ) → ℕ → List Step
@@ -29,7 +37,7 @@ pub costs-order : (L : ℕ) (d : ℕ → ℕ → ℕ) (n : ℕ) → InOrder (cos
 costs-order L d n =
     join-order
     (step-order 4 (entriesCheck L d n) (omega arith)
-    (all-only 4 (λ i. checkAll (entryCheck L d i) 0 n) 0 n (λ i. all-only 4 (entryCheck L d i) 0 n (λ j. refuseIf-only (ltb L (d i j)) (refusal 4 (i + 1) (j + 1) 0 0)))))
+    (all-only 4 (λ i. checkAll (entryCheck L d i) 0 n) 0 n (λ i. all-only 4 (entryCheck L d i) 0 n (entry-only L d i))))
     (join-order
     (step-order 5 (diagonalCheck d n) (omega arith) (all-only 5 (zeroCheck d) 0 n (λ i. refuseIf-only (ltb 0 (d i i)) (refusal 5 (i + 1) 0 0 0))))
     (step-order 6 (symmetryCheck d n) (omega arith)

@@ -1,15 +1,21 @@
 -- The checks of the two readings by their numbers. Assumes nothing.
 use mathlib.Core.List.{List, [], _++_, _∷_}
+use mathlib.Core.Path.{refl, _≡_}
 use Prim.Native.Nat.{ℕ, _*_, _-_}
 use native.Mathlib.Omega.{arith}
+use lib.ListN.{length}
 use Rattle.ground.specs.InOrder.{InOrder}
 use Rattle.ground.specs.Laws.InOrder.{join-order, refuse-order}
-use Rattle.ground.specs.Refusals.{refusal}
+use Rattle.ground.specs.Refusals.{placesIf, refusal}
 use Rattle.ground.specs.Steps.{Step, _by_}
+use Rattle.ground.specs.declared.Check.{Check}
+use Rattle.ground.specs.declared.Check.the-variants.{Passed, Refused}
+use Rattle.ground.specs.declared.Refusal.{Refusal}
+use Rattle.theory.specs.LinkTables.{Row}
 use Rattle.theory.specs.Tables.{cost}
 use Rattle.tables.specs.InOrder.{costs-order, costsSteps, size-order, sizeSteps}
 use Rattle.wiring.specs.InOrder.{wiring-order, wiringSteps}
-use Rattle.tree.specs.Readings.{exactCheck, measuredCheck, roomCheck, short}
+use Rattle.tree.specs.Readings.{exactCheck, measuredCheck, outcome, roomCheck, short}
 
 -- 1, 2, 3, 4, 5, 6, where f and v are the lengths of the outputs
 abbrev pub measuredSteps : ℕ → ℕ → List ℕ → ℕ → ℕ → List Step
@@ -25,3 +31,13 @@ exactSteps L n t f v = measuredSteps L n t f v ++ wiringSteps (cost t n) n
 
 pub exact-order : (L n : ℕ) (t : List ℕ) (f v : ℕ) → InOrder (exactSteps L n t f v) (exactCheck L n t f v)
 exact-order L n t f v = join-order (measured-order L n t f v) (wiring-order (cost t n) n)
+
+-- ## What a reading answers and leaves, by its check
+
+pub outcome-places : (c : Check) (T : List Row) (f v : List ℕ) → outcome c T f v .answer ≡ placesIf c (length T)
+outcome-places Passed T f v = refl
+outcome-places (Refused q) T f v = refl
+
+pub outcome-unaltered : (c : Check) (T : List Row) (f v : List ℕ) (q : Refusal) → c ≡ Refused q
+    → (outcome c T f v .far-list ≡ f) × (outcome c T f v .cost-list ≡ v)
+outcome-unaltered c T f v q e = rw e (refl, refl)
