@@ -1,13 +1,8 @@
 -- The checks of the comparison by their numbers, and by the table that each is about. Assumes nothing.
-use mathlib.Core.Bool.{not}
-use mathlib.Core.List.{List, [], _++_, _∷_}
-use Prim.Native.Nat.{ℕ, _*_}
-use native.Mathlib.Omega.{arith}
-use lib.Dec.{eqb}
-use lib.ListN.{length}
+use mathlib.Core.List.{List, _++_, _∷_}
+use Prim.Native.Nat.{ℕ}
 use Rattle.ground.specs.InOrder.{Decides, InOrder}
-use Rattle.ground.specs.Laws.InOrder.{decides-last, decides-next, join-order, refuse-order}
-use Rattle.ground.specs.Refusals.{refusal}
+use Rattle.ground.specs.Laws.InOrder.{decides-last, decides-next, join-order}
 use Rattle.ground.specs.Steps.{Step, about, _by_}
 use Rattle.theory.specs.Checks.{imagesCheck}
 use Rattle.theory.specs.Laws.InOrder.{images-order}

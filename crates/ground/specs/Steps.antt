@@ -47,3 +47,7 @@ pub record FirstRefused (l : List Step) (s : Step) (r : Refusal) : Type 0 where
   pub steps : l ≡ before ++ (s ∷ after)
   pub passed : Passes before
   pub refused : s .check ≡ Refused r
+
+-- some step refuses
+abbrev pub Refuses : List Step → Type 0
+Refuses l = (s : Step) × (r : Refusal) × FirstRefused l s r

@@ -7,7 +7,6 @@ use Rattle.ground.specs.InOrder.{InOrder, Only}
 use Rattle.ground.specs.Laws.InOrder.{step-order}
 use Rattle.ground.specs.Refusals.{refusal}
 use Rattle.ground.specs.Steps.{Step, _by_}
-use Rattle.ground.specs.declared.Check.the-variants.{Passed, Refused}
 use Rattle.ground.specs.declared.Refusal.{Refusal}
 use Rattle.theory.specs.FourPoint.{Four, failing}
 use Rattle.wiring.specs.Check.{firstFour, wiringCheck}

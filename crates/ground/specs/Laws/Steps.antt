@@ -8,7 +8,7 @@ use Rattle.ground.specs.Refusals.{ifPassed}
 use Rattle.ground.specs.declared.Check.{Check}
 use Rattle.ground.specs.declared.Check.the-variants.{Passed, Refused}
 use Rattle.ground.specs.declared.Refusal.{Refusal}
-use Rattle.ground.specs.Steps.{FirstRefused, Passes, Step, about, decided}
+use Rattle.ground.specs.Steps.{FirstRefused, Passes, Refuses, Step, about, decided}
 
 module _ {A : Type 0} (refused : ℕ → Refusal → A) where
   -- steps about one table, which one check stands for, and then what follows
@@ -35,11 +35,11 @@ module _ {A : Type 0} (refused : ℕ → Refusal → A) where
       rw (f .steps, ← (decided-join (f .before) (s ∷ f .after) y), passes-decided (f .before) (decided refused (s ∷ f .after) y) (f .passed), f .refused)
 
 -- every check passed, or one of them is the first to refuse
-pub passes-or-first : (l : List Step) → Passes l ⊎ ((s : Step) × (r : Refusal) × FirstRefused l s r)
-passes-or-first [] = inl (each-nil (λ s. s .check ≡ Passed))
-passes-or-first (s ∷ l) = go (s .check) refl (passes-or-first l)
+pub passes-or-refuses : (l : List Step) → Passes l ⊎ Refuses l
+passes-or-refuses [] = inl (each-nil (λ s. s .check ≡ Passed))
+passes-or-refuses (s ∷ l) = go (s .check) refl (passes-or-refuses l)
   where
-    go : (c : Check) → s .check ≡ c → Passes l ⊎ ((t : Step) × (r : Refusal) × FirstRefused l t r) → Passes (s ∷ l) ⊎ ((t : Step) × (r : Refusal) × FirstRefused (s ∷ l) t r)
+    go : (c : Check) → s .check ≡ c → Passes l ⊎ Refuses l → Passes (s ∷ l) ⊎ Refuses (s ∷ l)
     go (Refused r) e h = inr (s, r, record { before = []; after = l; steps = refl; passed = each-nil (λ t. t .check ≡ Passed); refused = e })
     go Passed e (inl h) = inl (each-cons (λ t. t .check ≡ Passed) s l e h)
     go Passed e (inr f) = inr (
