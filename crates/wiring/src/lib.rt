@@ -4,7 +4,7 @@ use ground::Refusal;
 ghost use mathlib.Core.Path.{_≡_};
 ghost use Prim.Native.Nat.{_+_, _<_};
 ghost use lib.Dec.{ltb};
-ghost use Rattle.theory.specs.FourPoint.{largest, fails, four};
+ghost use Rattle.theory.specs.FourPoint.{timesLargest, fails, four};
 ghost use Rattle.theory.specs.Tables.{limit, cost, CostTable};
 ghost use Rattle.wiring.specs.Check.{wiringCheck};
 ghost use Rattle.wiring.specs.Once.{above};
@@ -22,7 +22,7 @@ fn is_above(x: u32, y: u32, z: u32) -> bool
 
 // Whether the largest of three numbers occurs once only.
 fn is_once(x: u32, y: u32, z: u32) -> bool
-    ensures { λ r. ⌜ r ≡ ltb (largest x y z) 2 ⌝ }
+    ensures { λ r. ⌜ r ≡ ltb (timesLargest x y z) 2 ⌝ }
 {
     if is_above(x, y, z) {
         return true;
