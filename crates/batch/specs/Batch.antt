@@ -13,6 +13,7 @@ use Rattle.stored_links.specs.Form.{linkBytes, linkUsed}
 use Rattle.batch.specs.Tables.{Table, leftOverChecks, nextChecks, tables}
 use Rattle.batch.specs.declared.Batched.{Batched}
 use Rattle.batch.specs.declared.Batched.the-variants.{Bytes}
+use Rattle.bits.specs.declared.Form.{Form}
 use Rattle.batch.specs.declared.Batched.the-variants as batched
 
 -- the answer b where the check passed, else its refusal with the table's number k beside it
@@ -20,22 +21,22 @@ abbrev pub numbered : ℕ → Check → Batched → Batched
 numbered k c b = ifPassed (batched.Refused k) c b
 
 -- the answer for the tables that follow the first k, which used so many bytes and left the rows l and v and so much room
-unfoldable pub batchFrom : ℕ → ℕ → ℕ → ℕ → ℕ → List Table → List ℕ → List ℕ → ℕ → Batched
-batchFrom head w L k used [] l v room = numbered k (leftOverChecks l v) (Bytes used)
-batchFrom head w L k used (t ∷ ts) l v room =
-    numbered (k + 1) (nextChecks head w L (t .0) (t .1) l v room)
-    (batchFrom head w L (k + 1) (used + linkUsed head w (t .0) (t .1)) ts (drop (t .1) l) (drop (t .1) v) (room - linkUsed head w (t .0) (t .1)))
+unfoldable pub batchFrom : Form → ℕ → ℕ → List Table → List ℕ → List ℕ → ℕ → Batched
+batchFrom form k used [] l v room = numbered k (leftOverChecks l v) (Bytes used)
+batchFrom form k used (t ∷ ts) l v room =
+    numbered (k + 1) (nextChecks form (t .0) (t .1) l v room)
+    (batchFrom form (k + 1) (used + linkUsed form (t .0) (t .1)) ts (drop (t .1) l) (drop (t .1) v) (room - linkUsed form (t .0) (t .1)))
 
 -- the answer for the whole batch: 2 with number 0 where the two lists differ in length
-abbrev pub batchAnswer : ℕ → ℕ → ℕ → List ℕ → List ℕ → List ℕ → List ℕ → ℕ → Batched
-batchAnswer head w L ns counts l v room =
-    numbered 0 (refuseIf (not (eqb (length ns) (length counts))) (refusal 2 0 0 0 0)) (batchFrom head w L 0 0 (tables ns counts) l v room)
+abbrev pub batchAnswer : Form → List ℕ → List ℕ → List ℕ → List ℕ → ℕ → Batched
+batchAnswer form ns counts l v room =
+    numbered 0 (refuseIf (not (eqb (length ns) (length counts))) (refusal 2 0 0 0 0)) (batchFrom form 0 0 (tables ns counts) l v room)
 
 -- the tables' stored forms, joined
-unfoldable pub batchBytes : ℕ → ℕ → ℕ → List Table → List ℕ → List ℕ → List ℕ
-batchBytes head mark w [] l v = []
-batchBytes head mark w (t ∷ ts) l v =
-    linkBytes head mark w (t .0) (take (t .1) l) (take (t .1) v) ++ batchBytes head mark w ts (drop (t .1) l) (drop (t .1) v)
+unfoldable pub batchBytes : Form → List Table → List ℕ → List ℕ → List ℕ
+batchBytes form [] l v = []
+batchBytes form (t ∷ ts) l v =
+    linkBytes form (t .0) (take (t .1) l) (take (t .1) v) ++ batchBytes form ts (drop (t .1) l) (drop (t .1) v)
 
 -- m at the front of the lent bytes d where the answer is a count of bytes; where it is a refusal they are as they were
 abbrev pub frontBy : Batched → List ℕ → List ℕ → List ℕ
@@ -43,9 +44,9 @@ frontBy (Bytes used) m d = front m d
 frontBy (batched.Refused k r) m d = d
 
 -- the answer, and the lent bytes as they are left
-abbrev pub batchOutcome : ℕ → ℕ → ℕ → ℕ → List ℕ → List ℕ → List ℕ → List ℕ → List ℕ → Outcome Batched
-batchOutcome head mark w L ns counts l v out =
+abbrev pub batchOutcome : Form → List ℕ → List ℕ → List ℕ → List ℕ → List ℕ → Outcome Batched
+batchOutcome form ns counts l v out =
     record {
-      answer = batchAnswer head w L ns counts l v (length out);
-      places = frontBy (batchAnswer head w L ns counts l v (length out)) (batchBytes head mark w (tables ns counts) l v) out;
+      answer = batchAnswer form ns counts l v (length out);
+      places = frontBy (batchAnswer form ns counts l v (length out)) (batchBytes form (tables ns counts) l v) out;
     }

@@ -4,35 +4,34 @@ use mathlib.Core.Path.{refl, _≡_}
 use lib.Count.{ones, onesIn}
 use Rattle.ground.specs.First.{first}
 use Rattle.ground.specs.Refusals.{refusal}
-use Rattle.theory.specs.Tables.{limit}
 use Rattle.bits.specs.Bits.{bitsOf, part, valueOf}
 use Rattle.bits.specs.Forms.{bytesOf, filled, formBits, formBytes, packed}
 use Rattle.links.specs.BadRows.{badRow, missing}
 use Rattle.stored_links.specs.Examples.{costsA, farsA, storedA}
-use Rattle.stored_links.specs.Form.{linkBytes, linkForm, rowsTo}
+use Rattle.stored_links.specs.Form.{linkBytes, linkForm, oldLinks, rowsTo}
 use Rattle.batch.specs.Batch.{batchAnswer, batchBytes, batchFrom}
 use Rattle.batch.specs.Tables.{tables}
 use Rattle.batch.specs.declared.Batched.the-variants.{Bytes}
 use Rattle.batch.specs.declared.Batched.the-variants as batched
 
 -- an empty batch writes 0 bytes; with a row left over it gets 2, and so do two lists that differ in length, with the number 0
-pub empty-batches : (batchAnswer 0 21 limit [] [] [] [] 0 ≡ Bytes 0)
-    × (batchAnswer 0 21 limit [] [] (2 ∷ []) [] 0 ≡ batched.Refused 0 (refusal 2 0 0 0 0))
-    × (batchAnswer 0 21 limit [] [] [] (1 ∷ []) 0 ≡ batched.Refused 0 (refusal 2 0 0 0 0))
-    × (batchAnswer 0 21 limit (3 ∷ []) [] [] [] 0 ≡ batched.Refused 0 (refusal 2 0 0 0 0))
+pub empty-batches : (batchAnswer oldLinks [] [] [] [] 0 ≡ Bytes 0)
+    × (batchAnswer oldLinks [] [] (2 ∷ []) [] 0 ≡ batched.Refused 0 (refusal 2 0 0 0 0))
+    × (batchAnswer oldLinks [] [] [] (1 ∷ []) 0 ≡ batched.Refused 0 (refusal 2 0 0 0 0))
+    × (batchAnswer oldLinks (3 ∷ []) [] [] [] 0 ≡ batched.Refused 0 (refusal 2 0 0 0 0))
 unfolding tables batchFrom
 empty-batches = (refl, refl, refl, refl)
 
 -- example A twice: it needs 22 bytes, which are document 01's 11 bytes twice
-pub batch-A : (batchAnswer 0 21 limit (3 ∷ 3 ∷ []) (3 ∷ 3 ∷ []) (farsA ++ farsA) (costsA ++ costsA) 22 ≡ Bytes 22)
-    × (batchBytes 0 0 21 (tables (3 ∷ 3 ∷ []) (3 ∷ 3 ∷ [])) (farsA ++ farsA) (costsA ++ costsA) ≡ storedA ++ storedA)
+pub batch-A : (batchAnswer oldLinks (3 ∷ 3 ∷ []) (3 ∷ 3 ∷ []) (farsA ++ farsA) (costsA ++ costsA) 22 ≡ Bytes 22)
+    × (batchBytes oldLinks (tables (3 ∷ 3 ∷ []) (3 ∷ 3 ∷ [])) (farsA ++ farsA) (costsA ++ costsA) ≡ storedA ++ storedA)
 unfolding tables batchFrom batchBytes farsA costsA storedA linkBytes linkForm rowsTo formBytes formBits packed filled bytesOf bitsOf valueOf part first badRow missing ones onesIn
 batch-A = (refl, refl)
 
 -- in 21 bytes the second table gets 3, before a row left over gets 2; a cost too few gets 2 at the second table; its n of 2 gets 1
-pub batch-A-refused : (batchAnswer 0 21 limit (3 ∷ 3 ∷ []) (3 ∷ 3 ∷ []) (farsA ++ farsA ++ farsA) (costsA ++ costsA) 21 ≡ batched.Refused 2 (refusal 3 0 0 0 0))
-    × (batchAnswer 0 21 limit (3 ∷ 3 ∷ []) (3 ∷ 3 ∷ []) (farsA ++ farsA ++ farsA) (costsA ++ costsA) 22 ≡ batched.Refused 2 (refusal 2 0 0 0 0))
-    × (batchAnswer 0 21 limit (3 ∷ 3 ∷ []) (3 ∷ 3 ∷ []) (farsA ++ farsA) (costsA ++ 1 ∷ 1 ∷ []) 22 ≡ batched.Refused 2 (refusal 2 0 0 0 0))
-    × (batchAnswer 0 21 limit (3 ∷ 2 ∷ []) (3 ∷ 3 ∷ []) (farsA ++ farsA) (costsA ++ costsA) 22 ≡ batched.Refused 2 (refusal 1 2 0 0 0))
+pub batch-A-refused : (batchAnswer oldLinks (3 ∷ 3 ∷ []) (3 ∷ 3 ∷ []) (farsA ++ farsA ++ farsA) (costsA ++ costsA) 21 ≡ batched.Refused 2 (refusal 3 0 0 0 0))
+    × (batchAnswer oldLinks (3 ∷ 3 ∷ []) (3 ∷ 3 ∷ []) (farsA ++ farsA ++ farsA) (costsA ++ costsA) 22 ≡ batched.Refused 2 (refusal 2 0 0 0 0))
+    × (batchAnswer oldLinks (3 ∷ 3 ∷ []) (3 ∷ 3 ∷ []) (farsA ++ farsA) (costsA ++ 1 ∷ 1 ∷ []) 22 ≡ batched.Refused 2 (refusal 2 0 0 0 0))
+    × (batchAnswer oldLinks (3 ∷ 2 ∷ []) (3 ∷ 3 ∷ []) (farsA ++ farsA) (costsA ++ costsA) 22 ≡ batched.Refused 2 (refusal 1 2 0 0 0))
 unfolding tables batchFrom farsA costsA first badRow missing ones onesIn
 batch-A-refused = (refl, refl, refl, refl)

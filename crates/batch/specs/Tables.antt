@@ -8,6 +8,7 @@ use Rattle.ground.specs.Refusals.{refusal, refuseIf, _then_}
 use Rattle.ground.specs.declared.Check.{Check}
 use Rattle.links.specs.Checks.{countChecks}
 use Rattle.link_writer.specs.Writing.{fitChecks}
+use Rattle.bits.specs.declared.Form.{Form}
 
 -- a table of a batch: n and its row count
 abbrev pub Table : Type 0
@@ -28,5 +29,5 @@ abbrev pub leftOverChecks : List ℕ → List ℕ → Check
 leftOverChecks l v = refuseIf (ltb 0 (length l)) (refusal 2 0 0 0 0) then refuseIf (ltb 0 (length v)) (refusal 2 0 0 0 0)
 
 -- 1, 10, 2, 12, 13, 3: the link writer's checks of the table that has the first N rows, in the room that is left
-abbrev pub nextChecks : ℕ → ℕ → ℕ → ℕ → ℕ → List ℕ → List ℕ → ℕ → Check
-nextChecks head w L n N l v room = countChecks n N then runOutChecks N l v then fitChecks head w L n (take N l) (take N v) room
+abbrev pub nextChecks : Form → ℕ → ℕ → List ℕ → List ℕ → ℕ → Check
+nextChecks form n N l v room = countChecks n N then runOutChecks N l v then fitChecks form n (take N l) (take N v) room

@@ -6,8 +6,7 @@ ghost use Prim.Native.Nat.{_≤_, _<_};
 ghost use lib.ListN.{drop, getD, length, take};
 ghost use Rattle.ground.specs.Buffers.{front};
 ghost use Rattle.ground.specs.Outcomes.{Left};
-ghost use Rattle.theory.specs.Tables.{limit};
-ghost use Rattle.stored_links.specs.Form.{linkBytes, linkUsed};
+ghost use Rattle.stored_links.specs.Form.{linkBytes, linkUsed, oldLinks};
 ghost use Rattle.batch.specs.Tables.{leftOverChecks, nextChecks, runOutChecks, tables};
 ghost use Rattle.batch.specs.Batch.{batchAnswer, batchBytes, batchFrom, batchOutcome, numbered};
 ghost use Rattle.batch.specs.Fitting.{Fits, Next};
@@ -43,7 +42,7 @@ fn check_left_over(fars: &[u64], costs: &[u32]) -> Check
 
 // Refusals 1, 10, 2, 12, 13 and 3 of the table whose rows stand at the front of the rows left.
 fn check_next(n: usize, count: usize, fars: &[u64], costs: &[u32], room: usize) -> Check
-    ensures { λ r. ⌜ r ≡ nextChecks 0 21 limit n count (now (fars .entry)) (now (costs .entry)) room ⌝ }
+    ensures { λ r. ⌜ r ≡ nextChecks oldLinks n count (now (fars .entry)) (now (costs .entry)) room ⌝ }
 {
     let sizes = links::check_count(n, count);
     let Check::Passed = sizes else {
@@ -66,7 +65,7 @@ fn check_from(
     room: usize,
 ) -> Check
     requires { ⌜ (rows ≤ length (now fars)) × (rows ≤ length (now costs)) ⌝ }
-    ensures { λ r. ⌜ r ≡ nextChecks 0 21 limit n count (drop rows (now (fars .entry))) (drop rows (now (costs .entry))) room ⌝ }
+    ensures { λ r. ⌜ r ≡ nextChecks oldLinks n count (drop rows (now (fars .entry))) (drop rows (now (costs .entry))) room ⌝ }
 {
     check_next(n, count, &fars[rows..], &costs[rows..], room)
 }
@@ -93,7 +92,7 @@ fn number_at(list: &[u32], i: usize) -> usize
 // The answer for two lists of one length: table by table, with the rows and the room that the tables before left.
 fn check_tables(ns: &[u32], counts: &[u32], fars: &[u64], costs: &[u32], room: usize) -> Batched
     requires { ⌜ length (now ns) ≡ length (now counts) ⌝ }
-    ensures { λ r. ⌜ r ≡ batchFrom 0 21 limit 0 0 (tables (now (ns .entry)) (now (counts .entry))) (now (fars .entry)) (now (costs .entry)) room ⌝ }
+    ensures { λ r. ⌜ r ≡ batchFrom oldLinks 0 0 (tables (now (ns .entry)) (now (counts .entry))) (now (fars .entry)) (now (costs .entry)) room ⌝ }
 {
     let mut used = 0;
     let mut rows = 0;
@@ -114,7 +113,7 @@ fn check_tables(ns: &[u32], counts: &[u32], fars: &[u64], costs: &[u32], room: u
 
 // The answer, and nothing written: 2 with table number 0 where the two lists differ in length.
 fn check_batch(ns: &[u32], counts: &[u32], fars: &[u64], costs: &[u32], room: usize) -> Batched
-    ensures { λ r. ⌜ r ≡ batchAnswer 0 21 limit (now (ns .entry)) (now (counts .entry)) (now (fars .entry)) (now (costs .entry)) room ⌝ }
+    ensures { λ r. ⌜ r ≡ batchAnswer oldLinks (now (ns .entry)) (now (counts .entry)) (now (fars .entry)) (now (costs .entry)) room ⌝ }
 {
     match ground::refuse_if(ns.len() != counts.len(), 2, 0, 0) {
         Check::Refused(r) => Batched::Refused(0, r),
@@ -132,8 +131,8 @@ fn put_next(
     costs: &[u32],
     out: &mut [u8],
 ) -> usize
-    requires { ⌜ Next 0 21 limit n count (drop rows (now fars)) (drop rows (now costs)) (length (now out)) ⌝ }
-    ensures { λ r. ⌜ (r ≡ linkUsed 0 21 n count) × (now (out .exit) ≡ front (linkBytes 0 0 21 n (take count (drop rows (now (fars .entry)))) (take count (drop rows (now (costs .entry))))) (now (out .entry))) ⌝ }
+    requires { ⌜ Next oldLinks n count (drop rows (now fars)) (drop rows (now costs)) (length (now out)) ⌝ }
+    ensures { λ r. ⌜ (r ≡ linkUsed oldLinks n count) × (now (out .exit) ≡ front (linkBytes oldLinks n (take count (drop rows (now (fars .entry)))) (take count (drop rows (now (costs .entry))))) (now (out .entry))) ⌝ }
 {
     let end = rows + count;
     link_writer::put_links(n, &fars[rows..end], &costs[rows..end], out)
@@ -141,8 +140,8 @@ fn put_next(
 
 // The tables' stored forms, joined, at the front of the lent bytes: each is written into the rest that the tables before left.
 fn put_tables(ns: &[u32], counts: &[u32], fars: &[u64], costs: &[u32], out: &mut [u8])
-    requires { ⌜ (length (now ns) ≡ length (now counts)) × Fits 0 21 limit (tables (now ns) (now counts)) (now fars) (now costs) (length (now out)) ⌝ }
-    ensures { λ r. ⌜ now (out .exit) ≡ front (batchBytes 0 0 21 (tables (now (ns .entry)) (now (counts .entry))) (now (fars .entry)) (now (costs .entry))) (now (out .entry)) ⌝ }
+    requires { ⌜ (length (now ns) ≡ length (now counts)) × Fits oldLinks (tables (now ns) (now counts)) (now fars) (now costs) (length (now out)) ⌝ }
+    ensures { λ r. ⌜ now (out .exit) ≡ front (batchBytes oldLinks (tables (now (ns .entry)) (now (counts .entry))) (now (fars .entry)) (now (costs .entry))) (now (out .entry)) ⌝ }
 {
     let mut used = 0;
     let mut rows = 0;
@@ -165,7 +164,7 @@ pub fn write_batch(
     costs: &[u32],
     out: &mut [u8],
 ) -> Batched
-    ensures { λ r. ⌜ Left (batchOutcome 0 0 21 limit (now (ns .entry)) (now (counts .entry)) (now (fars .entry)) (now (costs .entry)) (now (out .entry))) r (now (out .exit)) ⌝ }
+    ensures { λ r. ⌜ Left (batchOutcome oldLinks (now (ns .entry)) (now (counts .entry)) (now (fars .entry)) (now (costs .entry)) (now (out .entry))) r (now (out .exit)) ⌝ }
 {
     match check_batch(ns, counts, fars, costs, out.len()) {
         Batched::Refused(k, r) => Batched::Refused(k, r),

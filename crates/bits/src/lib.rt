@@ -1,9 +1,17 @@
-// Fields of bits in a slice of bytes, most significant bit first, of any width up to 64.
+// Fields of bits in a slice of bytes, most significant bit first, of any width up to 64; and what tells one stored form from another.
 ghost use mathlib.Core.Path.{_≡_};
 ghost use Prim.Native.Nat.{_*_, _+_, _/_, _%_, _^_, _<_, _≤_};
 ghost use lib.ListN.{length};
 ghost use Rattle.bits.specs.Kinds.{misplaced};
 ghost use Rattle.bits.specs.Bits.{bits, bitsOf, FieldWithin, numberAt, overAt, part, Turn, valueOf};
+
+// How a kind of table is stored: so many bits in front with the mark's value, so many bits for a number, and the limit on an entry.
+pub struct Form {
+    pub head: usize,
+    pub mark: u64,
+    pub width: usize,
+    pub limit: u32,
+}
 
 // The byte as a number of 64 bits.
 fn wide_byte(x: u8) -> u64

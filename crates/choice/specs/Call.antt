@@ -13,15 +13,16 @@ use Rattle.stored_links.specs.Said.{countOf, farsOf, imagesOf, usedOf}
 use Rattle.choice.specs.Inclusion.{includes}
 use Rattle.choice.specs.declared.Chosen.{Chosen}
 use Rattle.choice.specs.declared.Chosen.the-variants.{Table}
+use Rattle.bits.specs.declared.Form.{Form}
 use Rattle.choice.specs.declared.Chosen.the-variants as answer
 
 -- the far sides of the table that s begins with
-abbrev pub sidesOf : ℕ → ℕ → List ℕ → List ℕ
-sidesOf head w s = farsOf head w (imagesOf head s) (countOf head s) s
+abbrev pub sidesOf : Form → List ℕ → List ℕ
+sidesOf form s = farsOf form (imagesOf form s) (countOf form s) s
 
 -- the inner ones
-abbrev pub innersOf : ℕ → ℕ → List ℕ → List ℕ
-innersOf head w s = inners (imagesOf head s) (sidesOf head w s)
+abbrev pub innersOf : Form → List ℕ → List ℕ
+innersOf form s = inners (imagesOf form s) (sidesOf form s)
 
 -- a refusal with the table's number m beside the places, or what follows where the check passed
 abbrev pub numbered : ℕ → Check → Chosen → Chosen
@@ -40,14 +41,14 @@ abbrev pub taken : List ℕ → ℕ → List ℕ → ℕ → Chosen
 taken l i r j = numbered 0 (inclusion l r) (cond (includes l r) (Table 1 i) (Table 2 j))
 
 -- the second table, number 2, after a first one over n images with the far sides l and i used bytes; then 15, then 14
-abbrev pub againstSecond : ℕ → ℕ → ℕ → ℕ → List ℕ → ℕ → List ℕ → Chosen
-againstSecond head w L n l i t =
-    numbered 2 (tableChecks head w L t)
-    (numbered 0 (imagesAgree n (imagesOf head t)) (taken (inners n l) i (innersOf head w t) (usedOf head w t)))
+abbrev pub againstSecond : Form → ℕ → List ℕ → ℕ → List ℕ → Chosen
+againstSecond form n l i t =
+    numbered 2 (tableChecks form t)
+    (numbered 0 (imagesAgree n (imagesOf form t)) (taken (inners n l) i (innersOf form t) (usedOf form t)))
 
 -- the first table, number 1, and then the second
-abbrev pub choiceOf : ℕ → ℕ → ℕ → List ℕ → List ℕ → Chosen
-choiceOf head w L s t = numbered 1 (tableChecks head w L s) (againstSecond head w L (imagesOf head s) (sidesOf head w s) (usedOf head w s) t)
+abbrev pub choiceOf : Form → List ℕ → List ℕ → Chosen
+choiceOf form s t = numbered 1 (tableChecks form s) (againstSecond form (imagesOf form s) (sidesOf form s) (usedOf form s) t)
 
 -- the used bytes of the chosen table, none where the choice is refused
 abbrev pub partOf : Chosen → List ℕ → List ℕ → List ℕ

@@ -5,34 +5,33 @@ use Prim.Native.Nat.{ℕ}
 use lib.Count.{ones, onesIn}
 use Rattle.ground.specs.First.{first}
 use Rattle.ground.specs.Refusals.{refusal}
-use Rattle.theory.specs.Tables.{limit}
 use Rattle.bits.specs.Bits.{bits, bitsOf, part, valueOf}
 use Rattle.bits.specs.Forms.{bytesOf, filled, formBits, formBytes, packed}
 use Rattle.bits.specs.Listed.{listed}
 use Rattle.links.specs.BadRows.{badRow, missing}
 use Rattle.stored_links.specs.Examples.{storedA}
-use Rattle.stored_links.specs.Form.{linkBytes, linkForm, rowsTo}
-use Rattle.stored_links.specs.Said.{costOf, countOf, farOf, fillOf, imagesOf}
+use Rattle.stored_links.specs.Form.{linkBytes, linkForm, oldLinks, rowsTo}
+use Rattle.stored_links.specs.Said.{costAt, countOf, farAt, fillOf, imagesOf}
 use Rattle.choice.specs.Call.{choiceOf, partOf}
 use Rattle.choice.specs.declared.Chosen.the-variants.{Refused, Table}
 
 -- examples E and G, and E with images 2 and 3 exchanged
 unfoldable pub storedE : List ℕ
-storedE = linkBytes 0 0 21 4 (2 ∷ 4 ∷ 8 ∷ 12 ∷ 14 ∷ []) (2 ∷ 2 ∷ 2 ∷ 4 ∷ 2 ∷ [])
+storedE = linkBytes oldLinks 4 (2 ∷ 4 ∷ 8 ∷ 12 ∷ 14 ∷ []) (2 ∷ 2 ∷ 2 ∷ 4 ∷ 2 ∷ [])
 
 unfoldable pub storedG : List ℕ
-storedG = linkBytes 0 0 21 4 (2 ∷ 4 ∷ 8 ∷ 14 ∷ []) (2 ∷ 2 ∷ 2 ∷ 2 ∷ [])
+storedG = linkBytes oldLinks 4 (2 ∷ 4 ∷ 8 ∷ 14 ∷ []) (2 ∷ 2 ∷ 2 ∷ 2 ∷ [])
 
 unfoldable pub exchangedE : List ℕ
-exchangedE = linkBytes 0 0 21 4 (2 ∷ 4 ∷ 8 ∷ 10 ∷ 14 ∷ []) (2 ∷ 2 ∷ 2 ∷ 4 ∷ 2 ∷ [])
+exchangedE = linkBytes oldLinks 4 (2 ∷ 4 ∷ 8 ∷ 10 ∷ 14 ∷ []) (2 ∷ 2 ∷ 2 ∷ 4 ∷ 2 ∷ [])
 
 -- E includes G, whichever stands first and whatever follows; of equals the first; neither of two different inner far sides; different n
-pub chosen-examples : (choiceOf 0 21 limit storedE storedG ≡ Table 1 17)
-    × (choiceOf 0 21 limit (storedG ++ storedA) storedE ≡ Table 2 17)
-    × (choiceOf 0 21 limit storedG storedG ≡ Table 1 14)
-    × (choiceOf 0 21 limit storedE exchangedE ≡ Refused 0 (refusal 14 0 0 0 0))
-    × (choiceOf 0 21 limit storedA storedE ≡ Refused 0 (refusal 15 0 0 0 0))
-    × (choiceOf 0 21 limit storedA (130 ∷ []) ≡ Refused 2 (refusal 9 0 0 0 0))
-    × (partOf (choiceOf 0 21 limit (storedG ++ storedA) storedE) (storedG ++ storedA) storedE ≡ storedE)
-unfolding storedA storedE storedG exchangedE linkBytes linkForm rowsTo formBytes formBits packed filled bytesOf bits bitsOf valueOf part listed imagesOf countOf farOf costOf fillOf first badRow missing ones onesIn
+pub chosen-examples : (choiceOf oldLinks storedE storedG ≡ Table 1 17)
+    × (choiceOf oldLinks (storedG ++ storedA) storedE ≡ Table 2 17)
+    × (choiceOf oldLinks storedG storedG ≡ Table 1 14)
+    × (choiceOf oldLinks storedE exchangedE ≡ Refused 0 (refusal 14 0 0 0 0))
+    × (choiceOf oldLinks storedA storedE ≡ Refused 0 (refusal 15 0 0 0 0))
+    × (choiceOf oldLinks storedA (130 ∷ []) ≡ Refused 2 (refusal 9 0 0 0 0))
+    × (partOf (choiceOf oldLinks (storedG ++ storedA) storedE) (storedG ++ storedA) storedE ≡ storedE)
+unfolding storedA storedE storedG exchangedE linkBytes linkForm rowsTo formBytes formBits packed filled bytesOf bits bitsOf valueOf part listed imagesOf countOf farAt costAt fillOf first badRow missing ones onesIn
 chosen-examples = (refl, refl, refl, refl, refl, refl, refl)

@@ -11,19 +11,19 @@ use Rattle.stored_links.specs.Outcomes.{saidIf}
 use Rattle.stored_links.specs.Reading.{tableChecks}
 use Rattle.stored_links.specs.Said.{countOf, imagesOf, usedOf}
 use Rattle.stored_links.specs.declared.StoredLinks.{StoredLinks}
-use Rattle.stored_links.specs.declared.StoredLinks.the-variants as stored
+use Rattle.bits.specs.declared.Form.{Form}
 
 -- the call answered r and left f: the refusal, or the table that s begins with, whose far sides stand in front
-pub record Read (head w L : ℕ) (s : List ℕ) (r : StoredLinks) (f : List ℕ) : Type 0 where
-  pub answered : r ≡ saidIf (tableChecks head w L s) head w s
-  pub stands : tableChecks head w L s ≡ Passed → take (countOf head s) f ≡ sidesOf head w s
+pub record Read (form : Form) (s : List ℕ) (r : StoredLinks) (f : List ℕ) : Type 0 where
+  pub answered : r ≡ saidIf (tableChecks form s) form s
+  pub stands : tableChecks form s ≡ Passed → take (countOf form s) f ≡ sidesOf form s
 
 -- an accepted table over n images with the given used bytes: the first k places of f hold its far sides
-pub record Listed (head w L : ℕ) (s : List ℕ) (n k used : ℕ) (f : List ℕ) : Type 0 where
-  pub passed : tableChecks head w L s ≡ Passed
-  pub images : imagesOf head s ≡ n
-  pub ended : usedOf head w s ≡ used
-  pub front : take k f ≡ sidesOf head w s
+pub record Listed (form : Form) (s : List ℕ) (n k used : ℕ) (f : List ℕ) : Type 0 where
+  pub passed : tableChecks form s ≡ Passed
+  pub images : imagesOf form s ≡ n
+  pub ended : usedOf form s ≡ used
+  pub front : take k f ≡ sidesOf form s
   pub ascending : Between 1 (take k f) (2 ^ n)
   pub few : k ≤ 128
   pub short : length (take k f) ≤ 128

@@ -7,10 +7,10 @@ ghost use Prim.Native.Nat.{_≤_, _^_};
 ghost use lib.ListN.{length};
 ghost use Rattle.ground.specs.Ascending.{Between};
 ghost use Rattle.ground.specs.Refusals.{refusal};
-ghost use Rattle.theory.specs.Tables.{limit};
 ghost use Rattle.theory.specs.Comparison.{inners};
 ghost use Rattle.choice.specs.Call.{againstSecond, choiceOf, partOf, taken};
 ghost use Rattle.choice.specs.Read.{Read};
+ghost use Rattle.stored_links.specs.Form.{oldLinks};
 
 // What the choice answers: the chosen table's number, 1 or 2, and its count of used bytes, or a refusal with the table's number,
 // 0 with refusals 15 and 14.
@@ -36,7 +36,7 @@ fn plain(number: u32) -> Refusal
 // than any link table has rows, so refusal 3 is never given.
 fn read(bytes: &[u8], fars: &mut [u64]) -> StoredLinks
     requires { ⌜ length (now fars) ≡ 128 ⌝ }
-    ensures { λ r. ⌜ Read 0 21 limit (now (bytes .entry)) r (now (fars .exit)) ⌝ }
+    ensures { λ r. ⌜ Read oldLinks (now (bytes .entry)) r (now (fars .exit)) ⌝ }
 {
     let mut costs = [0u32; 128];
     stored_links::read_links(bytes, 0, fars, &mut costs)
@@ -62,7 +62,7 @@ fn take_one(n: usize, first: &[u64], i: usize, second: &[u64], j: usize) -> Chos
 // and 14.
 fn against_second(n: usize, first: &[u64], i: usize, second: &[u8]) -> Chosen
     requires { ⌜ (3 ≤ n) × (n ≤ 64) × Between 1 (now first) (2 ^ n) × (length (now first) ≤ 128) ⌝ }
-    ensures { λ r. ⌜ r ≡ againstSecond 0 21 limit n (now (first .entry)) i (now (second .entry)) ⌝ }
+    ensures { λ r. ⌜ r ≡ againstSecond oldLinks n (now (first .entry)) i (now (second .entry)) ⌝ }
 {
     let mut fars = [0u64; 128];
     match read(second, &mut fars) {
@@ -78,7 +78,7 @@ fn against_second(n: usize, first: &[u64], i: usize, second: &[u8]) -> Chosen
 
 // The chosen table's number and its count of used bytes, or the first refusal: those of the first table, those of the second, 15, 14.
 pub fn choice(first: &[u8], second: &[u8]) -> Chosen
-    ensures { λ r. ⌜ r ≡ choiceOf 0 21 limit (now (first .entry)) (now (second .entry)) ⌝ }
+    ensures { λ r. ⌜ r ≡ choiceOf oldLinks (now (first .entry)) (now (second .entry)) ⌝ }
 {
     let mut fars = [0u64; 128];
     match read(first, &mut fars) {
@@ -89,7 +89,7 @@ pub fn choice(first: &[u8], second: &[u8]) -> Chosen
 
 // The used bytes of the chosen table, where they stand in its own buffer; an empty part where the choice is refused.
 pub fn choose<'a>(first: &'a [u8], second: &'a [u8]) -> &'a [u8]
-    ensures { λ r. ⌜ now r ≡ partOf (choiceOf 0 21 limit (now (first .entry)) (now (second .entry))) (now (first .entry)) (now (second .entry)) ⌝ }
+    ensures { λ r. ⌜ now r ≡ partOf (choiceOf oldLinks (now (first .entry)) (now (second .entry))) (now (first .entry)) (now (second .entry)) ⌝ }
 {
     match choice(first, second) {
         Chosen::Refused(_, _) => &first[..0],

@@ -9,15 +9,16 @@ use Rattle.ground.specs.Outcomes.{Outcome, frontIf}
 use Rattle.theory.specs.Tables.{cost}
 use Rattle.tables.specs.Checks.{costsCheck, sizeCheck}
 use Rattle.stored_costs.specs.Form.{costBytes, costUsed}
+use Rattle.bits.specs.declared.Form.{Form}
 
 -- 1, 2, 4, 5, 6, 3, room counting exact bytes
-abbrev pub writeChecks : ℕ → ℕ → ℕ → ℕ → List ℕ → ℕ → Check
-writeChecks head w L n t room = sizeCheck n t then costsCheck L (cost t n) n then roomCheck (costUsed head w n) room
+abbrev pub writeChecks : Form → ℕ → List ℕ → ℕ → Check
+writeChecks form n t room = sizeCheck n t then costsCheck (form .limit) (cost t n) n then roomCheck (costUsed form n) room
 
 -- the bytes used, and the form's bytes at the front of the lent ones
-abbrev pub writeOutcome : ℕ → ℕ → ℕ → ℕ → ℕ → List ℕ → List ℕ → Outcome Written
-writeOutcome head mark w L n t out =
+abbrev pub writeOutcome : Form → ℕ → List ℕ → List ℕ → Outcome Written
+writeOutcome form n t out =
     record {
-      answer = placesIf (writeChecks head w L n t (length out)) (costUsed head w n);
-      places = frontIf (writeChecks head w L n t (length out)) (costBytes head mark w n (cost t n)) out;
+      answer = placesIf (writeChecks form n t (length out)) (costUsed form n);
+      places = frontIf (writeChecks form n t (length out)) (costBytes form n (cost t n)) out;
     }

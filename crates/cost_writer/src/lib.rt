@@ -1,5 +1,5 @@
-// Writing a stored cost table. In the form of document 01 nothing stands in front of n, an entry has 20 bits, and the limit is that of a
-// cost table; the functions below the public call take all three as arguments. Images are counted from 0.
+// Writing a stored cost table. The functions below the public call take the form as an argument. Images are counted from 0.
+use bits::Form;
 use ground::Check;
 use ground::Written;
 ghost use mathlib.Core.Path.{_≡_};
@@ -11,7 +11,7 @@ ghost use Rattle.theory.specs.Tables.{cost, CostTable, limit};
 ghost use Rattle.bits.specs.Bits.{bits, overAt};
 ghost use Rattle.bits.specs.Forms.{fieldsOf, formBits};
 ghost use Rattle.stored_costs.specs.Entries.{entries, entryCount, rowEntries};
-ghost use Rattle.stored_costs.specs.Form.{costBytes, costUsed};
+ghost use Rattle.stored_costs.specs.Form.{costBytes, costUsed, oldCosts};
 ghost use Rattle.stored_costs.specs.Sizes.{Small, Span};
 ghost use Rattle.cost_writer.specs.Writing.{writeChecks, writeOutcome};
 
@@ -45,47 +45,43 @@ fn put_entries(position: usize, w: usize, n: usize, t: &[u32], out: &mut [u8])
 }
 
 // The whole form at the front of the lent bytes, the fill bits last.
-fn put_form(head: usize, mark: u64, w: usize, n: usize, t: &[u32], out: &mut [u8])
-    requires { ⌜ CostTable limit n (now t) × Small head w n × (costUsed head w n ≤ length (now out)) ⌝ }
-    ensures { λ r. ⌜ now (out .exit) ≡ front (costBytes head mark w n (cost (now (t .entry)) n)) (now (out .entry)) ⌝ }
+fn put_form(form: Form, n: usize, t: &[u32], out: &mut [u8])
+    requires { ⌜ CostTable limit n (now t) × Small form n × (costUsed form n ≤ length (now out)) ⌝ }
+    ensures { λ r. ⌜ now (out .exit) ≡ front (costBytes form n (cost (now (t .entry)) n)) (now (out .entry)) ⌝ }
 {
-    let end = stored_costs::row_at(head, w, n, n);
-    bits::put(out, 0, head, mark);
-    bits::put(out, head, 7, n as u64);
-    put_entries(head + 7, w, n, t, out);
+    let end = stored_costs::row_at(form, n, n);
+    bits::put(out, 0, form.head, form.mark);
+    bits::put(out, form.head, 7, n as u64);
+    put_entries(form.head + 7, form.width, n, t, out);
     bits::put(out, end, 8 * ((end + 7) / 8) - end, 0);
 }
 
 // Refusals 1, 2, 4, 5, 6 and 3.
-fn check_write(head: usize, w: usize, limit: u32, n: usize, t: &[u32], room: usize) -> Check
-    requires { ⌜ (head ≤ 7) × (w ≤ 32) ⌝ }
-    ensures { λ r. ⌜ r ≡ writeChecks head w limit n (now (t .entry)) room ⌝ }
+fn check_write(form: Form, n: usize, t: &[u32], room: usize) -> Check
+    requires { ⌜ (form .head ≤ 7) × (form .width ≤ 32) ⌝ }
+    ensures { λ r. ⌜ r ≡ writeChecks form n (now (t .entry)) room ⌝ }
 {
     let size = tables::check_size(n, t);
     let Check::Passed = size else {
         return size;
     };
-    let costs = tables::check_costs(limit, n, t);
+    let costs = tables::check_costs(form.limit, n, t);
     let Check::Passed = costs else {
         return costs;
     };
-    ground::refuse_if(
-        room < (stored_costs::row_at(head, w, n, n) + 7) / 8,
-        3,
-        0,
-        0,
-    )
+    ground::refuse_if(room < (stored_costs::row_at(form, n, n) + 7) / 8, 3, 0, 0)
 }
 
 // The stored form of the cost table t at the front of the lent bytes; the answer is the bytes used. No other byte is written.
 pub fn write_costs(n: usize, t: &[u32], out: &mut [u8]) -> Written
-    ensures { λ r. ⌜ Left (writeOutcome 0 0 20 limit n (now (t .entry)) (now (out .entry))) r (now (out .exit)) ⌝ }
+    ensures { λ r. ⌜ Left (writeOutcome oldCosts n (now (t .entry)) (now (out .entry))) r (now (out .exit)) ⌝ }
 {
-    match check_write(0, 20, theory::LIMIT, n, t, out.len()) {
+    let form = stored_costs::old_form();
+    match check_write(form, n, t, out.len()) {
         Check::Refused(r) => Written::Refused(r),
         Check::Passed => {
-            put_form(0, 0, 20, n, t, out);
-            Written::Places((stored_costs::row_at(0, 20, n, n) + 7) / 8)
+            put_form(form, n, t, out);
+            Written::Places((stored_costs::row_at(form, n, n) + 7) / 8)
         }
     }
 }

@@ -19,6 +19,8 @@ ghost use Rattle.choice.specs.Call.{choiceOf};
 ghost use Rattle.numbers.specs.Numbers.{ofAnswer, ofWritten, ofComparison};
 ghost use Rattle.numbers.specs.Stored.{ofStoredCosts, ofStoredLinks, ofBatched, ofChosen};
 ghost use Rattle.kemotuiki.specs.Crossing.{crossed, crossedRows};
+ghost use Rattle.stored_costs.specs.Form.{oldCosts};
+ghost use Rattle.stored_links.specs.Form.{oldLinks};
 
 // The index of the division with the far side s.
 #[no_mangle]
@@ -123,7 +125,7 @@ pub extern "C" fn kemotuiki_compare(n: usize, first: &[u32], second: &[u32]) -> 
 // A cost table stored.
 #[no_mangle]
 pub extern "C" fn kemotuiki_write_costs(n: usize, t: &[u32], out: &mut [u8]) -> KemotuikiAnswer
-    ensures { λ r. ⌜ Left (crossed ofWritten (costs-writing.writeOutcome 0 0 20 limit n (now (t .entry)) (now (out .entry)))) r (now (out .exit)) ⌝ }
+    ensures { λ r. ⌜ Left (crossed ofWritten (costs-writing.writeOutcome oldCosts n (now (t .entry)) (now (out .entry)))) r (now (out .exit)) ⌝ }
 {
     numbers::of_written(cost_writer::write_costs(n, t, out))
 }
@@ -135,7 +137,7 @@ pub extern "C" fn kemotuiki_read_costs(
     position: usize,
     out: &mut [u32],
 ) -> KemotuikiAnswer
-    ensures { λ r. ⌜ Left (crossed ofStoredCosts (costs-reading.readOutcome 0 20 limit (now (bytes .entry)) position (now (out .entry)))) r (now (out .exit)) ⌝ }
+    ensures { λ r. ⌜ Left (crossed ofStoredCosts (costs-reading.readOutcome oldCosts (now (bytes .entry)) position (now (out .entry)))) r (now (out .exit)) ⌝ }
 {
     numbers::of_stored_costs(stored_costs::read_costs(bytes, position, out))
 }
@@ -149,7 +151,7 @@ pub extern "C" fn kemotuiki_write_links(
     costs: &[u32],
     out: &mut [u8],
 ) -> KemotuikiAnswer
-    ensures { λ r. ⌜ Left (crossed ofWritten (links-writing.writeOutcome 0 0 21 limit n count (now (fars .entry)) (now (costs .entry)) (now (out .entry)))) r (now (out .exit)) ⌝ }
+    ensures { λ r. ⌜ Left (crossed ofWritten (links-writing.writeOutcome oldLinks n count (now (fars .entry)) (now (costs .entry)) (now (out .entry)))) r (now (out .exit)) ⌝ }
 {
     numbers::of_written(link_writer::write_links(n, count, fars, costs, out))
 }
@@ -162,7 +164,7 @@ pub extern "C" fn kemotuiki_read_links(
     fars: &mut [u64],
     costs: &mut [u32],
 ) -> KemotuikiAnswer
-    ensures { λ r. ⌜ LeftRows (crossedRows ofStoredLinks (links-reading.readOutcome 0 21 limit (now (bytes .entry)) position (now (fars .entry)) (now (costs .entry)))) r (now (fars .exit)) (now (costs .exit)) ⌝ }
+    ensures { λ r. ⌜ LeftRows (crossedRows ofStoredLinks (links-reading.readOutcome oldLinks (now (bytes .entry)) position (now (fars .entry)) (now (costs .entry)))) r (now (fars .exit)) (now (costs .exit)) ⌝ }
 {
     numbers::of_stored_links(stored_links::read_links(bytes, position, fars, costs))
 }
@@ -176,7 +178,7 @@ pub extern "C" fn kemotuiki_write_batch(
     costs: &[u32],
     out: &mut [u8],
 ) -> KemotuikiAnswer
-    ensures { λ r. ⌜ Left (crossed ofBatched (batchOutcome 0 0 21 limit (now (ns .entry)) (now (counts .entry)) (now (fars .entry)) (now (costs .entry)) (now (out .entry)))) r (now (out .exit)) ⌝ }
+    ensures { λ r. ⌜ Left (crossed ofBatched (batchOutcome oldLinks (now (ns .entry)) (now (counts .entry)) (now (fars .entry)) (now (costs .entry)) (now (out .entry)))) r (now (out .exit)) ⌝ }
 {
     numbers::of_batched(batch::write_batch(ns, counts, fars, costs, out))
 }
@@ -184,7 +186,7 @@ pub extern "C" fn kemotuiki_write_batch(
 // Which of two stored link tables includes the other. A part of a buffer cannot cross, but its number and its used bytes say it.
 #[no_mangle]
 pub extern "C" fn kemotuiki_choice(first: &[u8], second: &[u8]) -> KemotuikiAnswer
-    ensures { λ r. ⌜ r ≡ ofChosen (choiceOf 0 21 limit (now (first .entry)) (now (second .entry))) ⌝ }
+    ensures { λ r. ⌜ r ≡ ofChosen (choiceOf oldLinks (now (first .entry)) (now (second .entry))) ⌝ }
 {
     numbers::of_chosen(choice::choice(first, second))
 }

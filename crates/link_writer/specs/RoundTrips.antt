@@ -14,7 +14,7 @@ use Rattle.bits.specs.Bits.{AllBytes, part, valueOf}
 use Rattle.link_writer.specs.Laws.Again.{read-again, written-is, wroteInto}
 use Rattle.link_writer.specs.Writing.{writeChecks, writeOutcome}
 use Rattle.links.specs.Links.{Links}
-use Rattle.stored_links.specs.Form.{linkBytes, linkUsed}
+use Rattle.stored_links.specs.Form.{linkBytes, linkUsed, oldLinks}
 use Rattle.stored_links.specs.Laws.Form.{length-links}
 use Rattle.stored_links.specs.Laws.Outcomes.{refused-alters-nothing}
 use Rattle.stored_links.specs.Laws.Positions.{table-at}
@@ -31,61 +31,61 @@ fits : 2 * limit < 2 ^ 21
 fits = omega arith
 
 -- Reading what was written gives the table back: the rows, their count, and the bytes used.
-pub reading-undoes-writing : (n N : ℕ) (l v out f u : List ℕ) → Links limit n N l v → linkUsed 0 21 n N ≤ length out → 2 * n - 3 ≤ length f → 2 * n - 3 ≤ length u
-    → (writeOutcome 0 0 21 limit n N l v out .answer ≡ Places (linkUsed 0 21 n N))
-    × (readOutcome 0 21 limit (writeOutcome 0 0 21 limit n N l v out .places) 0 f u ≡ readInto n N (linkUsed 0 21 n N) l v f u)
+pub reading-undoes-writing : (n N : ℕ) (l v out f u : List ℕ) → Links limit n N l v → linkUsed oldLinks n N ≤ length out → 2 * n - 3 ≤ length f → 2 * n - 3 ≤ length u
+    → (writeOutcome oldLinks n N l v out .answer ≡ Places (linkUsed oldLinks n N))
+    × (readOutcome oldLinks (writeOutcome oldLinks n N l v out .places) 0 f u ≡ readInto n N (linkUsed oldLinks n N) l v f u)
 reading-undoes-writing n N l v out f u t h i j =
-    let w = written-is 0 21 limit 0 n N l v out t h in
-    let m = linkBytes 0 0 21 n l v in (
+    let w = written-is oldLinks n N l v out t h in
+    let m = linkBytes oldLinks n l v in (
       ap (λ (o : Outcome Written). o .answer) w,
-      ap (λ (o : Outcome Written). readOutcome 0 21 limit (o .places) 0 f u) w ∙ written-at 0 21 limit 0 n N l v [] (drop (length m) out) f u t fits i j,
+      ap (λ (o : Outcome Written). readOutcome oldLinks (o .places) 0 f u) w ∙ written-at oldLinks n N l v [] (drop (length m) out) f u t fits i j,
     )
 
 -- Writing what was read gives the same used bytes.
-pub writing-undoes-reading : (bytes : List ℕ) (position room n N used : ℕ) (out : List ℕ) → AllBytes bytes → judged 0 21 limit bytes position room ≡ Table n N used → used ≤ length out
-    → writeOutcome 0 0 21 limit n N (farsOf 0 21 n N (drop (position / 8) bytes)) (costsOf 0 21 n N (drop (position / 8) bytes)) out
+pub writing-undoes-reading : (bytes : List ℕ) (position room n N used : ℕ) (out : List ℕ) → AllBytes bytes → judged oldLinks bytes position room ≡ Table n N used → used ≤ length out
+    → writeOutcome oldLinks n N (farsOf oldLinks n N (drop (position / 8) bytes)) (costsOf oldLinks n N (drop (position / 8) bytes)) out
     ≡ wroteInto used (take used (drop (position / 8) bytes)) out
 unfolding part valueOf
-writing-undoes-reading bytes position room n N used out b e h = read-again 0 21 limit bytes position n N used out b (table-at 0 21 limit bytes position room n N used e .1) h
+writing-undoes-reading bytes position room n N used out b e h = read-again oldLinks bytes position n N used out b (table-at oldLinks bytes position room n N used e .1) refl h
 
 -- What is read is a link table over n images with so many rows.
-pub reading-is-a-table : (bytes : List ℕ) (position room n N used : ℕ) → judged 0 21 limit bytes position room ≡ Table n N used
-    → Links limit n N (farsOf 0 21 n N (drop (position / 8) bytes)) (costsOf 0 21 n N (drop (position / 8) bytes))
+pub reading-is-a-table : (bytes : List ℕ) (position room n N used : ℕ) → judged oldLinks bytes position room ≡ Table n N used
+    → Links limit n N (farsOf oldLinks n N (drop (position / 8) bytes)) (costsOf oldLinks n N (drop (position / 8) bytes))
 reading-is-a-table bytes position room n N used e =
-    read-links 0 21 limit n N (drop (position / 8) bytes) (table-at 0 21 limit bytes position room n N used e .1 .stored)
+    read-links oldLinks n N (drop (position / 8) bytes) (table-at oldLinks bytes position room n N used e .1 .stored)
 
 -- One table has one stored form: what is read as the same table stands in the same bytes.
 pub one-stored-form : (a b : List ℕ) (p q r s n N i j : ℕ) → AllBytes a → AllBytes b
-    → judged 0 21 limit a p r ≡ Table n N i → judged 0 21 limit b q s ≡ Table n N j
-    → farsOf 0 21 n N (drop (p / 8) a) ≡ farsOf 0 21 n N (drop (q / 8) b) → costsOf 0 21 n N (drop (p / 8) a) ≡ costsOf 0 21 n N (drop (q / 8) b)
+    → judged oldLinks a p r ≡ Table n N i → judged oldLinks b q s ≡ Table n N j
+    → farsOf oldLinks n N (drop (p / 8) a) ≡ farsOf oldLinks n N (drop (q / 8) b) → costsOf oldLinks n N (drop (p / 8) a) ≡ costsOf oldLinks n N (drop (q / 8) b)
     → take i (drop (p / 8) a) ≡ take j (drop (q / 8) b)
 unfolding part valueOf
 one-stored-form a b p q r s n N i j ha hb e f g h =
-    same-bytes 0 21 limit a b p q n N i j ha hb (table-at 0 21 limit a p r n N i e .1) (table-at 0 21 limit b q s n N j f .1) refl g h
+    same-bytes oldLinks a b p q n N i j ha hb (table-at oldLinks a p r n N i e .1) (table-at oldLinks b q s n N j f .1) refl refl g h
 
 -- Two tables written one after another are read one after the other, the second from the byte where the first ended: at that position,
 -- or as the part of the bytes from there on.
 pub one-after-another : (m n M N : ℕ) (k x l y behind f u : List ℕ) → Links limit m M k x → Links limit n N l y
     → 2 * m - 3 ≤ length f → 2 * m - 3 ≤ length u → 2 * n - 3 ≤ length f → 2 * n - 3 ≤ length u
-    → (readOutcome 0 21 limit (linkBytes 0 0 21 m k x ++ (linkBytes 0 0 21 n l y ++ behind)) 0 f u ≡ readInto m M (linkUsed 0 21 m M) k x f u)
-    × (readOutcome 0 21 limit (linkBytes 0 0 21 m k x ++ (linkBytes 0 0 21 n l y ++ behind)) (8 * linkUsed 0 21 m M) f u ≡ readInto n N (linkUsed 0 21 n N) l y f u)
-    × (readOutcome 0 21 limit (drop (linkUsed 0 21 m M) (linkBytes 0 0 21 m k x ++ (linkBytes 0 0 21 n l y ++ behind))) 0 f u ≡ readInto n N (linkUsed 0 21 n N) l y f u)
+    → (readOutcome oldLinks (linkBytes oldLinks m k x ++ (linkBytes oldLinks n l y ++ behind)) 0 f u ≡ readInto m M (linkUsed oldLinks m M) k x f u)
+    × (readOutcome oldLinks (linkBytes oldLinks m k x ++ (linkBytes oldLinks n l y ++ behind)) (8 * linkUsed oldLinks m M) f u ≡ readInto n N (linkUsed oldLinks n N) l y f u)
+    × (readOutcome oldLinks (drop (linkUsed oldLinks m M) (linkBytes oldLinks m k x ++ (linkBytes oldLinks n l y ++ behind))) 0 f u ≡ readInto n N (linkUsed oldLinks n N) l y f u)
 one-after-another m n M N k x l y behind f u s t h i g j =
-    let a = linkBytes 0 0 21 m k x in
-    let b = linkBytes 0 0 21 n l y ++ behind in
-    let e : length a ≡ linkUsed 0 21 m M = length-links 0 0 21 m k x ∙ ap (linkUsed 0 21 m) (s .counted) in
-    let second : readOutcome 0 21 limit (a ++ b) (8 * linkUsed 0 21 m M) f u ≡ readInto n N (linkUsed 0 21 n N) l y f u =
-    ap (λ (z : ℕ). readOutcome 0 21 limit (a ++ b) (8 * z) f u) (sym e) ∙ written-at 0 21 limit 0 n N l y a behind f u t fits g j in (
-      written-at 0 21 limit 0 m M k x [] b f u s fits h i,
+    let a = linkBytes oldLinks m k x in
+    let b = linkBytes oldLinks n l y ++ behind in
+    let e : length a ≡ linkUsed oldLinks m M = length-links oldLinks m k x ∙ ap (linkUsed oldLinks m) (s .counted) in
+    let second : readOutcome oldLinks (a ++ b) (8 * linkUsed oldLinks m M) f u ≡ readInto n N (linkUsed oldLinks n N) l y f u =
+    ap (λ (z : ℕ). readOutcome oldLinks (a ++ b) (8 * z) f u) (sym e) ∙ written-at oldLinks n N l y a behind f u t fits g j in (
+      written-at oldLinks m M k x [] b f u s fits h i,
       second,
-      read-rest 0 21 limit (a ++ b) (linkUsed 0 21 m M) f u (omega (arith, e, length-append a b)) ∙ second,
+      read-rest oldLinks (a ++ b) (linkUsed oldLinks m M) f u (omega (arith, e, length-append a b)) ∙ second,
     )
 
 -- Refused, no lent place is altered.
-pub refused-writing : (n N : ℕ) (l v out : List ℕ) (r : Refusal) → writeChecks 0 21 limit n N l v (length out) ≡ Refused r
-    → writeOutcome 0 0 21 limit n N l v out ≡ record { answer = written.Refused r; places = out }
+pub refused-writing : (n N : ℕ) (l v out : List ℕ) (r : Refusal) → writeChecks oldLinks n N l v (length out) ≡ Refused r
+    → writeOutcome oldLinks n N l v out ≡ record { answer = written.Refused r; places = out }
 refused-writing n N l v out r e = rw e
 
-pub refused-reading : (bytes : List ℕ) (position : ℕ) (f u : List ℕ) (r : Refusal) → readAtChecks 0 21 limit bytes position (min (length f) (length u)) ≡ Refused r
-    → readOutcome 0 21 limit bytes position f u ≡ record { answer = stored.Refused r; far-list = f; cost-list = u }
-refused-reading bytes position f u r e = refused-alters-nothing 0 21 (drop (position / 8) bytes) f u e
+pub refused-reading : (bytes : List ℕ) (position : ℕ) (f u : List ℕ) (r : Refusal) → readAtChecks oldLinks bytes position (min (length f) (length u)) ≡ Refused r
+    → readOutcome oldLinks bytes position f u ≡ record { answer = stored.Refused r; far-list = f; cost-list = u }
+refused-reading bytes position f u r e = refused-alters-nothing oldLinks (drop (position / 8) bytes) f u e

@@ -10,26 +10,27 @@ use Rattle.ground.specs.Outcomes.{Outcome, frontIf}
 use Rattle.links.specs.Checks.{rowChecks, sizeChecks}
 use Rattle.stored_links.specs.Form.{linkBytes, linkUsed}
 use Rattle.stored_links.specs.Sizes.{Small}
+use Rattle.bits.specs.declared.Form.{Form}
 
 -- 12, 13, 3: of rows as many as counted, room counting exact bytes
-abbrev pub fitChecks : ℕ → ℕ → ℕ → ℕ → List ℕ → List ℕ → ℕ → Check
-fitChecks head w L n l v room = rowChecks L n l v then roomCheck (linkUsed head w n (length l)) room
+abbrev pub fitChecks : Form → ℕ → List ℕ → List ℕ → ℕ → Check
+fitChecks form n l v room = rowChecks (form .limit) n l v then roomCheck (linkUsed form n (length l)) room
 
 -- 1, 10, 2, 12, 13, 3
-abbrev pub writeChecks : ℕ → ℕ → ℕ → ℕ → ℕ → List ℕ → List ℕ → ℕ → Check
-writeChecks head w L n N l v room = sizeChecks n N l v then fitChecks head w L n l v room
+abbrev pub writeChecks : Form → ℕ → ℕ → List ℕ → List ℕ → ℕ → Check
+writeChecks form n N l v room = sizeChecks n N l v then fitChecks form n l v room
 
 -- the bytes used, and the form's bytes at the front of the lent ones
-abbrev pub writeOutcome : ℕ → ℕ → ℕ → ℕ → ℕ → ℕ → List ℕ → List ℕ → List ℕ → Outcome Written
-writeOutcome head mark w L n N l v out =
+abbrev pub writeOutcome : Form → ℕ → ℕ → List ℕ → List ℕ → List ℕ → Outcome Written
+writeOutcome form n N l v out =
     record {
-      answer = placesIf (writeChecks head w L n N l v (length out)) (linkUsed head w n (length l));
-      places = frontIf (writeChecks head w L n N l v (length out)) (linkBytes head mark w n l v) out;
+      answer = placesIf (writeChecks form n N l v (length out)) (linkUsed form n (length l));
+      places = frontIf (writeChecks form n N l v (length out)) (linkBytes form n l v) out;
     }
 
 -- ## What the raw writer is given
 
 -- numbers so small that nothing overflows, and room for the whole bytes of N rows
-pub record RoomFor (head w n N room : ℕ) : Type 0 where
-  pub small : Small head w n N
-  pub fits : linkUsed head w n N ≤ room
+pub record RoomFor (form : Form) (n N room : ℕ) : Type 0 where
+  pub small : Small form n N
+  pub fits : linkUsed form n N ≤ room

@@ -41,10 +41,10 @@ fn is_bad_side(n: usize, before: u64, s: u64) -> bool
 }
 
 // Whether c is no doubled cost of the far side s: above twice the limit, or 0 in an inner row. Twice a limit may need more than 32 bits.
-fn is_bad_cost(limit: u32, n: usize, s: u64, c: u32) -> bool
-    ensures { λ r. ⌜ r ≡ badCost limit n s c ⌝ }
+fn is_bad_cost(most: u32, n: usize, s: u64, c: u32) -> bool
+    ensures { λ r. ⌜ r ≡ badCost most n s c ⌝ }
 {
-    if 2 * (limit as u64) < (c as u64) {
+    if 2 * (most as u64) < (c as u64) {
         return true;
     }
     if theory::is_inner(n, s) {
@@ -80,28 +80,28 @@ fn first_crossed(fars: &[u64], k: usize) -> usize
 }
 
 // Whether row k is bad, seen with the rows before it.
-fn is_bad_row(limit: u32, n: usize, fars: &[u64], costs: &[u32], k: usize) -> bool
+fn is_bad_row(most: u32, n: usize, fars: &[u64], costs: &[u32], k: usize) -> bool
     requires { ⌜ (n ≤ 64) × (length (now costs) ≡ length (now fars)) × (k < length (now fars)) ⌝ }
-    ensures { λ r. ⌜ r ≡ badRow limit n (now (fars .entry)) (now (costs .entry)) k ⌝ }
+    ensures { λ r. ⌜ r ≡ badRow most n (now (fars .entry)) (now (costs .entry)) k ⌝ }
 {
     let before = row_before(fars, k);
     if is_bad_side(n, before, fars[k]) {
         return true;
     }
-    if is_bad_cost(limit, n, fars[k], costs[k]) {
+    if is_bad_cost(most, n, fars[k], costs[k]) {
         return true;
     }
     first_crossed(fars, k) < k
 }
 
 // The first bad row, from 0, else the number of rows.
-fn first_bad_row(limit: u32, n: usize, fars: &[u64], costs: &[u32]) -> usize
+fn first_bad_row(most: u32, n: usize, fars: &[u64], costs: &[u32]) -> usize
     requires { ⌜ (n ≤ 64) × (length (now costs) ≡ length (now fars)) ⌝ }
-    ensures { λ r. ⌜ r ≡ first (badRow limit n (now (fars .entry)) (now (costs .entry))) (length (now (fars .entry))) ⌝ }
+    ensures { λ r. ⌜ r ≡ first (badRow most n (now (fars .entry)) (now (costs .entry))) (length (now (fars .entry))) ⌝ }
 {
     let mut k = 0;
     while k < fars.len() {
-        if is_bad_row(limit, n, fars, costs, k) {
+        if is_bad_row(most, n, fars, costs, k) {
             return k;
         }
         k += 1;
@@ -191,11 +191,11 @@ pub fn check_rows_size(n: usize, count: usize, fars: &[u64], costs: &[u32]) -> C
 }
 
 // 12, 13: the lowest bad row, then the lowest image without its own link. The limit is an argument: what was stored under another limit is read under it.
-pub fn check_rows(limit: u32, n: usize, fars: &[u64], costs: &[u32]) -> Check
+pub fn check_rows(most: u32, n: usize, fars: &[u64], costs: &[u32]) -> Check
     requires { ⌜ (3 ≤ n) × (n ≤ 64) × (length (now fars) ≤ 125) × (length (now costs) ≡ length (now fars)) ⌝ }
-    ensures { λ r. ⌜ r ≡ rowChecks limit n (now (fars .entry)) (now (costs .entry)) ⌝ }
+    ensures { λ r. ⌜ r ≡ rowChecks most n (now (fars .entry)) (now (costs .entry)) ⌝ }
 {
-    let row = first_bad_row(limit, n, fars, costs);
+    let row = first_bad_row(most, n, fars, costs);
     let rows = ground::refuse_if(row < fars.len(), 12, row + 1, 0);
     match rows {
         Check::Refused(_) => rows,

@@ -16,8 +16,8 @@ use Rattle.theory.specs.Checks.{imagesCheck}
 use Rattle.wiring.specs.Check.{wiringCheck}
 use Rattle.order.specs.Outcome.{images}
 use Rattle.bits.specs.Forms.{bytesFor}
-use Rattle.stored_costs.specs.Entries.{costOf}
-use Rattle.stored_costs.specs.Form.{costsOf, entryOf, imagesOf}
+use Rattle.stored_costs.specs.Entries.{entryCost}
+use Rattle.stored_costs.specs.Form.{storedTable, entryOf, imagesOf, oldCosts}
 use Rattle.stored_costs.specs.Reading.{bodyChecks, storedCheck}
 use Rattle.listing_text.specs.Lines.{header, orderLine, refusedLine, rowLines}
 
@@ -45,11 +45,11 @@ tableText n t = textIf (wiringCheck (cost t n) n) (linksText n (measured limit (
 -- 9, 1, 9, 11, 4: the checks of a stored cost table, where there is room for every table
 abbrev pub storedChecks : List ℕ → Check
 storedChecks s =
-    endCheck s (bytesFor 7) then imagesCheck (imagesOf 0 s) then bodyChecks 0 20 (imagesOf 0 s) s then storedCheck limit (costOf (entryOf 0 20 s) (imagesOf 0 s)) (imagesOf 0 s)
+    endCheck s (bytesFor 7) then imagesCheck (imagesOf oldCosts s) then bodyChecks oldCosts (imagesOf oldCosts s) s then storedCheck limit (entryCost (entryOf oldCosts s) (imagesOf oldCosts s)) (imagesOf oldCosts s)
 
 -- the listing: what the stored table's checks refuse, or that of the table that the bytes say
 unfoldable pub listingText : List ℕ → List ℕ
-listingText s = textIf (storedChecks s) (tableText (imagesOf 0 s) (costsOf 0 20 (imagesOf 0 s) s))
+listingText s = textIf (storedChecks s) (tableText (imagesOf oldCosts s) (storedTable oldCosts (imagesOf oldCosts s) s))
 
 -- what the call answers: the listing's length, and the listing in front of an array that is otherwise 0
 pub record Listed (s : List ℕ) (size : ℕ) (text : List ℕ) : Type 0 where

@@ -13,17 +13,17 @@ use Rattle.theory.specs.Readings.{measured}
 use Rattle.theory.specs.Tables.{cost, limit}
 use Rattle.wiring.specs.Check.{wiringCheck}
 use Rattle.order.specs.Outcome.{images}
-use Rattle.stored_costs.specs.Form.{costsOf, imagesOf}
+use Rattle.stored_costs.specs.Form.{storedTable, imagesOf, oldCosts}
 use Rattle.listing_text.specs.Lines.{refusedLine}
 use Rattle.listing_text.specs.Listing.{Listed, linksText, listingText, room, storedChecks, textIf}
 
 -- the checks of a listing in their order: 9, 1, 9, 11, 4, 7
 abbrev pub listingChecks : List ℕ → Check
-listingChecks s = storedChecks s then wiringCheck (cost (costsOf 0 20 (imagesOf 0 s) s) (imagesOf 0 s)) (imagesOf 0 s)
+listingChecks s = storedChecks s then wiringCheck (cost (storedTable oldCosts (imagesOf oldCosts s) s) (imagesOf oldCosts s)) (imagesOf oldCosts s)
 
 -- the exact reading of the table that the bytes say, and the order from 1 with last n
 abbrev pub acceptedText : List ℕ → List ℕ
-acceptedText s = linksText (imagesOf 0 s) (measured limit (cost (costsOf 0 20 (imagesOf 0 s) s) (imagesOf 0 s)) (imagesOf 0 s)) (images (imagesOf 0 s) (costsOf 0 20 (imagesOf 0 s) s) 1 (imagesOf 0 s))
+acceptedText s = linksText (imagesOf oldCosts s) (measured limit (cost (storedTable oldCosts (imagesOf oldCosts s) s) (imagesOf oldCosts s)) (imagesOf oldCosts s)) (images (imagesOf oldCosts s) (storedTable oldCosts (imagesOf oldCosts s) s) 1 (imagesOf oldCosts s))
 
 text-then : (c d : Check) (m : List ℕ) → textIf c (textIf d m) ≡ textIf (c then d) m
 text-then Passed d m = refl
@@ -33,7 +33,7 @@ module _ (s : List ℕ) where
   -- the listing by its checks
   pub listing-checks : listingText s ≡ textIf (listingChecks s) (acceptedText s)
   unfolding listingText
-  listing-checks = text-then (storedChecks s) (wiringCheck (cost (costsOf 0 20 (imagesOf 0 s) s) (imagesOf 0 s)) (imagesOf 0 s)) (acceptedText s)
+  listing-checks = text-then (storedChecks s) (wiringCheck (cost (storedTable oldCosts (imagesOf oldCosts s) s) (imagesOf oldCosts s)) (imagesOf oldCosts s)) (acceptedText s)
 
   -- a table that passes them all is listed
   pub listing-accepted : listingChecks s ≡ Passed → listingText s ≡ acceptedText s

@@ -34,13 +34,13 @@ abbrev pub entryNumber : ℕ → ℕ → ℕ → ℕ
 entryNumber n i j = rowStart n i + (j - (i + 1))
 
 -- the cost of i and j by the entries f 0, f 1, .. in stored order: 0 on the diagonal, mirrored below it
-unfoldable pub costOf : (ℕ → ℕ) → ℕ → ℕ → ℕ → ℕ
-costOf f n i j = cond (eqb i j) 0 (f (entryNumber n (min i j) (max i j)))
+unfoldable pub entryCost : (ℕ → ℕ) → ℕ → ℕ → ℕ → ℕ
+entryCost f n i j = cond (eqb i j) 0 (f (entryNumber n (min i j) (max i j)))
 
 -- in the places t those of column i above row i have those costs
 pub record Above (f : ℕ → ℕ) (n i : ℕ) (t : List ℕ) : Type 0 where
-  pub holds : (j : ℕ) → j < i → cost t n j i ≡ costOf f n j i
+  pub holds : (j : ℕ) → j < i → cost t n j i ≡ entryCost f n j i
 
 -- the whole table with those costs, row by row
 unfoldable pub tableOf : (ℕ → ℕ) → ℕ → List ℕ
-tableOf f n = listed (λ p. costOf f n (p / n) (p % n)) (n * n)
+tableOf f n = listed (λ p. entryCost f n (p / n) (p % n)) (n * n)

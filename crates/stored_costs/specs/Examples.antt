@@ -4,12 +4,12 @@ use mathlib.Core.Path.{refl, _≡_}
 use Prim.Native.Nat.{ℕ, _+_}
 use Rattle.ground.specs.Lowest.{checkAll}
 use Rattle.ground.specs.Refusals.{refusal}
-use Rattle.theory.specs.Tables.{cost, limit}
+use Rattle.theory.specs.Tables.{cost}
 use Rattle.bits.specs.Bits.{bits, bitsOf, part, valueOf}
 use Rattle.bits.specs.Forms.{bytesOf, fieldValue, filled, formBits, formBytes, packed}
 use Rattle.bits.specs.Listed.{listed}
-use Rattle.stored_costs.specs.Entries.{costOf, entriesTo, rowEntries, rowStart, tableOf}
-use Rattle.stored_costs.specs.Form.{costBytes, costForm, costsOf, entryOf, fillOf, imagesOf}
+use Rattle.stored_costs.specs.Entries.{entryCost, entriesTo, rowEntries, rowStart, tableOf}
+use Rattle.stored_costs.specs.Form.{costBytes, costForm, storedTable, entryOf, fillOf, imagesOf, oldCosts}
 use Rattle.stored_costs.specs.Outcomes.{judged}
 use Rattle.stored_costs.specs.declared.StoredCosts.the-variants.{Table}
 use Rattle.stored_costs.specs.declared.StoredCosts.the-variants as stored
@@ -22,17 +22,17 @@ unfoldable pub storedA : List ℕ
 storedA = 0x06 ∷ 0x00 ∷ 0x00 ∷ 0x20 ∷ 0x00 ∷ 0x02 ∷ 0x00 ∷ 0x00 ∷ 0x20 ∷ []
 
 -- it is written as document 01's bytes, and these are read as it
-pub example-A : (costBytes 0 0 20 3 (cost tableA 3) ≡ storedA) × (judged 0 20 limit storedA 0 9 ≡ Table 3 9) × (costsOf 0 20 3 storedA ≡ tableA)
-unfolding tableA storedA costBytes costForm formBytes formBits packed filled bytesOf bits bitsOf valueOf part fieldValue listed entriesTo rowEntries rowStart costOf tableOf imagesOf entryOf fillOf checkAll
+pub example-A : (costBytes oldCosts 3 (cost tableA 3) ≡ storedA) × (judged oldCosts storedA 0 9 ≡ Table 3 9) × (storedTable oldCosts 3 storedA ≡ tableA)
+unfolding tableA storedA costBytes costForm formBytes formBits packed filled bytesOf bits bitsOf valueOf part fieldValue listed entriesTo rowEntries rowStart entryCost tableOf imagesOf entryOf fillOf checkAll
 example-A = (refl, refl, refl)
 
 -- an entry of 1,000,000 passes, and 1,000,001 gets 4 at its row and column
-pub entry-limit : (judged 0 20 limit (costBytes 0 0 20 3 (λ i j. 1000000)) 0 9 ≡ Table 3 9)
-    × (judged 0 20 limit (costBytes 0 0 20 3 (λ i j. 999999 + j)) 0 9 ≡ stored.Refused (refusal 4 1 3 0 0))
-unfolding costBytes costForm formBytes formBits packed filled bytesOf bits bitsOf valueOf part fieldValue listed entriesTo rowEntries rowStart costOf tableOf imagesOf entryOf fillOf checkAll
+pub entry-limit : (judged oldCosts (costBytes oldCosts 3 (λ i j. 1000000)) 0 9 ≡ Table 3 9)
+    × (judged oldCosts (costBytes oldCosts 3 (λ i j. 999999 + j)) 0 9 ≡ stored.Refused (refusal 4 1 3 0 0))
+unfolding costBytes costForm formBytes formBits packed filled bytesOf bits bitsOf valueOf part fieldValue listed entriesTo rowEntries rowStart entryCost tableOf imagesOf entryOf fillOf checkAll
 entry-limit = (refl, refl)
 
 -- n 2 and 65 get 1, in one byte
-pub images-limit : (judged 0 20 limit (4 ∷ []) 0 0 ≡ stored.Refused (refusal 1 2 0 0 0)) × (judged 0 20 limit (130 ∷ []) 0 0 ≡ stored.Refused (refusal 1 65 0 0 0))
+pub images-limit : (judged oldCosts (4 ∷ []) 0 0 ≡ stored.Refused (refusal 1 2 0 0 0)) × (judged oldCosts (130 ∷ []) 0 0 ≡ stored.Refused (refusal 1 65 0 0 0))
 unfolding bits bitsOf valueOf part imagesOf
 images-limit = (refl, refl)

@@ -1,49 +1,60 @@
--- The stored cost table, as a form: head bits with the value mark in front, n in 7 bits, each entry in w bits, and bits 0 to a whole byte.
--- And what bytes say when they are read so. In the form of document 01 head and mark are 0, and w is 20. Assumes nothing.
+-- The stored cost table: the form's mark in front, n in 7 bits, each entry in as many bits as the form says, and bits 0 to a whole byte; and
+-- what bytes say when they are read so. Assumes nothing.
 use mathlib.Core.List.{List, _∷_}
+use mathlib.Core.Path.{_≡_}
 use Prim.Native.Nat.{ℕ, _*_, _+_}
+use Rattle.theory.specs.Tables.{limit}
 use Rattle.bits.specs.Bits.{bits, part, valueOf}
 use Rattle.bits.specs.Forms.{Field, bytesFor, field, fieldValue, fieldsOf, fillWidth, formBytes}
 use Rattle.stored_costs.specs.Entries.{entries, rowStart, tableOf}
+use Rattle.bits.specs.declared.Form.{Form}
+
+-- document 01's form: no mark, 20 bits for an entry, and the limit of a cost table
+abbrev pub oldCosts : Form
+oldCosts = record { head = 0; mark = 0; width = 20; limit = limit }
 
 -- the fields
-unfoldable pub costForm : ℕ → ℕ → ℕ → ℕ → (ℕ → ℕ → ℕ) → List Field
-costForm head mark w n d = field head mark ∷ field 7 n ∷ fieldsOf w (entries d n)
+unfoldable pub costForm : Form → ℕ → (ℕ → ℕ → ℕ) → List Field
+costForm form n d = field (form .head) (form .mark) ∷ field 7 n ∷ fieldsOf (form .width) (entries d n)
 
 -- the bytes
-unfoldable pub costBytes : ℕ → ℕ → ℕ → ℕ → (ℕ → ℕ → ℕ) → List ℕ
-costBytes head mark w n d = formBytes (costForm head mark w n d)
+unfoldable pub costBytes : Form → ℕ → (ℕ → ℕ → ℕ) → List ℕ
+costBytes form n d = formBytes (costForm form n d)
 
 -- where row i begins, which is where the rows before it end
-abbrev pub rowAt : ℕ → ℕ → ℕ → ℕ → ℕ
-rowAt head w n i = head + 7 + w * rowStart n i
+abbrev pub rowAt : Form → ℕ → ℕ → ℕ
+rowAt form n i = form .head + 7 + form .width * rowStart n i
 
 -- where the entries end
-abbrev pub costEnd : ℕ → ℕ → ℕ → ℕ
-costEnd head w n = rowAt head w n n
+abbrev pub costEnd : Form → ℕ → ℕ
+costEnd form n = rowAt form n n
 
 -- the bytes used
-abbrev pub costUsed : ℕ → ℕ → ℕ → ℕ
-costUsed head w n = bytesFor (costEnd head w n)
+abbrev pub costUsed : Form → ℕ → ℕ
+costUsed form n = bytesFor (costEnd form n)
 
 -- ## What the bytes s say
 
 -- what stands in front of n
-abbrev pub markOf : ℕ → List ℕ → ℕ
-markOf head s = valueOf (part (bits s) 0 head)
+abbrev pub markOf : Form → List ℕ → ℕ
+markOf form s = valueOf (part (bits s) 0 (form .head))
+
+-- the mark of the form stands in front
+abbrev pub Marked : Form → List ℕ → Type 0
+Marked form s = markOf form s ≡ form .mark
 
 -- n
-unfoldable pub imagesOf : ℕ → List ℕ → ℕ
-imagesOf head s = valueOf (part (bits s) head 7)
+unfoldable pub imagesOf : Form → List ℕ → ℕ
+imagesOf form s = valueOf (part (bits s) (form .head) 7)
 
 -- entry k, in the stored order
-unfoldable pub entryOf : ℕ → ℕ → List ℕ → ℕ → ℕ
-entryOf head w s k = fieldValue (bits s) (head + 7) w k
+unfoldable pub entryOf : Form → List ℕ → ℕ → ℕ
+entryOf form s k = fieldValue (bits s) (form .head + 7) (form .width) k
 
 -- the value of the fill bits
-unfoldable pub fillOf : ℕ → ℕ → ℕ → List ℕ → ℕ
-fillOf head w n s = valueOf (part (bits s) (costEnd head w n) (fillWidth (costEnd head w n)))
+unfoldable pub fillOf : Form → ℕ → List ℕ → ℕ
+fillOf form n s = valueOf (part (bits s) (costEnd form n) (fillWidth (costEnd form n)))
 
 -- the table
-abbrev pub costsOf : ℕ → ℕ → ℕ → List ℕ → List ℕ
-costsOf head w n s = tableOf (entryOf head w s) n
+abbrev pub storedTable : Form → ℕ → List ℕ → List ℕ
+storedTable form n s = tableOf (entryOf form s) n

@@ -4,11 +4,12 @@ use Prim.Native.Nat.{ℕ, _/_}
 use lib.ListN.{drop, length}
 use Rattle.ground.specs.Outcomes.{Outcome, frontIf}
 use Rattle.ground.specs.declared.Check.{Check}
-use Rattle.stored_costs.specs.Form.{costUsed, costsOf, imagesOf}
+use Rattle.stored_costs.specs.Form.{costUsed, storedTable, imagesOf}
 use Rattle.stored_costs.specs.Reading.{readAtChecks}
 use Rattle.stored_costs.specs.declared.StoredCosts.{StoredCosts}
 use Rattle.stored_costs.specs.declared.StoredCosts.the-variants.{Table}
 use Rattle.ground.specs.Refusals.{ifPassed}
+use Rattle.bits.specs.declared.Form.{Form}
 use Rattle.stored_costs.specs.declared.StoredCosts.the-variants as stored
 
 -- n and the bytes used where the check passed
@@ -16,14 +17,14 @@ abbrev pub tableIf : Check → ℕ → ℕ → StoredCosts
 tableIf c n used = ifPassed stored.Refused c (Table n used)
 
 -- what reading at the position answers, where so many places are lent: n and the bytes used by this table alone, or the first refusal
-abbrev pub judged : ℕ → ℕ → ℕ → List ℕ → ℕ → ℕ → StoredCosts
-judged head w L bytes position room =
-    tableIf (readAtChecks head w L bytes position room) (imagesOf head (drop (position / 8) bytes)) (costUsed head w (imagesOf head (drop (position / 8) bytes)))
+abbrev pub judged : Form → List ℕ → ℕ → ℕ → StoredCosts
+judged form bytes position room =
+    tableIf (readAtChecks form bytes position room) (imagesOf form (drop (position / 8) bytes)) (costUsed form (imagesOf form (drop (position / 8) bytes)))
 
 -- that answer, and the whole table at the front of the lent places
-abbrev pub readOutcome : ℕ → ℕ → ℕ → List ℕ → ℕ → List ℕ → Outcome StoredCosts
-readOutcome head w L bytes position out =
+abbrev pub readOutcome : Form → List ℕ → ℕ → List ℕ → Outcome StoredCosts
+readOutcome form bytes position out =
     record {
-      answer = judged head w L bytes position (length out);
-      places = frontIf (readAtChecks head w L bytes position (length out)) (costsOf head w (imagesOf head (drop (position / 8) bytes)) (drop (position / 8) bytes)) out;
+      answer = judged form bytes position (length out);
+      places = frontIf (readAtChecks form bytes position (length out)) (storedTable form (imagesOf form (drop (position / 8) bytes)) (drop (position / 8) bytes)) out;
     }

@@ -1,5 +1,5 @@
-// The stored cost table: its form, and reading it. In the form of document 01 nothing stands in front of n, an entry has 20 bits, and the
-// limit is that of a cost table; the functions below the public calls take all three as arguments. Images are counted from 0.
+// The stored cost table: its form, and reading it. The functions below the public call take the form as an argument. Images are counted from 0.
+use bits::Form;
 use ground::Check;
 use ground::Refusal;
 ghost use mathlib.Core.Path.{_≡_};
@@ -13,8 +13,8 @@ ghost use Rattle.tables.specs.Checks.{entryCheck};
 ghost use Rattle.bits.specs.Bits.{FieldWithin, bits, overAt, part, valueOf};
 ghost use Rattle.bits.specs.Forms.{bytesFor, fieldValue};
 ghost use Rattle.bits.specs.Listed.{listed};
-ghost use Rattle.stored_costs.specs.Entries.{Above, costOf};
-ghost use Rattle.stored_costs.specs.Form.{costsOf, entryOf, imagesOf, rowAt};
+ghost use Rattle.stored_costs.specs.Entries.{Above, entryCost};
+ghost use Rattle.stored_costs.specs.Form.{storedTable, entryOf, imagesOf, oldCosts, rowAt};
 ghost use Rattle.stored_costs.specs.Outcomes.{judged, readOutcome};
 ghost use Rattle.stored_costs.specs.Reading.{bodyChecks, readAtChecks, readChecks, startChecks, storedCheck};
 ghost use Rattle.stored_costs.specs.Sizes.{Held, Small, Span};
@@ -25,20 +25,32 @@ pub enum StoredCosts {
     Refused(Refusal),
 }
 
-// The bit at which row i begins, which is where the rows before it end.
-pub fn row_at(head: usize, w: usize, n: usize, i: usize) -> usize
-    requires { ⌜ Small head w n × (i ≤ n) ⌝ }
-    ensures { λ r. ⌜ r ≡ rowAt head w n i ⌝ }
+// Document 01's form: nothing stands in front of n, and an entry has 20 bits.
+pub fn old_form() -> Form
+    ensures { λ r. ⌜ r ≡ oldCosts ⌝ }
 {
-    head + 7 + w * (i * n - i * (i + 1) / 2)
+    Form {
+        head: 0,
+        mark: 0,
+        width: 20,
+        limit: theory::LIMIT,
+    }
+}
+
+// The bit at which row i begins, which is where the rows before it end.
+pub fn row_at(form: Form, n: usize, i: usize) -> usize
+    requires { ⌜ Small form n × (i ≤ n) ⌝ }
+    ensures { λ r. ⌜ r ≡ rowAt form n i ⌝ }
+{
+    form.head + 7 + form.width * (i * n - i * (i + 1) / 2)
 }
 
 // The number n that the bytes say.
-fn images(head: usize, bytes: &[u8]) -> usize
-    requires { ⌜ (head ≤ 7) × (bytesFor (head + 7) ≤ length (now bytes)) ⌝ }
-    ensures { λ r. ⌜ r ≡ imagesOf head (now (bytes .entry)) ⌝ }
+fn images(form: Form, bytes: &[u8]) -> usize
+    requires { ⌜ (form .head ≤ 7) × (bytesFor (form .head + 7) ≤ length (now bytes)) ⌝ }
+    ensures { λ r. ⌜ r ≡ imagesOf form (now (bytes .entry)) ⌝ }
 {
-    bits::get(bytes, head, 7) as usize
+    bits::get(bytes, form.head, 7) as usize
 }
 
 // The entry of w bits at the position.
@@ -50,15 +62,15 @@ fn entry_at(bytes: &[u8], position: usize, w: usize) -> u32
 }
 
 // Refusals 9, 1 and 3.
-fn check_start(head: usize, bytes: &[u8], room: usize) -> Check
-    requires { ⌜ head ≤ 7 ⌝ }
-    ensures { λ r. ⌜ r ≡ startChecks head (now (bytes .entry)) room ⌝ }
+fn check_start(form: Form, bytes: &[u8], room: usize) -> Check
+    requires { ⌜ form .head ≤ 7 ⌝ }
+    ensures { λ r. ⌜ r ≡ startChecks form (now (bytes .entry)) room ⌝ }
 {
-    let short = ground::refuse_if(bytes.len() < (head + 7 + 7) / 8, 9, 0, 0);
+    let short = ground::refuse_if(bytes.len() < (form.head + 7 + 7) / 8, 9, 0, 0);
     let Check::Passed = short else {
         return short;
     };
-    let n = images(head, bytes);
+    let n = images(form, bytes);
     let outside = theory::check_images(n);
     let Check::Passed = outside else {
         return outside;
@@ -67,11 +79,11 @@ fn check_start(head: usize, bytes: &[u8], room: usize) -> Check
 }
 
 // Refusals 9 and 11 of the bytes behind n.
-fn check_body(head: usize, w: usize, n: usize, bytes: &[u8]) -> Check
-    requires { ⌜ Small head w n ⌝ }
-    ensures { λ r. ⌜ r ≡ bodyChecks head w n (now (bytes .entry)) ⌝ }
+fn check_body(form: Form, n: usize, bytes: &[u8]) -> Check
+    requires { ⌜ Small form n ⌝ }
+    ensures { λ r. ⌜ r ≡ bodyChecks form n (now (bytes .entry)) ⌝ }
 {
-    let end = row_at(head, w, n, n);
+    let end = row_at(form, n, n);
     let used = (end + 7) / 8;
     let short = ground::refuse_if(bytes.len() < used, 9, 0, 0);
     let Check::Passed = short else {
@@ -81,18 +93,18 @@ fn check_body(head: usize, w: usize, n: usize, bytes: &[u8]) -> Check
 }
 
 // Refusal 4 in row i, right of the diagonal.
-fn check_row(head: usize, w: usize, limit: u32, n: usize, bytes: &[u8], i: usize) -> Check
-    requires { ⌜ Held head w n (length (now bytes)) × (i < n) ⌝ }
-    ensures { λ r. ⌜ r ≡ checkAll (entryCheck limit (costOf (entryOf head w (now (bytes .entry))) n) i) (i + 1) (n - (i + 1)) ⌝ }
+fn check_row(form: Form, n: usize, bytes: &[u8], i: usize) -> Check
+    requires { ⌜ Held form n (length (now bytes)) × (i < n) ⌝ }
+    ensures { λ r. ⌜ r ≡ checkAll (entryCheck (form .limit) (entryCost (entryOf form (now (bytes .entry))) n) i) (i + 1) (n - (i + 1)) ⌝ }
 {
-    let mut p = row_at(head, w, n, i);
+    let mut p = row_at(form, n, i);
     let mut j = i + 1;
     while j < n {
-        let c = ground::refuse_if(limit < entry_at(bytes, p, w), 4, i + 1, j + 1);
+        let c = ground::refuse_if(form.limit < entry_at(bytes, p, form.width), 4, i + 1, j + 1);
         match c {
             Check::Refused(_) => return c,
             Check::Passed => {
-                p += w;
+                p += form.width;
                 j += 1;
             }
         }
@@ -101,13 +113,13 @@ fn check_row(head: usize, w: usize, limit: u32, n: usize, bytes: &[u8], i: usize
 }
 
 // Refusal 4, row by row.
-fn check_entries(head: usize, w: usize, limit: u32, n: usize, bytes: &[u8]) -> Check
-    requires { ⌜ Held head w n (length (now bytes)) ⌝ }
-    ensures { λ r. ⌜ r ≡ storedCheck limit (costOf (entryOf head w (now (bytes .entry))) n) n ⌝ }
+fn check_entries(form: Form, n: usize, bytes: &[u8]) -> Check
+    requires { ⌜ Held form n (length (now bytes)) ⌝ }
+    ensures { λ r. ⌜ r ≡ storedCheck (form .limit) (entryCost (entryOf form (now (bytes .entry))) n) n ⌝ }
 {
     let mut i = 0;
     while i < n {
-        let c = check_row(head, w, limit, n, bytes, i);
+        let c = check_row(form, n, bytes, i);
         match c {
             Check::Refused(_) => return c,
             Check::Passed => i += 1,
@@ -117,53 +129,46 @@ fn check_entries(head: usize, w: usize, limit: u32, n: usize, bytes: &[u8]) -> C
 }
 
 // All checks of the table at the front of the bytes.
-fn check_stored(head: usize, w: usize, limit: u32, bytes: &[u8], room: usize) -> Check
-    requires { ⌜ (head ≤ 7) × (w ≤ 32) ⌝ }
-    ensures { λ r. ⌜ r ≡ readChecks head w limit (now (bytes .entry)) room ⌝ }
+fn check_stored(form: Form, bytes: &[u8], room: usize) -> Check
+    requires { ⌜ (form .head ≤ 7) × (form .width ≤ 32) ⌝ }
+    ensures { λ r. ⌜ r ≡ readChecks form (now (bytes .entry)) room ⌝ }
 {
-    let start = check_start(head, bytes, room);
+    let start = check_start(form, bytes, room);
     let Check::Passed = start else {
         return start;
     };
-    let n = images(head, bytes);
-    let body = check_body(head, w, n, bytes);
+    let n = images(form, bytes);
+    let body = check_body(form, n, bytes);
     let Check::Passed = body else {
         return body;
     };
-    check_entries(head, w, limit, n, bytes)
+    check_entries(form, n, bytes)
 }
 
 // All checks at a position: the rest of the bytes from there on is looked at as one begins.
-fn check_at(head: usize, w: usize, limit: u32, bytes: &[u8], position: usize, room: usize) -> Check
-    requires { ⌜ (head ≤ 7) × (w ≤ 32) ⌝ }
-    ensures { λ r. ⌜ r ≡ readAtChecks head w limit (now (bytes .entry)) position room ⌝ }
+fn check_at(form: Form, bytes: &[u8], position: usize, room: usize) -> Check
+    requires { ⌜ (form .head ≤ 7) × (form .width ≤ 32) ⌝ }
+    ensures { λ r. ⌜ r ≡ readAtChecks form (now (bytes .entry)) position room ⌝ }
 {
     let c = ground::refuse_if(bits::is_misplaced(bytes.len(), position), 9, 0, 0);
     let Check::Passed = c else {
         return c;
     };
-    check_stored(head, w, limit, &bytes[position / 8..], room)
+    check_stored(form, &bytes[position / 8..], room)
 }
 
 // What reading at the position answers: n and the bytes used once all checks passed.
-fn judge(
-    head: usize,
-    w: usize,
-    limit: u32,
-    bytes: &[u8],
-    position: usize,
-    room: usize,
-) -> StoredCosts
-    requires { ⌜ (head ≤ 7) × (w ≤ 32) ⌝ }
-    ensures { λ r. ⌜ r ≡ judged head w limit (now (bytes .entry)) position room ⌝ }
+fn judge(form: Form, bytes: &[u8], position: usize, room: usize) -> StoredCosts
+    requires { ⌜ (form .head ≤ 7) × (form .width ≤ 32) ⌝ }
+    ensures { λ r. ⌜ r ≡ judged form (now (bytes .entry)) position room ⌝ }
 {
-    match check_at(head, w, limit, bytes, position, room) {
+    match check_at(form, bytes, position, room) {
         Check::Refused(r) => StoredCosts::Refused(r),
         Check::Passed => {
-            let n = images(head, &bytes[position / 8..]);
+            let n = images(form, &bytes[position / 8..]);
             StoredCosts::Table {
                 n,
-                used: (row_at(head, w, n, n) + 7) / 8,
+                used: (row_at(form, n, n) + 7) / 8,
             }
         }
     }
@@ -171,9 +176,9 @@ fn judge(
 
 // What reading the cost table at the position answers, where so many places are lent. Nothing is written.
 pub fn judge_costs(bytes: &[u8], position: usize, room: usize) -> StoredCosts
-    ensures { λ r. ⌜ r ≡ judged 0 20 limit (now (bytes .entry)) position room ⌝ }
+    ensures { λ r. ⌜ r ≡ judged oldCosts (now (bytes .entry)) position room ⌝ }
 {
-    judge(0, 20, theory::LIMIT, bytes, position, room)
+    judge(old_form(), bytes, position, room)
 }
 
 // The places of row i left of the diagonal: each is the place of column i that mirrors it.
@@ -206,36 +211,36 @@ fn fill_right(position: usize, w: usize, count: usize, bytes: &[u8], start: usiz
 }
 
 // Row i, where the places of column i above it are filled.
-fn fill_row(head: usize, w: usize, n: usize, bytes: &[u8], i: usize, out: &mut [u32])
-    requires { ⌜ Held head w n (length (now bytes)) × (i < n) × (n * n ≤ length (now out)) × Above (entryOf head w (now bytes)) n i (now out) ⌝ }
-    ensures { λ r. ⌜ now (out .exit) ≡ overAt (now (out .entry)) (i * n) (listed (costOf (entryOf head w (now (bytes .entry))) n i) n) ⌝ }
+fn fill_row(form: Form, n: usize, bytes: &[u8], i: usize, out: &mut [u32])
+    requires { ⌜ Held form n (length (now bytes)) × (i < n) × (n * n ≤ length (now out)) × Above (entryOf form (now bytes)) n i (now out) ⌝ }
+    ensures { λ r. ⌜ now (out .exit) ≡ overAt (now (out .entry)) (i * n) (listed (entryCost (entryOf form (now (bytes .entry))) n i) n) ⌝ }
 {
     fill_left(n, i, out);
     out[i * n + i] = 0;
-    let p = row_at(head, w, n, i);
-    fill_right(p, w, n - (i + 1), bytes, i * n + (i + 1), out);
+    let p = row_at(form, n, i);
+    fill_right(p, form.width, n - (i + 1), bytes, i * n + (i + 1), out);
 }
 
 // All places of the table at the front of the bytes, row by row, one store a place.
-fn fill(head: usize, w: usize, n: usize, bytes: &[u8], out: &mut [u32])
-    requires { ⌜ Held head w n (length (now bytes)) × (n * n ≤ length (now out)) ⌝ }
-    ensures { λ r. ⌜ now (out .exit) ≡ front (costsOf head w n (now (bytes .entry))) (now (out .entry)) ⌝ }
+fn fill(form: Form, n: usize, bytes: &[u8], out: &mut [u32])
+    requires { ⌜ Held form n (length (now bytes)) × (n * n ≤ length (now out)) ⌝ }
+    ensures { λ r. ⌜ now (out .exit) ≡ front (storedTable form n (now (bytes .entry))) (now (out .entry)) ⌝ }
 {
     let mut i = 0;
     while i < n {
-        fill_row(head, w, n, bytes, i, out);
+        fill_row(form, n, bytes, i, out);
         i += 1;
     }
 }
 
 // The cost table at the position, into the lent places: everything is judged before the first store.
 pub fn read_costs(bytes: &[u8], position: usize, out: &mut [u32]) -> StoredCosts
-    ensures { λ r. ⌜ Left (readOutcome 0 20 limit (now (bytes .entry)) position (now (out .entry))) r (now (out .exit)) ⌝ }
+    ensures { λ r. ⌜ Left (readOutcome oldCosts (now (bytes .entry)) position (now (out .entry))) r (now (out .exit)) ⌝ }
 {
     match judge_costs(bytes, position, out.len()) {
         StoredCosts::Refused(r) => StoredCosts::Refused(r),
         StoredCosts::Table { n, used } => {
-            fill(0, 20, n, &bytes[position / 8..], out);
+            fill(old_form(), n, &bytes[position / 8..], out);
             StoredCosts::Table { n, used }
         }
     }

@@ -5,14 +5,13 @@ use Prim.Native.Nat.{ℕ}
 use lib.Count.{ones, onesIn}
 use Rattle.ground.specs.First.{first}
 use Rattle.ground.specs.Refusals.{refusal}
-use Rattle.theory.specs.Tables.{limit}
 use Rattle.bits.specs.Bits.{bits, bitsOf, part, valueOf}
 use Rattle.bits.specs.Forms.{bytesOf, filled, formBits, formBytes, packed}
 use Rattle.bits.specs.Listed.{listed}
 use Rattle.links.specs.BadRows.{badRow, missing}
-use Rattle.stored_links.specs.Form.{linkBytes, linkForm, rowsTo}
+use Rattle.stored_links.specs.Form.{linkBytes, linkForm, oldLinks, rowsTo}
 use Rattle.stored_links.specs.Outcomes.{judged}
-use Rattle.stored_links.specs.Said.{costOf, costsOf, countOf, farOf, farsOf, fillOf, imagesOf}
+use Rattle.stored_links.specs.Said.{costAt, costsOf, countOf, farAt, farsOf, fillOf, imagesOf}
 use Rattle.stored_links.specs.declared.StoredLinks.the-variants.{Table}
 use Rattle.stored_links.specs.declared.StoredLinks.the-variants as stored
 
@@ -27,15 +26,15 @@ unfoldable pub storedA : List ℕ
 storedA = 0x06 ∷ 0x0D ∷ 0x00 ∷ 0x00 ∷ 0x0C ∷ 0x00 ∷ 0x00 ∷ 0x1C ∷ 0x00 ∷ 0x00 ∷ 0x20 ∷ []
 
 -- it is written as document 01's bytes, and these are read as it
-pub example-A : (linkBytes 0 0 21 3 farsA costsA ≡ storedA) × (judged 0 21 limit storedA 0 3 ≡ Table 3 3 11)
-    × (farsOf 0 21 3 3 storedA ≡ farsA) × (costsOf 0 21 3 3 storedA ≡ costsA)
-unfolding farsA costsA storedA linkBytes linkForm rowsTo formBytes formBits packed filled bytesOf bits bitsOf valueOf part listed imagesOf countOf farOf costOf fillOf first badRow missing ones onesIn
+pub example-A : (linkBytes oldLinks 3 farsA costsA ≡ storedA) × (judged oldLinks storedA 0 3 ≡ Table 3 3 11)
+    × (farsOf oldLinks 3 3 storedA ≡ farsA) × (costsOf oldLinks 3 3 storedA ≡ costsA)
+unfolding farsA costsA storedA linkBytes linkForm rowsTo formBytes formBits packed filled bytesOf bits bitsOf valueOf part listed imagesOf countOf farAt costAt fillOf first badRow missing ones onesIn
 example-A = (refl, refl, refl, refl)
 
 -- n 2 and 65 get 1, in two bytes; one byte gets 9; a position within a byte gets 9
-pub head-examples : (judged 0 21 limit (4 ∷ 0 ∷ []) 0 0 ≡ stored.Refused (refusal 1 2 0 0 0))
-    × (judged 0 21 limit (130 ∷ 0 ∷ []) 0 0 ≡ stored.Refused (refusal 1 65 0 0 0))
-    × (judged 0 21 limit (130 ∷ []) 0 0 ≡ stored.Refused (refusal 9 0 0 0 0))
-    × (judged 0 21 limit (130 ∷ 0 ∷ []) 3 0 ≡ stored.Refused (refusal 9 0 0 0 0))
+pub head-examples : (judged oldLinks (4 ∷ 0 ∷ []) 0 0 ≡ stored.Refused (refusal 1 2 0 0 0))
+    × (judged oldLinks (130 ∷ 0 ∷ []) 0 0 ≡ stored.Refused (refusal 1 65 0 0 0))
+    × (judged oldLinks (130 ∷ []) 0 0 ≡ stored.Refused (refusal 9 0 0 0 0))
+    × (judged oldLinks (130 ∷ 0 ∷ []) 3 0 ≡ stored.Refused (refusal 9 0 0 0 0))
 unfolding bits bitsOf valueOf part imagesOf countOf
 head-examples = (refl, refl, refl, refl)

@@ -9,29 +9,30 @@ use Rattle.bits.specs.Forms.{bytesFor}
 use Rattle.links.specs.Checks.{countChecks, rowChecks}
 use Rattle.stored_links.specs.Form.{linkUsed}
 use Rattle.stored_links.specs.Said.{costsOf, countOf, farsOf, fillOf, imagesOf}
+use Rattle.bits.specs.declared.Form.{Form}
 
 -- 9, 1, 10
-abbrev pub headChecks : ℕ → List ℕ → Check
-headChecks head s = endCheck s (bytesFor (head + 14)) then countChecks (imagesOf head s) (countOf head s)
+abbrev pub headChecks : Form → List ℕ → Check
+headChecks form s = endCheck s (bytesFor (form .head + 14)) then countChecks (imagesOf form s) (countOf form s)
 
 -- 9, 11, 12, 13
-abbrev pub bodyChecks : ℕ → ℕ → ℕ → ℕ → ℕ → List ℕ → Check
-bodyChecks head w L n N s =
-    endCheck s (linkUsed head w n N) then fillCheck (fillOf head w n N s) then rowChecks L n (farsOf head w n N s) (costsOf head w n N s)
+abbrev pub bodyChecks : Form → ℕ → ℕ → List ℕ → Check
+bodyChecks form n N s =
+    endCheck s (linkUsed form n N) then fillCheck (fillOf form n N s) then rowChecks (form .limit) n (farsOf form n N s) (costsOf form n N s)
 
 -- 9, 1, 10, 3, 9, 11, 12, 13: with room for so many places in each output
-abbrev pub readChecks : ℕ → ℕ → ℕ → List ℕ → ℕ → Check
-readChecks head w L s room =
-    headChecks head s then roomCheck (2 * imagesOf head s - 3) room then bodyChecks head w L (imagesOf head s) (countOf head s) s
+abbrev pub readChecks : Form → List ℕ → ℕ → Check
+readChecks form s room =
+    headChecks form s then roomCheck (2 * imagesOf form s - 3) room then bodyChecks form (imagesOf form s) (countOf form s) s
 
 -- the same without 3
-abbrev pub tableChecks : ℕ → ℕ → ℕ → List ℕ → Check
-tableChecks head w L s = headChecks head s then bodyChecks head w L (imagesOf head s) (countOf head s) s
+abbrev pub tableChecks : Form → List ℕ → Check
+tableChecks form s = headChecks form s then bodyChecks form (imagesOf form s) (countOf form s) s
 
 -- 9 for the position, then those of the bytes from there on
-abbrev pub readAtChecks : ℕ → ℕ → ℕ → List ℕ → ℕ → ℕ → Check
-readAtChecks head w L bytes position room = positionCheck bytes position then readChecks head w L (drop (position / 8) bytes) room
+abbrev pub readAtChecks : Form → List ℕ → ℕ → ℕ → Check
+readAtChecks form bytes position room = positionCheck bytes position then readChecks form (drop (position / 8) bytes) room
 
 -- the same without 3
-abbrev pub tableAtChecks : ℕ → ℕ → ℕ → List ℕ → ℕ → Check
-tableAtChecks head w L bytes position = positionCheck bytes position then tableChecks head w L (drop (position / 8) bytes)
+abbrev pub tableAtChecks : Form → List ℕ → ℕ → Check
+tableAtChecks form bytes position = positionCheck bytes position then tableChecks form (drop (position / 8) bytes)

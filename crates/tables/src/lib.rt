@@ -34,21 +34,21 @@ pub fn check_size(n: usize, t: &[u32]) -> Check
     }
 }
 
-fn check_entry(limit: u32, n: usize, t: &[u32], i: usize, j: usize) -> Check
+fn check_entry(most: u32, n: usize, t: &[u32], i: usize, j: usize) -> Check
     requires { ⌜ Sized n (now t) × (i < n) × (j < n) ⌝ }
-    ensures { λ r. ⌜ r ≡ entryCheck limit (cost (now (t .entry)) n) i j ⌝ }
+    ensures { λ r. ⌜ r ≡ entryCheck most (cost (now (t .entry)) n) i j ⌝ }
 {
-    ground::refuse_if(limit < at(t, n, i, j), 4, i + 1, j + 1)
+    ground::refuse_if(most < at(t, n, i, j), 4, i + 1, j + 1)
 }
 
 // Refusal 4 in row i.
-fn check_row(limit: u32, n: usize, t: &[u32], i: usize) -> Check
+fn check_row(most: u32, n: usize, t: &[u32], i: usize) -> Check
     requires { ⌜ Sized n (now t) × (i < n) ⌝ }
-    ensures { λ r. ⌜ r ≡ checkAll (entryCheck limit (cost (now (t .entry)) n) i) 0 n ⌝ }
+    ensures { λ r. ⌜ r ≡ checkAll (entryCheck most (cost (now (t .entry)) n) i) 0 n ⌝ }
 {
     let mut j = 0;
     while j < n {
-        let c = check_entry(limit, n, t, i, j);
+        let c = check_entry(most, n, t, i, j);
         match c {
             Check::Refused(_) => return c,
             Check::Passed => j += 1,
@@ -58,13 +58,13 @@ fn check_row(limit: u32, n: usize, t: &[u32], i: usize) -> Check
 }
 
 // Refusal 4 in the whole table.
-fn check_entries(limit: u32, n: usize, t: &[u32]) -> Check
+fn check_entries(most: u32, n: usize, t: &[u32]) -> Check
     requires { ⌜ Sized n (now t) ⌝ }
-    ensures { λ r. ⌜ r ≡ entriesCheck limit (cost (now (t .entry)) n) n ⌝ }
+    ensures { λ r. ⌜ r ≡ entriesCheck most (cost (now (t .entry)) n) n ⌝ }
 {
     let mut i = 0;
     while i < n {
-        let c = check_row(limit, n, t, i);
+        let c = check_row(most, n, t, i);
         match c {
             Check::Refused(_) => return c,
             Check::Passed => i += 1,
@@ -136,11 +136,11 @@ fn check_symmetry(n: usize, t: &[u32]) -> Check
 }
 
 // Refusals 4, 5, 6 of a table of the right size.
-pub fn check_costs(limit: u32, n: usize, t: &[u32]) -> Check
+pub fn check_costs(most: u32, n: usize, t: &[u32]) -> Check
     requires { ⌜ Sized n (now t) ⌝ }
-    ensures { λ r. ⌜ r ≡ costsCheck limit (cost (now (t .entry)) n) n ⌝ }
+    ensures { λ r. ⌜ r ≡ costsCheck most (cost (now (t .entry)) n) n ⌝ }
 {
-    let c = check_entries(limit, n, t);
+    let c = check_entries(most, n, t);
     let Check::Passed = c else {
         return c;
     };

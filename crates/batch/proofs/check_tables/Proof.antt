@@ -3,7 +3,6 @@ use mathlib.Core.Path.{ap, sym, _∙_, _≡_}
 use Prim.Native.Nat.{ℕ, _+_, _-_, _≤_}
 use native.Mathlib.Omega.{arith}
 use lib.ListN.{drop, length, length-drop}
-use Rattle.theory.specs.Tables.{limit}
 use Rattle.batch.specs.Batch.{batchFrom}
 use Rattle.batch.specs.Fitting.{Next}
 use Rattle.batch.specs.Laws.Next.{next-length, next-passed, next-room}
@@ -11,12 +10,13 @@ use Rattle.batch.specs.Laws.Steps.{answer-end, answer-goes, answer-start
 use Rattle.batch.specs.Tables.{tables}
 use borrow.Author.Needs.{needs}
 use Rattle.batch.proofs.check_tables.Statement.{statement}
+use Rattle.stored_links.specs.Form.{oldLinks}
 use Rattle.batch.proofs.check_tables.Tie as tie
 
 abbrev Inv-loop : tie.InvT-loop
 Inv-loop ns counts fars costs room used₀ rows₀ i₀ used rows i =
     (i ≤ length ns) × (rows ≤ length fars) × (rows ≤ length costs) × (used ≤ room)
-    × (batchFrom 0 21 limit 0 0 (tables ns counts) fars costs room ≡ answerAt 0 21 limit ns counts fars costs room used rows i)
+    × (batchFrom oldLinks 0 0 (tables ns counts) fars costs room ≡ answerAt oldLinks ns counts fars costs room used rows i)
 
 abbrev μ-loop : tie.MeasureT-loop
 μ-loop ns counts fars costs room used₀ rows₀ i₀ used rows i = length ns - i
@@ -33,11 +33,11 @@ turn c = c .before .before .before
 
 -- the table passed
 passed : (c : tie.After-enum-told Inv-loop μ-loop)
-    → Next 0 21 limit (looked c .before .before .number-at .result) (looked c .before .number-at2 .result) (drop (turn (looked c) .before .loop .rows) (begun (turn (looked c)) .args .fars .now)) (drop (turn (looked c) .before .loop .rows) (begun (turn (looked c)) .args .costs .now)) (begun (turn (looked c)) .args .room - turn (looked c) .before .loop .used)
-passed c = next-passed 0 21 limit _ _ _ _ _ (sym (looked c .check-from .ensures) ∙ c .enum-told .given .1)
+    → Next oldLinks (looked c .before .before .number-at .result) (looked c .before .number-at2 .result) (drop (turn (looked c) .before .loop .rows) (begun (turn (looked c)) .args .fars .now)) (drop (turn (looked c) .before .loop .rows) (begun (turn (looked c)) .args .costs .now)) (begun (turn (looked c)) .args .room - turn (looked c) .before .loop .used)
+passed c = next-passed oldLinks _ _ _ _ _ (sym (looked c .check-from .ensures) ∙ c .enum-told .given .1)
 
 loop-holds : tie.Need-loop-holds Inv-loop μ-loop
-loop-holds c = (search needs, search needs, search needs, search needs, answer-start 0 21 limit _ _ _ _ _)
+loop-holds c = (search needs, search needs, search needs, search needs, answer-start oldLinks _ _ _ _ _)
 
 number-at-requires : tie.Need-number-at-requires Inv-loop μ-loop
 number-at-requires c κs = search needs
@@ -64,14 +64,14 @@ returns c =
     let t = turn k in
     let a = begun t .args in
     let l = t .before .loop in
-    answer-stops 0 21 limit (a .ns .now) (a .counts .now) (a .fars .now) (a .costs .now) (a .room) (l .used) (l .rows) (l .i) _ _ (begun t .pre) (t .loop-test .taken) (sym (k .before .before .number-at .ensures)) (sym (k .before .number-at2 .ensures)) (r .r .given .1) (k .check-from .ensures)
+    answer-stops oldLinks (a .ns .now) (a .counts .now) (a .fars .now) (a .costs .now) (a .room) (l .used) (l .rows) (l .i) _ _ (begun t .pre) (t .loop-test .taken) (sym (k .before .before .number-at .ensures)) (sym (k .before .number-at2 .ensures)) (r .r .given .1) (k .check-from .ensures)
     ∙ sym (l .inv .4)
 
 enum-told : tie.Need-enum-told Inv-loop μ-loop
 enum-told c = search needs
 
 links-used-requires : tie.Need-links-used-requires Inv-loop μ-loop
-links-used-requires c κs = next-room 0 21 limit _ _ _ _ _ (omega arith) (omega arith) (passed c) .small
+links-used-requires c κs = next-room oldLinks _ _ _ _ _ (omega arith) (omega arith) (passed c) .small
 
 add-used : tie.Need-add-used Inv-loop μ-loop
 add-used c =
@@ -82,7 +82,7 @@ add-rows : tie.Need-add-rows Inv-loop μ-loop
 add-rows c =
     let t = turn (looked (c .before)) in
     let l = t .before .loop in
-    let z = next-length 0 21 limit _ _ _ _ _ (passed (c .before)) in
+    let z = next-length oldLinks _ _ _ _ _ (passed (c .before)) in
     omega (arith, z .0, length-drop (l .rows) (begun t .args .fars .now), l .inv .1, begun t .good)
 
 add-i : tie.Need-add-i Inv-loop μ-loop
@@ -99,14 +99,14 @@ loop-again c =
     let l = t .before .loop in
     let N = k .before .number-at2 .result in
     let p = passed (c .before) in
-    let z = next-length 0 21 limit _ _ _ _ _ p in (
+    let z = next-length oldLinks _ _ _ _ _ p in (
       search needs,
       omega (arith, z .0, length-drop (l .rows) (a .fars .now), l .inv .1),
       omega (arith, z .1, length-drop (l .rows) (a .costs .now), l .inv .2),
       omega (arith, c .links-used .ensures, p .fits, l .inv .3),
       l .inv .4
-          ∙ answer-goes 0 21 limit (a .ns .now) (a .counts .now) (a .fars .now) (a .costs .now) (a .room) (l .used) (l .rows) (l .i) _ _ (begun t .pre) (t .loop-test .taken) (sym (k .before .before .number-at .ensures)) (sym (k .before .number-at2 .ensures)) (c .before .enum-told .given .1) (k .check-from .ensures)
-          ∙ ap (λ (x : ℕ). answerAt 0 21 limit (a .ns .now) (a .counts .now) (a .fars .now) (a .costs .now) (a .room) (l .used + x) (l .rows + N) (l .i + 1)) (sym (c .links-used .ensures)),
+          ∙ answer-goes oldLinks (a .ns .now) (a .counts .now) (a .fars .now) (a .costs .now) (a .room) (l .used) (l .rows) (l .i) _ _ (begun t .pre) (t .loop-test .taken) (sym (k .before .before .number-at .ensures)) (sym (k .before .number-at2 .ensures)) (c .before .enum-told .given .1) (k .check-from .ensures)
+          ∙ ap (λ (x : ℕ). answerAt oldLinks (a .ns .now) (a .counts .now) (a .fars .now) (a .costs .now) (a .room) (l .used + x) (l .rows + N) (l .i + 1)) (sym (c .links-used .ensures)),
     )
 
 check-end-requires : tie.Need-check-end-requires Inv-loop μ-loop
@@ -119,7 +119,7 @@ returns-2 c =
     let s = d .before .before .before .before .before .before in
     let a = s .args in
     c .check-end .ensures
-    ∙ sym (l .inv .4 ∙ answer-end 0 21 limit (a .ns .now) (a .counts .now) (a .fars .now) (a .costs .now) (a .room) (l .used) (l .rows) (l .i) (s .pre) (d .loop-test .left))
+    ∙ sym (l .inv .4 ∙ answer-end oldLinks (a .ns .now) (a .counts .now) (a .fars .now) (a .costs .now) (a .room) (l .used) (l .rows) (l .i) (s .pre) (d .loop-test .left))
 
 pub check-tables-spec : {M : Type 1} → statement M
 check-tables-spec =

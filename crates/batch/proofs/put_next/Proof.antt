@@ -3,8 +3,7 @@ use mathlib.Core.Path.{ap, refl, _∙_, _≡_}
 use Prim.Native.Nat.{ℕ, _+_, _-_, _≤_}
 use native.Mathlib.Omega.{arith}
 use lib.ListN.{length, length-drop}
-use Rattle.theory.specs.Tables.{limit}
-use Rattle.stored_links.specs.Form.{linkUsed}
+use Rattle.stored_links.specs.Form.{linkUsed, oldLinks}
 use Rattle.batch.specs.Laws.Next.{next-count, next-length, next-room}
 use borrow.Author.Needs.{needs}
 use Rattle.batch.proofs.put_next.Statement.{statement}
@@ -18,8 +17,8 @@ there : (c : tie.After-slice-known)
     → (begun c .args .rows + begun c .args .count ≤ length (begun c .args .fars .now)) × (begun c .args .rows + begun c .args .count ≤ length (begun c .args .costs .now))
 there c =
     let a = begun c .args in
-    let z = next-length 0 21 limit _ _ _ _ _ (begun c .pre) in
-    let k = next-count 0 21 limit _ _ _ _ _ (begun c .pre) in
+    let z = next-length oldLinks _ _ _ _ _ (begun c .pre) in
+    let k = next-count oldLinks _ _ _ _ _ (begun c .pre) in
     (omega (arith, z .0, k .0, k .2, length-drop (a .rows) (a .fars .now)), omega (arith, z .1, k .0, k .2, length-drop (a .rows) (a .costs .now)))
 
 add-end : tie.Need-add-end
@@ -54,7 +53,7 @@ put-links-requires c κs =
     let s = begun (c .before .before .before) in
     let a = s .args in
     let e : a .rows + a .count - a .rows ≡ a .count = omega arith in
-    rw (e, s .pre .links .counted, s .pre .links .costed) (next-room 0 21 limit _ _ _ _ _ (omega arith) (omega arith) (s .pre), refl)
+    rw (e, s .pre .links .counted, s .pre .links .costed) (next-room oldLinks _ _ _ _ _ (omega arith) (omega arith) (s .pre), refl)
 
 same-length : tie.Need-same-length
 same-length c = search needs
@@ -66,7 +65,7 @@ returns c =
     let a = s .args in
     let e : a .rows + a .count - a .rows ≡ a .count = omega arith in
     let w = rw e at (p .put-links .ensures) in
-    (w .0 ∙ ap (λ (x : ℕ). linkUsed 0 21 (a .n) x) (s .pre .links .counted), w .1)
+    (w .0 ∙ ap (λ (x : ℕ). linkUsed oldLinks (a .n) x) (s .pre .links .counted), w .1)
 
 pub put-next-spec : {M : Type 1} → statement M
 put-next-spec =

@@ -1,9 +1,9 @@
 -- `batch::write_batch` meets its contract: the tables are put once all checks passed. Assumes nothing.
 use mathlib.Core.Path.{sym, _∙_}
 use lib.ListN.{length}
-use Rattle.theory.specs.Tables.{limit}
 use Rattle.batch.specs.Laws.Answers.{batch-accepted, by-goes, by-stops}
 use borrow.Author.Needs.{needs}
+use Rattle.stored_links.specs.Form.{oldLinks}
 use Rattle.batch.proofs.write_batch.Statement.{statement}
 use Rattle.batch.proofs.write_batch.Tie as tie
 
@@ -21,7 +21,7 @@ put-tables-requires c κs =
     let u = c .before .before in
     let k = u .before .before in
     let a = k .before .before .before .before .before .before .args in
-    let q = batch-accepted 0 0 21 limit (a .ns .now) (a .counts .now) (a .fars .now) (a .costs .now) (length (a .out .now)) _ .0 (sym (k .check-batch .ensures) ∙ u .used .given .1) in
+    let q = batch-accepted oldLinks (a .ns .now) (a .counts .now) (a .fars .now) (a .costs .now) (length (a .out .now)) _ .0 (sym (k .check-batch .ensures) ∙ u .used .given .1) in
     (q .0, q .1)
 
 returns : tie.Need-returns

@@ -25,6 +25,7 @@ use Rattle.batch.specs.Laws.Next.{left-over-passed, length-next, next-pa
 use Rattle.batch.specs.Tables.{Table, leftOverChecks, nextChecks, tables}
 use Rattle.batch.specs.declared.Batched.{Batched}
 use Rattle.batch.specs.declared.Batched.the-variants.{Bytes}
+use Rattle.bits.specs.declared.Form.{Form}
 use Rattle.batch.specs.declared.Batched.the-variants as batched
 
 -- ## A check with a table's number
@@ -45,60 +46,60 @@ by-goes b m d e p q h = rw (← q, p) h
 
 -- ## The whole batch
 
-module _ (head mark w L : ℕ) where
-  pub from-fits : (k used : ℕ) (ts : List Table) (l v : List ℕ) (room u : ℕ) → batchFrom head w L k used ts l v room ≡ Bytes u
-      → Fits head w L ts l v room × (u ≡ used + length (batchBytes head mark w ts l v))
+module _ (form : Form) where
+  pub from-fits : (k used : ℕ) (ts : List Table) (l v : List ℕ) (room u : ℕ) → batchFrom form k used ts l v room ≡ Bytes u
+      → Fits form ts l v room × (u ≡ used + length (batchBytes form ts l v))
   unfolding batchFrom batchBytes Fits
   from-fits k used [] l v room u e =
       let p = numbered-bytes k (leftOverChecks l v) (Bytes used) u e in
       (left-over-passed l v (p .0), omega (arith, bytes-same used u (p .1)))
   from-fits k used (t ∷ ts) l v room u e =
-      let x = linkUsed head w (t .0) (t .1) in
-      let m = linkBytes head mark w (t .0) (take (t .1) l) (take (t .1) v) in
-      let p = numbered-bytes (k + 1) (nextChecks head w L (t .0) (t .1) l v room) (batchFrom head w L (k + 1) (used + x) ts (drop (t .1) l) (drop (t .1) v) (room - x)) u e in
-      let s = next-passed head w L (t .0) (t .1) l v room (p .0) in
+      let x = linkUsed form (t .0) (t .1) in
+      let m = linkBytes form (t .0) (take (t .1) l) (take (t .1) v) in
+      let p = numbered-bytes (k + 1) (nextChecks form (t .0) (t .1) l v room) (batchFrom form (k + 1) (used + x) ts (drop (t .1) l) (drop (t .1) v) (room - x)) u e in
+      let s = next-passed form (t .0) (t .1) l v room (p .0) in
       let r = from-fits (k + 1) (used + x) ts (drop (t .1) l) (drop (t .1) v) (room - x) u (p .1) in
-      ((s, r .0), omega (arith, r .1, length-next head w L (t .0) (t .1) l v room mark s, length-append m (batchBytes head mark w ts (drop (t .1) l) (drop (t .1) v))))
+      ((s, r .0), omega (arith, r .1, length-next form (t .0) (t .1) l v room s, length-append m (batchBytes form ts (drop (t .1) l) (drop (t .1) v))))
 
-  pub fits-from : (k used : ℕ) (ts : List Table) (l v : List ℕ) (room : ℕ) → Fits head w L ts l v room
-      → batchFrom head w L k used ts l v room ≡ Bytes (used + length (batchBytes head mark w ts l v))
+  pub fits-from : (k used : ℕ) (ts : List Table) (l v : List ℕ) (room : ℕ) → Fits form ts l v room
+      → batchFrom form k used ts l v room ≡ Bytes (used + length (batchBytes form ts l v))
   unfolding batchFrom batchBytes Fits
   fits-from k used [] l v room f = rw (f .0, f .1) (ap Bytes (omega arith))
   fits-from k used (t ∷ ts) l v room f =
-      let x = linkUsed head w (t .0) (t .1) in
-      let m = linkBytes head mark w (t .0) (take (t .1) l) (take (t .1) v) in
+      let x = linkUsed form (t .0) (t .1) in
+      let m = linkBytes form (t .0) (take (t .1) l) (take (t .1) v) in
       let ih = fits-from (k + 1) (used + x) ts (drop (t .1) l) (drop (t .1) v) (room - x) (f .1) in
-      rw (passed-next head w L (t .0) (t .1) l v room (f .0))
-      (ih ∙ ap Bytes (omega (arith, length-next head w L (t .0) (t .1) l v room mark (f .0), length-append m (batchBytes head mark w ts (drop (t .1) l) (drop (t .1) v)))))
+      rw (passed-next form (t .0) (t .1) l v room (f .0))
+      (ih ∙ ap Bytes (omega (arith, length-next form (t .0) (t .1) l v room (f .0), length-append m (batchBytes form ts (drop (t .1) l) (drop (t .1) v)))))
 
   module _ (ns counts l v : List ℕ) where
     -- accepted, with these bytes: two lists of one length, every table a link table that has its rows and room, and nothing left over
-    pub batch-accepted : (room u : ℕ) → (batchAnswer head w L ns counts l v room ≡ Bytes u)
-        ↔ ((length ns ≡ length counts) × Fits head w L (tables ns counts) l v room × (u ≡ length (batchBytes head mark w (tables ns counts) l v)))
+    pub batch-accepted : (room u : ℕ) → (batchAnswer form ns counts l v room ≡ Bytes u)
+        ↔ ((length ns ≡ length counts) × Fits form (tables ns counts) l v room × (u ≡ length (batchBytes form (tables ns counts) l v)))
     batch-accepted room u = (into, out)
       where
-        into : batchAnswer head w L ns counts l v room ≡ Bytes u
-            → (length ns ≡ length counts) × Fits head w L (tables ns counts) l v room × (u ≡ length (batchBytes head mark w (tables ns counts) l v))
+        into : batchAnswer form ns counts l v room ≡ Bytes u
+            → (length ns ≡ length counts) × Fits form (tables ns counts) l v room × (u ≡ length (batchBytes form (tables ns counts) l v))
         into e =
-            let p = numbered-bytes 0 (refuseIf (not (eqb (length ns) (length counts))) (refusal 2 0 0 0 0)) (batchFrom head w L 0 0 (tables ns counts) l v room) u e in
+            let p = numbered-bytes 0 (refuseIf (not (eqb (length ns) (length counts))) (refusal 2 0 0 0 0)) (batchFrom form 0 0 (tables ns counts) l v room) u e in
             let q = from-fits 0 0 (tables ns counts) l v room u (p .1) in
             (eqb-true (length ns) (length counts) (not-false _ (refuseIf-passed (not (eqb (length ns) (length counts))) _ (p .0))), q .0, omega (arith, q .1))
 
-        out : (length ns ≡ length counts) × Fits head w L (tables ns counts) l v room × (u ≡ length (batchBytes head mark w (tables ns counts) l v))
-            → batchAnswer head w L ns counts l v room ≡ Bytes u
+        out : (length ns ≡ length counts) × Fits form (tables ns counts) l v room × (u ≡ length (batchBytes form (tables ns counts) l v))
+            → batchAnswer form ns counts l v room ≡ Bytes u
         out t = rw (eq-eqb (length ns) (length counts) (t .0)) (fits-from 0 0 (tables ns counts) l v room (t .1) ∙ ap Bytes (omega (arith, t .2)))
 
     -- accepted, the tables' stored forms stand joined at the front, and no other byte is written
-    pub accepted-writes : (out : List ℕ) (u : ℕ) → batchAnswer head w L ns counts l v (length out) ≡ Bytes u
-        → batchOutcome head mark w L ns counts l v out ≡ record { answer = Bytes u; places = front (batchBytes head mark w (tables ns counts) l v) out }
+    pub accepted-writes : (out : List ℕ) (u : ℕ) → batchAnswer form ns counts l v (length out) ≡ Bytes u
+        → batchOutcome form ns counts l v out ≡ record { answer = Bytes u; places = front (batchBytes form (tables ns counts) l v) out }
     accepted-writes out u e = rw e
 
     -- refused, nothing is altered
-    pub refused-alters-nothing : (out : List ℕ) (k : ℕ) (r : Refusal) → batchAnswer head w L ns counts l v (length out) ≡ batched.Refused k r
-        → batchOutcome head mark w L ns counts l v out ≡ record { answer = batched.Refused k r; places = out }
+    pub refused-alters-nothing : (out : List ℕ) (k : ℕ) (r : Refusal) → batchAnswer form ns counts l v (length out) ≡ batched.Refused k r
+        → batchOutcome form ns counts l v out ≡ record { answer = batched.Refused k r; places = out }
     refused-alters-nothing out k r e = rw e
 
     -- no second answer, and no second content of the lent bytes, meets the promise
-    pub batch-once : (out : List ℕ) {a b : Batched} {d e : List ℕ} → Left (batchOutcome head mark w L ns counts l v out) a d
-        → Left (batchOutcome head mark w L ns counts l v out) b e → (a ≡ b) × (d ≡ e)
+    pub batch-once : (out : List ℕ) {a b : Batched} {d e : List ℕ} → Left (batchOutcome form ns counts l v out) a d
+        → Left (batchOutcome form ns counts l v out) b e → (a ≡ b) × (d ≡ e)
     batch-once out p q = left-once p q

@@ -13,6 +13,7 @@ use Rattle.batch.specs.Fitting.{Next}
 use Rattle.batch.specs.Laws.Next.{length-next}
 use Rattle.batch.specs.Laws.Steps.{bytes-step, tables-end}
 use Rattle.batch.specs.Tables.{tables}
+use Rattle.bits.specs.declared.Form.{Form}
 
 front-append : (a b d : List ℕ) → front (a ++ b) d ≡ a ++ front b (drop (length a) d)
 front-append a b d =
@@ -32,30 +33,30 @@ rest-more s b e m r used h p q =
     p ∙ ap (λ (z : List ℕ). t ++ z) (front-append m r (drop used b)) ∙ sym (append-assoc t m (front r d)) ∙ sym (ap₂ (λ (z u : List ℕ). z ++ front r u) x y)
 
 -- the lent bytes b, with the tables that are left written into the rest from `used` on
-abbrev pub joinedAt : ℕ → ℕ → ℕ → List ℕ → List ℕ → List ℕ → List ℕ → List ℕ → ℕ → ℕ → ℕ → List ℕ
-joinedAt head mark w ns counts l v b used rows i =
-    take used b ++ front (batchBytes head mark w (drop i (tables ns counts)) (drop rows l) (drop rows v)) (drop used b)
+abbrev pub joinedAt : Form → List ℕ → List ℕ → List ℕ → List ℕ → List ℕ → ℕ → ℕ → ℕ → List ℕ
+joinedAt form ns counts l v b used rows i =
+    take used b ++ front (batchBytes form (drop i (tables ns counts)) (drop rows l) (drop rows v)) (drop used b)
 
 -- before the first table, after the last, and one table more
-pub joined-start : (head mark w : ℕ) (ns counts l v b : List ℕ) → front (batchBytes head mark w (tables ns counts) l v) b ≡ joinedAt head mark w ns counts l v b 0 0 0
-joined-start head mark w ns counts l v b = refl
+pub joined-start : (form : Form) (ns counts l v b : List ℕ) → front (batchBytes form (tables ns counts) l v) b ≡ joinedAt form ns counts l v b 0 0 0
+joined-start form ns counts l v b = refl
 
-pub joined-end : (head mark w : ℕ) (ns counts l v s b : List ℕ) (used rows i : ℕ) → length ns ≡ length counts → length ns ≤ i
-    → s ≡ joinedAt head mark w ns counts l v b used rows i → b ≡ s
+pub joined-end : (form : Form) (ns counts l v s b : List ℕ) (used rows i : ℕ) → length ns ≡ length counts → length ns ≤ i
+    → s ≡ joinedAt form ns counts l v b used rows i → b ≡ s
 unfolding batchBytes
-joined-end head mark w ns counts l v s b used rows i e h p = sym (p ∙ rw (tables-end ns counts i e h) (take-append-drop used b))
+joined-end form ns counts l v s b used rows i e h p = sym (p ∙ rw (tables-end ns counts i e h) (take-append-drop used b))
 
-pub joined-more : (head mark w L : ℕ) (ns counts l v : List ℕ) (room used rows i n N : ℕ) → length ns ≡ length counts → i < length ns → getD ns i 0 ≡ n → getD counts i 0 ≡ N
-    → Next head w L n N (drop rows l) (drop rows v) (room - used) → (s b m : List ℕ) (k : ℕ) → used ≤ length b → k ≡ linkUsed head w n N
-    → m ≡ front (linkBytes head mark w n (take N (drop rows l)) (take N (drop rows v))) (take (length b - used) (drop used b))
-    → s ≡ joinedAt head mark w ns counts l v b used rows i
-    → s ≡ joinedAt head mark w ns counts l v (take used b ++ (m ++ drop (length b - used) (drop used b))) (used + k) (rows + N) (i + 1)
-joined-more head mark w L ns counts l v room used rows i n N e h en eN t s b m k g ek em q =
-    let a = linkBytes head mark w n (take N (drop rows l)) (take N (drop rows v)) in
-    let r = batchBytes head mark w (drop (i + 1) (tables ns counts)) (drop (rows + N) l) (drop (rows + N) v) in
+pub joined-more : (form : Form) (ns counts l v : List ℕ) (room used rows i n N : ℕ) → length ns ≡ length counts → i < length ns → getD ns i 0 ≡ n → getD counts i 0 ≡ N
+    → Next form n N (drop rows l) (drop rows v) (room - used) → (s b m : List ℕ) (k : ℕ) → used ≤ length b → k ≡ linkUsed form n N
+    → m ≡ front (linkBytes form n (take N (drop rows l)) (take N (drop rows v))) (take (length b - used) (drop used b))
+    → s ≡ joinedAt form ns counts l v b used rows i
+    → s ≡ joinedAt form ns counts l v (take used b ++ (m ++ drop (length b - used) (drop used b))) (used + k) (rows + N) (i + 1)
+joined-more form ns counts l v room used rows i n N e h en eN t s b m k g ek em q =
+    let a = linkBytes form n (take N (drop rows l)) (take N (drop rows v)) in
+    let r = batchBytes form (drop (i + 1) (tables ns counts)) (drop (rows + N) l) (drop (rows + N) v) in
     let d = take used b ++ (m ++ drop (length b - used) (drop used b)) in
     let x : s ≡ take used b ++ front (a ++ r) (drop used b) =
-    q ∙ ap (λ (z : List ℕ). take used b ++ front z (drop used b)) (bytes-step head w L ns counts l v room used rows i n N e h en eN mark) in
+    q ∙ ap (λ (z : List ℕ). take used b ++ front z (drop used b)) (bytes-step form ns counts l v room used rows i n N e h en eN) in
     let y : d ≡ take used b ++ front a (drop used b) =
     rest-put b m used ∙ ap (λ (z : List ℕ). take used b ++ z) (em ∙ ap (front a) (rest-part b used)) in
-    subst (λ (z : ℕ). s ≡ take (used + z) d ++ front r (drop (used + z) d)) (length-next head w L n N (drop rows l) (drop rows v) (room - used) mark t ∙ sym ek) (rest-more s b d a r used g x y)
+    subst (λ (z : ℕ). s ≡ take (used + z) d ++ front r (drop (used + z) d)) (length-next form n N (drop rows l) (drop rows v) (room - used) t ∙ sym ek) (rest-more s b d a r used g x y)

@@ -18,6 +18,7 @@ use Rattle.link_writer.specs.Laws.Accepted.{passed-write, write-passed}
 use Rattle.link_writer.specs.Writing.{RoomFor, fitChecks}
 use Rattle.batch.specs.Fitting.{Next}
 use Rattle.batch.specs.Tables.{leftOverChecks, nextChecks, runOutChecks}
+use Rattle.bits.specs.declared.Form.{Form}
 
 pub run-out-passed : (N : ℕ) (l v : List ℕ) → runOutChecks N l v ≡ Passed → (N ≤ length l) × (N ≤ length v)
 run-out-passed N l v e =
@@ -37,38 +38,38 @@ next-sized n N l v e f =
     let r = run-out-passed N l v f in
     record { some = c .0; few = c .1; least = c .2; most = c .3; counted = length-take-le N l (r .0); costed = length-take-le N v (r .1) }
 
-module _ (head w L n N : ℕ) (l v : List ℕ) (room : ℕ) where
-  pub next-passed : nextChecks head w L n N l v room ≡ Passed → Next head w L n N l v room
+module _ (form : Form) (n N : ℕ) (l v : List ℕ) (room : ℕ) where
+  pub next-passed : nextChecks form n N l v room ≡ Passed → Next form n N l v room
   next-passed e =
-      let f = fitChecks head w L n (take N l) (take N v) room in
+      let f = fitChecks form n (take N l) (take N v) room in
       let p = then-passed (countChecks n N) (runOutChecks N l v then f) e in
       let q = then-passed (runOutChecks N l v) f (p .1) in
       let s = next-sized n N l v (p .0) (q .0) in
-      let r = write-passed head w L n N (take N l) (take N v) room (rw (passed-sizes n N (take N l) (take N v) s) (q .1)) in
-      record { links = r .0; fits = subst (λ (x : ℕ). linkUsed head w n x ≤ room) (s .counted) (r .3) }
+      let r = write-passed form n N (take N l) (take N v) room (rw (passed-sizes n N (take N l) (take N v) s) (q .1)) in
+      record { links = r .0; fits = subst (λ (x : ℕ). linkUsed form n x ≤ room) (s .counted) (r .3) }
 
   -- its rows are there
-  pub next-length : Next head w L n N l v room → (N ≤ length l) × (N ≤ length v)
+  pub next-length : Next form n N l v room → (N ≤ length l) × (N ≤ length v)
   next-length t = (omega (arith, t .links .counted, length-take N l), omega (arith, t .links .costed, length-take N v))
 
-  pub passed-next : Next head w L n N l v room → nextChecks head w L n N l v room ≡ Passed
+  pub passed-next : Next form n N l v room → nextChecks form n N l v room ≡ Passed
   passed-next t =
-      let f = fitChecks head w L n (take N l) (take N v) room in
-      let e = passed-write head w L n N (take N l) (take N v) room (t .links) (subst (λ (x : ℕ). linkUsed head w n x ≤ room) (sym (t .links .counted)) (t .fits)) in
+      let f = fitChecks form n (take N l) (take N v) room in
+      let e = passed-write form n N (take N l) (take N v) room (t .links) (subst (λ (x : ℕ). linkUsed form n x ≤ room) (sym (t .links .counted)) (t .fits)) in
       let p = then-passed (sizeChecks n N (take N l) (take N v)) f e in
       let q = then-passed (countChecks n N) (lengthChecks N (take N l) (take N v)) (p .0) in
       let b = next-length t in
       rw (q .0, le-ltb (length l) N (b .0), le-ltb (length v) N (b .1)) (p .1)
 
-  pub next-count : Next head w L n N l v room → (3 ≤ n) × (n ≤ 64) × (n ≤ N) × (N ≤ 2 * n - 3)
+  pub next-count : Next form n N l v room → (3 ≤ n) × (n ≤ 64) × (n ≤ N) × (N ≤ 2 * n - 3)
   next-count t =
-      count-passed n N (then-passed (countChecks n N) (runOutChecks N l v then fitChecks head w L n (take N l) (take N v) room) (passed-next t) .0)
+      count-passed n N (then-passed (countChecks n N) (runOutChecks N l v then fitChecks form n (take N l) (take N v) room) (passed-next t) .0)
 
   -- so the raw writer may be called
-  pub next-room : head ≤ 7 → w ≤ 32 → Next head w L n N l v room → RoomFor head w n N room
+  pub next-room : form .head ≤ 7 → form .width ≤ 32 → Next form n N l v room → RoomFor form n N room
   next-room h k t =
       let c = next-count t in
       record { small = record { short = h; narrow = k; some = c .0; few = c .1; rows = omega (arith, c .1, c .3) }; fits = t .fits }
 
-  pub length-next : (mark : ℕ) → Next head w L n N l v room → length (linkBytes head mark w n (take N l) (take N v)) ≡ linkUsed head w n N
-  length-next mark t = length-links head mark w n (take N l) (take N v) ∙ ap (λ (x : ℕ). linkUsed head w n x) (t .links .counted)
+  pub length-next : Next form n N l v room → length (linkBytes form n (take N l) (take N v)) ≡ linkUsed form n N
+  length-next t = length-links form n (take N l) (take N v) ∙ ap (λ (x : ℕ). linkUsed form n x) (t .links .counted)

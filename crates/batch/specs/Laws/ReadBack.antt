@@ -17,42 +17,43 @@ use Rattle.batch.specs.Laws.Next.{length-next}
 use Rattle.batch.specs.Tables.{Table, tables}
 use Rattle.batch.specs.declared.Batched.{Batched}
 use Rattle.batch.specs.declared.Batched.the-variants.{Bytes}
+use Rattle.bits.specs.declared.Form.{Form}
 
 -- from byte k on the tables are read one after another, each from the byte where the one before ended, into any lent slices that have room;
 -- the last ends at the byte `end`
-unfoldable pub ReadsBack : ℕ → ℕ → ℕ → List ℕ → ℕ → ℕ → List Table → List ℕ → List ℕ → Type 0
-ReadsBack head w L bytes end k [] l v = k ≡ end
-ReadsBack head w L bytes end k (t ∷ ts) l v =
+unfoldable pub ReadsBack : Form → List ℕ → ℕ → ℕ → List Table → List ℕ → List ℕ → Type 0
+ReadsBack form bytes end k [] l v = k ≡ end
+ReadsBack form bytes end k (t ∷ ts) l v =
     ((f u : List ℕ) → 2 * t .0 - 3 ≤ length f → 2 * t .0 - 3 ≤ length u
-    → readOutcome head w L bytes (8 * k) f u ≡ readInto (t .0) (t .1) (linkUsed head w (t .0) (t .1)) (take (t .1) l) (take (t .1) v) f u)
-    × ReadsBack head w L bytes end (k + linkUsed head w (t .0) (t .1)) ts (drop (t .1) l) (drop (t .1) v)
+    → readOutcome form bytes (8 * k) f u ≡ readInto (t .0) (t .1) (linkUsed form (t .0) (t .1)) (take (t .1) l) (take (t .1) v) f u)
+    × ReadsBack form bytes end (k + linkUsed form (t .0) (t .1)) ts (drop (t .1) l) (drop (t .1) v)
 
-module _ (head mark w L : ℕ) (narrow : 2 * L < 2 ^ w) (bytes behind : List ℕ) (end : ℕ) where
-  reads-from : (ahead : List ℕ) (k : ℕ) (ts : List Table) (l v : List ℕ) (room : ℕ) → Fits head w L ts l v room → k ≡ length ahead
-      → end ≡ length ahead + length (batchBytes head mark w ts l v) → bytes ≡ ahead ++ (batchBytes head mark w ts l v ++ behind) → ReadsBack head w L bytes end k ts l v
+module _ (form : Form) (narrow : 2 * form .limit < 2 ^ form .width) (bytes behind : List ℕ) (end : ℕ) where
+  reads-from : (ahead : List ℕ) (k : ℕ) (ts : List Table) (l v : List ℕ) (room : ℕ) → Fits form ts l v room → k ≡ length ahead
+      → end ≡ length ahead + length (batchBytes form ts l v) → bytes ≡ ahead ++ (batchBytes form ts l v ++ behind) → ReadsBack form bytes end k ts l v
   unfolding ReadsBack Fits batchBytes
   reads-from ahead k [] l v room g p e q = omega arith
   reads-from ahead k (t ∷ ts) l v room g p e q =
-      let x = linkUsed head w (t .0) (t .1) in
-      let m = linkBytes head mark w (t .0) (take (t .1) l) (take (t .1) v) in
-      let r = batchBytes head mark w ts (drop (t .1) l) (drop (t .1) v) in
-      let lm = length-next head w L (t .0) (t .1) l v room mark (g .0) in
+      let x = linkUsed form (t .0) (t .1) in
+      let m = linkBytes form (t .0) (take (t .1) l) (take (t .1) v) in
+      let r = batchBytes form ts (drop (t .1) l) (drop (t .1) v) in
+      let lm = length-next form (t .0) (t .1) l v room (g .0) in
       let b : bytes ≡ ahead ++ (m ++ (r ++ behind)) = q ∙ ap (λ (z : List ℕ). ahead ++ z) (append-assoc m r behind) in (
         λ f u h i.
-            ap₂ (λ (y : List ℕ) (j : ℕ). readOutcome head w L y (8 * j) f u) b p
-            ∙ written-at head w L mark (t .0) (t .1) (take (t .1) l) (take (t .1) v) ahead (r ++ behind) f u (g .0 .links) narrow h i,
+            ap₂ (λ (y : List ℕ) (j : ℕ). readOutcome form y (8 * j) f u) b p
+            ∙ written-at form (t .0) (t .1) (take (t .1) l) (take (t .1) v) ahead (r ++ behind) f u (g .0 .links) narrow h i,
         reads-from (ahead ++ m) (k + x) ts (drop (t .1) l) (drop (t .1) v) (room - x) (g .1) (omega (arith, length-append ahead m, lm)) (omega (arith, e, length-append ahead m, length-append m r))
             (b ∙ sym (append-assoc ahead m (r ++ behind))),
       )
 
 -- the lent bytes, as an accepted batch leaves them, are read as its tables, and the last ends where the used bytes end
-pub batch-reads-back : (head mark w L : ℕ) (ns counts l v out : List ℕ) (used : ℕ) → 2 * L < 2 ^ w → batchAnswer head w L ns counts l v (length out) ≡ Bytes used
-    → ReadsBack head w L (batchOutcome head mark w L ns counts l v out .places) used 0 (tables ns counts) l v
-batch-reads-back head mark w L ns counts l v out used narrow e =
-    let m = batchBytes head mark w (tables ns counts) l v in
-    let a = batch-accepted head mark w L ns counts l v (length out) used .0 e in
-    subst (λ (o : Outcome Batched). ReadsBack head w L (o .places) used 0 (tables ns counts) l v) (sym (accepted-writes head mark w L ns counts l v out used e))
-    (reads-from head mark w L narrow (front m out) (drop (length m) out) used [] 0 (tables ns counts) l v (length out) (a .1) refl (omega (arith, a .2)) refl)
+pub batch-reads-back : (form : Form) (ns counts l v out : List ℕ) (used : ℕ) → 2 * form .limit < 2 ^ form .width → batchAnswer form ns counts l v (length out) ≡ Bytes used
+    → ReadsBack form (batchOutcome form ns counts l v out .places) used 0 (tables ns counts) l v
+batch-reads-back form ns counts l v out used narrow e =
+    let m = batchBytes form (tables ns counts) l v in
+    let a = batch-accepted form ns counts l v (length out) used .0 e in
+    subst (λ (o : Outcome Batched). ReadsBack form (o .places) used 0 (tables ns counts) l v) (sym (accepted-writes form ns counts l v out used e))
+    (reads-from form narrow (front m out) (drop (length m) out) used [] 0 (tables ns counts) l v (length out) (a .1) refl (omega (arith, a .2)) refl)
 
 -- in the form of document 01 every doubled cost fits
 pub costs-fit : 2 * limit < 2 ^ 21

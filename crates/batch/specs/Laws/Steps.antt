@@ -16,6 +16,7 @@ use Rattle.batch.specs.Fitting.{Fits, Next}
 use Rattle.batch.specs.Tables.{Table, leftOverChecks, nextChecks, tables}
 use Rattle.batch.specs.declared.Batched.{Batched}
 use Rattle.batch.specs.declared.Batched.the-variants.{Bytes}
+use Rattle.bits.specs.declared.Form.{Form}
 use Rattle.batch.specs.declared.Batched.the-variants as batched
 
 pub length-tables : (ns counts : List ℕ) → length ns ≡ length counts → length (tables ns counts) ≡ length ns
@@ -41,63 +42,63 @@ table-at ns counts i e h = table-suc ns counts i e h ∙ ap (λ (x : ℕ). (getD
 pub tables-end : (ns counts : List ℕ) (i : ℕ) → length ns ≡ length counts → length ns ≤ i → drop i (tables ns counts) ≡ []
 tables-end ns counts i e h = drop-of-length-le (tables ns counts) {i = i} (omega (arith, length-tables ns counts e))
 
-module _ (head w L : ℕ) (ns counts l v : List ℕ) (room used rows i : ℕ) where
+module _ (form : Form) (ns counts l v : List ℕ) (room used rows i : ℕ) where
   -- the answer for the tables that are left
   abbrev pub answerAt : Batched
-  answerAt = batchFrom head w L i used (drop i (tables ns counts)) (drop rows l) (drop rows v) (room - used)
+  answerAt = batchFrom form i used (drop i (tables ns counts)) (drop rows l) (drop rows v) (room - used)
 
   pub answer-end : length ns ≡ length counts → length ns ≤ i → answerAt ≡ numbered i (leftOverChecks (drop rows l) (drop rows v)) (Bytes used)
   unfolding batchFrom
-  answer-end e h = ap (λ (ts : List Table). batchFrom head w L i used ts (drop rows l) (drop rows v) (room - used)) (tables-end ns counts i e h)
+  answer-end e h = ap (λ (ts : List Table). batchFrom form i used ts (drop rows l) (drop rows v) (room - used)) (tables-end ns counts i e h)
 
 -- before the first table
-pub answer-start : (head w L : ℕ) (ns counts l v : List ℕ) (room : ℕ) → batchFrom head w L 0 0 (tables ns counts) l v room ≡ answerAt head w L ns counts l v room 0 0 0
-answer-start head w L ns counts l v room = ap (λ (x : ℕ). batchFrom head w L 0 0 (tables ns counts) l v x) (omega arith)
+pub answer-start : (form : Form) (ns counts l v : List ℕ) (room : ℕ) → batchFrom form 0 0 (tables ns counts) l v room ≡ answerAt form ns counts l v room 0 0 0
+answer-start form ns counts l v room = ap (λ (x : ℕ). batchFrom form 0 0 (tables ns counts) l v x) (omega arith)
 
-pub fits-start : (head w L : ℕ) (ns counts l v : List ℕ) (room : ℕ) → Fits head w L (tables ns counts) l v room
-    → Fits head w L (drop 0 (tables ns counts)) (drop 0 l) (drop 0 v) (room - 0)
-fits-start head w L ns counts l v room f = subst (λ (x : ℕ). Fits head w L (tables ns counts) l v x) (omega arith) f
+pub fits-start : (form : Form) (ns counts l v : List ℕ) (room : ℕ) → Fits form (tables ns counts) l v room
+    → Fits form (drop 0 (tables ns counts)) (drop 0 l) (drop 0 v) (room - 0)
+fits-start form ns counts l v room f = subst (λ (x : ℕ). Fits form (tables ns counts) l v x) (omega arith) f
 
-module _ (head w L : ℕ) (ns counts l v : List ℕ) (room used rows i n N : ℕ) (e : length ns ≡ length counts) (h : i < length ns) (en : getD ns i 0 ≡ n) (eN : getD counts i 0 ≡ N) where
+module _ (form : Form) (ns counts l v : List ℕ) (room used rows i n N : ℕ) (e : length ns ≡ length counts) (h : i < length ns) (en : getD ns i 0 ≡ n) (eN : getD counts i 0 ≡ N) where
   table-is : drop i (tables ns counts) ≡ (n, N) ∷ drop (i + 1) (tables ns counts)
   table-is = table-at ns counts i e h ∙ ap₂ (λ (x y : ℕ). (x, y) ∷ drop (i + 1) (tables ns counts)) en eN
 
-  answer-step : answerAt head w L ns counts l v room used rows i
-      ≡ numbered (i + 1) (nextChecks head w L n N (drop rows l) (drop rows v) (room - used)) (answerAt head w L ns counts l v room (used + linkUsed head w n N) (rows + N) (i + 1))
+  answer-step : answerAt form ns counts l v room used rows i
+      ≡ numbered (i + 1) (nextChecks form n N (drop rows l) (drop rows v) (room - used)) (answerAt form ns counts l v room (used + linkUsed form n N) (rows + N) (i + 1))
   unfolding batchFrom
   answer-step =
-      let x = linkUsed head w n N in
-      let c = nextChecks head w L n N (drop rows l) (drop rows v) (room - used) in
+      let x = linkUsed form n N in
+      let c = nextChecks form n N (drop rows l) (drop rows v) (room - used) in
       let q : room - used - x ≡ room - (used + x) = omega arith in
-      ap (λ (ts : List Table). batchFrom head w L i used ts (drop rows l) (drop rows v) (room - used)) table-is
-      ∙ ap₂ (λ (a b : List ℕ). numbered (i + 1) c (batchFrom head w L (i + 1) (used + x) (drop (i + 1) (tables ns counts)) a b (room - used - x))) (drop-drop N rows l) (drop-drop N rows v)
-      ∙ ap (λ (m : ℕ). numbered (i + 1) c (batchFrom head w L (i + 1) (used + x) (drop (i + 1) (tables ns counts)) (drop (rows + N) l) (drop (rows + N) v) m)) q
+      ap (λ (ts : List Table). batchFrom form i used ts (drop rows l) (drop rows v) (room - used)) table-is
+      ∙ ap₂ (λ (a b : List ℕ). numbered (i + 1) c (batchFrom form (i + 1) (used + x) (drop (i + 1) (tables ns counts)) a b (room - used - x))) (drop-drop N rows l) (drop-drop N rows v)
+      ∙ ap (λ (m : ℕ). numbered (i + 1) c (batchFrom form (i + 1) (used + x) (drop (i + 1) (tables ns counts)) (drop (rows + N) l) (drop (rows + N) v) m)) q
 
-  pub answer-stops : {c : Check} {r : Refusal} → c ≡ Refused r → c ≡ nextChecks head w L n N (drop rows l) (drop rows v) (room - used)
-      → batched.Refused (i + 1) r ≡ answerAt head w L ns counts l v room used rows i
+  pub answer-stops : {c : Check} {r : Refusal} → c ≡ Refused r → c ≡ nextChecks form n N (drop rows l) (drop rows v) (room - used)
+      → batched.Refused (i + 1) r ≡ answerAt form ns counts l v room used rows i
   answer-stops p q =
-      if-stops (batched.Refused (i + 1)) (nextChecks head w L n N (drop rows l) (drop rows v) (room - used)) (answerAt head w L ns counts l v room (used + linkUsed head w n N) (rows + N) (i + 1)) p q
+      if-stops (batched.Refused (i + 1)) (nextChecks form n N (drop rows l) (drop rows v) (room - used)) (answerAt form ns counts l v room (used + linkUsed form n N) (rows + N) (i + 1)) p q
       ∙ sym answer-step
 
-  pub answer-goes : {c : Check} → c ≡ Passed → c ≡ nextChecks head w L n N (drop rows l) (drop rows v) (room - used)
-      → answerAt head w L ns counts l v room used rows i ≡ answerAt head w L ns counts l v room (used + linkUsed head w n N) (rows + N) (i + 1)
+  pub answer-goes : {c : Check} → c ≡ Passed → c ≡ nextChecks form n N (drop rows l) (drop rows v) (room - used)
+      → answerAt form ns counts l v room used rows i ≡ answerAt form ns counts l v room (used + linkUsed form n N) (rows + N) (i + 1)
   answer-goes p q =
-      let b = answerAt head w L ns counts l v room (used + linkUsed head w n N) (rows + N) (i + 1) in
-      answer-step ∙ sym (if-goes (batched.Refused (i + 1)) {w = b} (nextChecks head w L n N (drop rows l) (drop rows v) (room - used)) b p q refl)
+      let b = answerAt form ns counts l v room (used + linkUsed form n N) (rows + N) (i + 1) in
+      answer-step ∙ sym (if-goes (batched.Refused (i + 1)) {w = b} (nextChecks form n N (drop rows l) (drop rows v) (room - used)) b p q refl)
 
-  pub fits-step : Fits head w L (drop i (tables ns counts)) (drop rows l) (drop rows v) (room - used)
-      → Next head w L n N (drop rows l) (drop rows v) (room - used)
-      × Fits head w L (drop (i + 1) (tables ns counts)) (drop (rows + N) l) (drop (rows + N) v) (room - (used + linkUsed head w n N))
+  pub fits-step : Fits form (drop i (tables ns counts)) (drop rows l) (drop rows v) (room - used)
+      → Next form n N (drop rows l) (drop rows v) (room - used)
+      × Fits form (drop (i + 1) (tables ns counts)) (drop (rows + N) l) (drop (rows + N) v) (room - (used + linkUsed form n N))
   unfolding Fits
   fits-step f =
-      let x = linkUsed head w n N in
+      let x = linkUsed form n N in
       let q : room - used - x ≡ room - (used + x) = omega arith in
-      let g = subst (λ (ts : List Table). Fits head w L ts (drop rows l) (drop rows v) (room - used)) table-is f in
+      let g = subst (λ (ts : List Table). Fits form ts (drop rows l) (drop rows v) (room - used)) table-is f in
       (g .0, rw (← (drop-drop N rows l), ← (drop-drop N rows v), ← q) (g .1))
 
-  pub bytes-step : (mark : ℕ) → batchBytes head mark w (drop i (tables ns counts)) (drop rows l) (drop rows v)
-      ≡ linkBytes head mark w n (take N (drop rows l)) (take N (drop rows v)) ++ batchBytes head mark w (drop (i + 1) (tables ns counts)) (drop (rows + N) l) (drop (rows + N) v)
+  pub bytes-step : batchBytes form (drop i (tables ns counts)) (drop rows l) (drop rows v)
+      ≡ linkBytes form n (take N (drop rows l)) (take N (drop rows v)) ++ batchBytes form (drop (i + 1) (tables ns counts)) (drop (rows + N) l) (drop (rows + N) v)
   unfolding batchBytes
-  bytes-step mark =
-      ap (λ (ts : List Table). batchBytes head mark w ts (drop rows l) (drop rows v)) table-is
-      ∙ ap₂ (λ (a b : List ℕ). linkBytes head mark w n (take N (drop rows l)) (take N (drop rows v)) ++ batchBytes head mark w (drop (i + 1) (tables ns counts)) a b) (drop-drop N rows l) (drop-drop N rows v)
+  bytes-step =
+      ap (λ (ts : List Table). batchBytes form ts (drop rows l) (drop rows v)) table-is
+      ∙ ap₂ (λ (a b : List ℕ). linkBytes form n (take N (drop rows l)) (take N (drop rows v)) ++ batchBytes form (drop (i + 1) (tables ns counts)) a b) (drop-drop N rows l) (drop-drop N rows v)

@@ -8,7 +8,6 @@ use borrow.Author.Needs.{needs}
 use Rattle.ground.specs.declared.Refusal.{Refusal}
 use Rattle.ground.specs.Laws.Refusals.{if-goes, if-stops}
 use Rattle.theory.specs.Comparison.{inners}
-use Rattle.theory.specs.Tables.{limit}
 use Rattle.stored_links.specs.Said.{imagesOf}
 use Rattle.choice.specs.Call.{sidesOf, taken}
 use Rattle.choice.specs.Laws.Chain.{images-differ, images-same}
@@ -16,6 +15,7 @@ use Rattle.choice.specs.Read.{Listed}
 use Rattle.choice.specs.Laws.Read.{read-listed, read-refused}
 use Rattle.choice.specs.declared.Chosen.the-variants as answer
 use Rattle.choice.proofs.against_second.Statement.{statement}
+use Rattle.stored_links.specs.Form.{oldLinks}
 use Rattle.choice.proofs.against_second.Tie as tie
 
 abbrev begun : tie.After-m → tie.Start
@@ -35,8 +35,8 @@ enum-known-m c = search needs
 
 -- the far sides of the second table, where it was accepted
 listed : (c : tie.After-m)
-    → Listed 0 21 limit (begun c .args .second .now) (c .m .given .0 .0) (c .m .given .0 .1 .0) (c .m .given .0 .1 .1 .0) (c .before .before .before .read .last .1 .0)
-listed c = read-listed 0 21 limit (begun c .args .second .now) (c .before .before .before .read .ensures) (c .m .given .1)
+    → Listed oldLinks (begun c .args .second .now) (c .m .given .0 .0) (c .m .given .0 .1 .0) (c .m .given .0 .1 .1 .0) (c .before .before .before .read .last .1 .0)
+listed c = read-listed oldLinks (begun c .args .second .now) (c .before .before .before .read .ensures) (c .m .given .1)
 
 plain-requires : tie.Need-plain-requires
 plain-requires c κs = search needs
@@ -47,7 +47,7 @@ returns c =
     let a = begun m .args in
     let q = listed m in
     ap (λ (r : Refusal). answer.Refused 0 r) (c .plain .ensures)
-    ∙ if-goes (answer.Refused 2) _ _ (q .passed) refl (images-differ (a .n) (imagesOf 0 (a .second .now)) _ (λ e. c .before .if1 .taken (e ∙ q .images)))
+    ∙ if-goes (answer.Refused 2) _ _ (q .passed) refl (images-differ (a .n) (imagesOf oldLinks (a .second .now)) _ (λ e. c .before .if1 .taken (e ∙ q .images)))
 
 array-share-prefix-fars : tie.Need-array-share-prefix-fars
 array-share-prefix-fars c =
@@ -68,7 +68,7 @@ take-one-requires c κs =
 returns-2 : tie.Need-returns-2
 returns-2 c =
     let e = c .before .before .before .before in
-    if-stops (answer.Refused 2) _ _ (read-refused 0 21 limit (e .before .before .before .before .args .second .now) (e .read .ensures) (c .before .r .given .1)) refl
+    if-stops (answer.Refused 2) _ _ (read-refused oldLinks (e .before .before .before .before .args .second .now) (e .read .ensures) (c .before .r .given .1)) refl
 
 returns-3 : tie.Need-returns-3
 returns-3 c =
@@ -77,12 +77,12 @@ returns-3 c =
     let t = a .second .now in
     let q = listed m in
     let l = inners (a .n) (a .first .now) in
-    let h : a .n ≡ imagesOf 0 t = c .before .before .if1 .left ∙ sym (q .images) in
+    let h : a .n ≡ imagesOf oldLinks t = c .before .before .if1 .left ∙ sym (q .images) in
     if-goes (answer.Refused 2) _ _ (q .passed) refl
-    (images-same (a .n) (imagesOf 0 t) _ h
+    (images-same (a .n) (imagesOf oldLinks t) _ h
     (c .take-one .ensures
     ∙ ap (λ (x : List ℕ). taken l (a .i) (inners (a .n) x) (m .m .given .0 .1 .1 .0)) (q .front)
-    ∙ ap₂ (λ (x u : ℕ). taken l (a .i) (inners x (sidesOf 0 21 t)) u) h (sym (q .ended))))
+    ∙ ap₂ (λ (x u : ℕ). taken l (a .i) (inners x (sidesOf oldLinks t)) u) h (sym (q .ended))))
 
 pub against-second-spec : {M : Type 1} → statement M
 against-second-spec =

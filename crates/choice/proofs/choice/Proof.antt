@@ -5,13 +5,13 @@ use Prim.Native.Nat.{ℕ}
 use native.Mathlib.Omega.{arith}
 use lib.Seq.{length-take-le}
 use borrow.Author.Needs.{needs}
-use Rattle.theory.specs.Tables.{limit}
 use Rattle.choice.specs.Call.{againstSecond, sidesOf}
 use Rattle.choice.specs.Read.{Listed}
 use Rattle.choice.specs.Laws.Read.{read-listed, read-refused}
 use Rattle.ground.specs.Laws.Refusals.{if-goes, if-stops}
 use Rattle.choice.specs.declared.Chosen.the-variants as answer
 use Rattle.choice.proofs.choice.Statement.{statement}
+use Rattle.stored_links.specs.Form.{oldLinks}
 use Rattle.choice.proofs.choice.Tie as tie
 
 abbrev begun : tie.After-n → tie.Start
@@ -31,8 +31,8 @@ enum-known-n c = search needs
 
 -- the far sides of the first table, where it was accepted
 listed : (c : tie.After-n)
-    → Listed 0 21 limit (begun c .args .first .now) (c .n .given .0 .0) (c .n .given .0 .1 .0) (c .n .given .0 .1 .1 .0) (c .before .before .before .read .last .1 .0)
-listed c = read-listed 0 21 limit (begun c .args .first .now) (c .before .before .before .read .ensures) (c .n .given .1)
+    → Listed oldLinks (begun c .args .first .now) (c .n .given .0 .0) (c .n .given .0 .1 .0) (c .n .given .0 .1 .1 .0) (c .before .before .before .read .last .1 .0)
+listed c = read-listed oldLinks (begun c .args .first .now) (c .before .before .before .read .ensures) (c .n .given .1)
 
 array-share-prefix-fars : tie.Need-array-share-prefix-fars
 array-share-prefix-fars c = let m = c .before in omega (arith, listed m .few, m .before .before .before .read .kept .1 .0)
@@ -47,7 +47,7 @@ against-second-requires c κs = let q = listed (c .before .before) in (q .least,
 returns : tie.Need-returns
 returns c =
     let e = c .before .before .before .before in
-    if-stops (answer.Refused 1) _ _ (read-refused 0 21 limit (e .before .before .before .before .args .first .now) (e .read .ensures) (c .before .r .given .1)) refl
+    if-stops (answer.Refused 1) _ _ (read-refused oldLinks (e .before .before .before .before .args .first .now) (e .read .ensures) (c .before .r .given .1)) refl
 
 returns-2 : tie.Need-returns-2
 returns-2 c =
@@ -57,8 +57,8 @@ returns-2 c =
     let q = listed m in
     if-goes (answer.Refused 1) _ _ (q .passed) refl
     (c .against-second .ensures
-    ∙ ap (λ (x : List ℕ). againstSecond 0 21 limit (m .n .given .0 .0) x (m .n .given .0 .1 .1 .0) t) (q .front)
-    ∙ ap₂ (λ (x u : ℕ). againstSecond 0 21 limit x (sidesOf 0 21 s) u t) (sym (q .images)) (sym (q .ended)))
+    ∙ ap (λ (x : List ℕ). againstSecond oldLinks (m .n .given .0 .0) x (m .n .given .0 .1 .1 .0) t) (q .front)
+    ∙ ap₂ (λ (x u : ℕ). againstSecond oldLinks x (sidesOf oldLinks s) u t) (sym (q .images)) (sym (q .ended)))
 
 pub choice-spec : {M : Type 1} → statement M
 choice-spec =

@@ -2,9 +2,9 @@
 use mathlib.Core.Path.{refl}
 use lib.ListN.{replicate}
 use borrow.Author.Needs.{needs}
-use Rattle.theory.specs.Tables.{limit}
 use Rattle.choice.specs.Laws.Read.{read-is}
 use Rattle.choice.proofs.read.Statement.{statement}
+use Rattle.stored_links.specs.Form.{oldLinks}
 use Rattle.choice.proofs.read.Tie as tie
 
 slice-aggregate-read-links : tie.Need-slice-aggregate-read-links
@@ -20,7 +20,7 @@ returns : tie.Need-returns
 returns c =
     let e = c .before .before .before in
     let s = e .before .before .before .before .before in
-    read-is 0 21 limit (s .args .bytes .now) (s .args .fars .now) (replicate 128 0) _ _ (s .pre) refl (e .read-links .ensures)
+    read-is oldLinks (s .args .bytes .now) (s .args .fars .now) (replicate 128 0) _ _ (s .pre) refl (e .read-links .ensures)
 
 pub read-spec : {M : Type 1} → statement M
 read-spec =

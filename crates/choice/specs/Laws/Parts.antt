@@ -13,82 +13,83 @@ use Rattle.ground.specs.declared.Refusal.{Refusal}
 use Rattle.bits.specs.Bits.{AllBytes}
 use Rattle.stored_links.specs.Form.{linkBytes}
 use Rattle.stored_links.specs.Laws.WriteBack.{read-written}
-use Rattle.stored_links.specs.Said.{costsOf, countOf, imagesOf, markOf, usedOf}
+use Rattle.stored_links.specs.Said.{costsOf, countOf, imagesOf, Marked, usedOf}
 use Rattle.choice.specs.Laws.Accepted.{Begins, Taken, choice-accepted, the-first, the-second}
 use Rattle.choice.specs.Call.{choiceOf, partOf, sidesOf}
 use Rattle.choice.specs.declared.Chosen.{Chosen}
 use Rattle.choice.specs.declared.Chosen.the-variants.{Table}
+use Rattle.bits.specs.declared.Form.{Form}
 use Rattle.choice.specs.declared.Chosen.the-variants as answer
 
-module _ (head w L : ℕ) (s t : List ℕ) where
+module _ (form : Form) (s t : List ℕ) where
   -- ## The used bytes stand in the table's own buffer
 
-  pub first-fits : (u : ℕ) → choiceOf head w L s t ≡ Table 1 u → u ≤ length s
-  first-fits u e = let a = choice-accepted head w L s t 1 u e in go (a .first) (a .chosen)
+  pub first-fits : (u : ℕ) → choiceOf form s t ≡ Table 1 u → u ≤ length s
+  first-fits u e = let a = choice-accepted form s t 1 u e in go (a .first) (a .chosen)
     where
-      go : Begins head w L s → Taken head w L s t 1 u → u ≤ length s
+      go : Begins form s → Taken form s t 1 u → u ≤ length s
       go b (the-first p q h) = omega (arith, q, b .whole)
       go b (the-second p q h n) = absurd (omega (arith, p))
 
-  pub second-fits : (k u : ℕ) → choiceOf head w L s t ≡ Table k u → (k ≡ 1 → ⊥) → u ≤ length t
-  second-fits k u e d = let a = choice-accepted head w L s t k u e in go (a .second) (a .chosen)
+  pub second-fits : (k u : ℕ) → choiceOf form s t ≡ Table k u → (k ≡ 1 → ⊥) → u ≤ length t
+  second-fits k u e d = let a = choice-accepted form s t k u e in go (a .second) (a .chosen)
     where
-      go : Begins head w L t → Taken head w L s t k u → u ≤ length t
+      go : Begins form t → Taken form s t k u → u ≤ length t
       go b (the-first p q h) = absurd (d p)
       go b (the-second p q h n) = omega (arith, q, b .whole)
 
   -- ## What the part is
 
   -- the part of the buffer that the choice names
-  pub part-first : (u : ℕ) → choiceOf head w L s t ≡ Table 1 u → partOf (choiceOf head w L s t) s t ≡ take u s
+  pub part-first : (u : ℕ) → choiceOf form s t ≡ Table 1 u → partOf (choiceOf form s t) s t ≡ take u s
   part-first u e = rw e
 
-  pub part-second : (k u : ℕ) → choiceOf head w L s t ≡ Table k u → (k ≡ 1 → ⊥) → partOf (choiceOf head w L s t) s t ≡ take u t
+  pub part-second : (k u : ℕ) → choiceOf form s t ≡ Table k u → (k ≡ 1 → ⊥) → partOf (choiceOf form s t) s t ≡ take u t
   part-second k u e d = rw (e, ne-eqb k 1 d)
 
-  pub part-refused : (m : ℕ) (r : Refusal) → choiceOf head w L s t ≡ answer.Refused m r → partOf (choiceOf head w L s t) s t ≡ []
+  pub part-refused : (m : ℕ) (r : Refusal) → choiceOf form s t ≡ answer.Refused m r → partOf (choiceOf form s t) s t ≡ []
   part-refused m r e = rw e
 
   -- it is as long as the choice says, and never empty
-  pub part-length : (k u : ℕ) → choiceOf head w L s t ≡ Table k u → (length (partOf (choiceOf head w L s t) s t) ≡ u) × (1 ≤ u)
-  part-length k u e = let a = choice-accepted head w L s t k u e in rw e (go (a .first) (a .second) (a .chosen))
+  pub part-length : (k u : ℕ) → choiceOf form s t ≡ Table k u → (length (partOf (choiceOf form s t) s t) ≡ u) × (1 ≤ u)
+  part-length k u e = let a = choice-accepted form s t k u e in rw e (go (a .first) (a .second) (a .chosen))
     where
-      go : Begins head w L s → Begins head w L t → Taken head w L s t k u → (length (take u (cond (eqb k 1) s t)) ≡ u) × (1 ≤ u)
+      go : Begins form s → Begins form t → Taken form s t k u → (length (take u (cond (eqb k 1) s t)) ≡ u) × (1 ≤ u)
       go b c (the-first p q h) = rw (eq-eqb k 1 p) (length-take-le u s (omega (arith, q, b .whole)), omega (arith, q))
       go b c (the-second p q h n) = rw (ne-eqb k 1 (λ z. omega (arith, p, z))) (length-take-le u t (omega (arith, q, c .whole)), omega (arith, q))
 
   -- the used bytes are the stored form of the chosen table
-  pub first-form : (u : ℕ) → AllBytes s → choiceOf head w L s t ≡ Table 1 u
-      → partOf (choiceOf head w L s t) s t ≡ linkBytes head (markOf head s) w (imagesOf head s) (sidesOf head w s) (costsOf head w (imagesOf head s) (countOf head s) s)
-  first-form u b e =
-      let a = choice-accepted head w L s t 1 u e in
-      part-first u e ∙ ap (λ x. take x s) (used (a .chosen)) ∙ sym (read-written head w L (imagesOf head s) (countOf head s) s (a .first) b)
+  pub first-form : (u : ℕ) → AllBytes s → Marked form s → choiceOf form s t ≡ Table 1 u
+      → partOf (choiceOf form s t) s t ≡ linkBytes form (imagesOf form s) (sidesOf form s) (costsOf form (imagesOf form s) (countOf form s) s)
+  first-form u b m e =
+      let a = choice-accepted form s t 1 u e in
+      part-first u e ∙ ap (λ x. take x s) (used (a .chosen)) ∙ sym (read-written form (imagesOf form s) (countOf form s) s (a .first) m b)
     where
-      used : Taken head w L s t 1 u → u ≡ usedOf head w s
+      used : Taken form s t 1 u → u ≡ usedOf form s
       used (the-first p q h) = q
       used (the-second p q h n) = absurd (omega (arith, p))
 
-  pub second-form : (u : ℕ) → AllBytes t → choiceOf head w L s t ≡ Table 2 u
-      → partOf (choiceOf head w L s t) s t ≡ linkBytes head (markOf head t) w (imagesOf head t) (sidesOf head w t) (costsOf head w (imagesOf head t) (countOf head t) t)
-  second-form u b e =
-      let a = choice-accepted head w L s t 2 u e in
-      part-second 2 u e (λ z. omega (arith, z)) ∙ ap (λ x. take x t) (used (a .chosen)) ∙ sym (read-written head w L (imagesOf head t) (countOf head t) t (a .second) b)
+  pub second-form : (u : ℕ) → AllBytes t → Marked form t → choiceOf form s t ≡ Table 2 u
+      → partOf (choiceOf form s t) s t ≡ linkBytes form (imagesOf form t) (sidesOf form t) (costsOf form (imagesOf form t) (countOf form t) t)
+  second-form u b m e =
+      let a = choice-accepted form s t 2 u e in
+      part-second 2 u e (λ z. omega (arith, z)) ∙ ap (λ x. take x t) (used (a .chosen)) ∙ sym (read-written form (imagesOf form t) (countOf form t) t (a .second) m b)
     where
-      used : Taken head w L s t 2 u → u ≡ usedOf head w t
+      used : Taken form s t 2 u → u ≡ usedOf form t
       used (the-first p q h) = absurd (omega (arith, p))
       used (the-second p q h n) = q
 
   -- empty exactly when the choice is refused
-  pub part-empty : (partOf (choiceOf head w L s t) s t ≡ []) ↔ ((m : ℕ) × (r : Refusal) × (choiceOf head w L s t ≡ answer.Refused m r))
-  part-empty = (λ e. go (choiceOf head w L s t) refl e, λ p. part-refused (p .0) (p .1) (p .2))
+  pub part-empty : (partOf (choiceOf form s t) s t ≡ []) ↔ ((m : ℕ) × (r : Refusal) × (choiceOf form s t ≡ answer.Refused m r))
+  part-empty = (λ e. go (choiceOf form s t) refl e, λ p. part-refused (p .0) (p .1) (p .2))
     where
-      go : (c : Chosen) → choiceOf head w L s t ≡ c → partOf (choiceOf head w L s t) s t ≡ [] → (m : ℕ) × (r : Refusal) × (choiceOf head w L s t ≡ answer.Refused m r)
-      go (Table k u) q e = let p = part-length k u q in absurd (let z : length (partOf (choiceOf head w L s t) s t) ≡ 0 = ap length e in omega (arith, p, z))
+      go : (c : Chosen) → choiceOf form s t ≡ c → partOf (choiceOf form s t) s t ≡ [] → (m : ℕ) × (r : Refusal) × (choiceOf form s t ≡ answer.Refused m r)
+      go (Table k u) q e = let p = part-length k u q in absurd (let z : length (partOf (choiceOf form s t) s t) ≡ 0 = ap length e in omega (arith, p, z))
       go (answer.Refused m r) q e = (m, r, q)
 
 -- no second answer meets the promise of the choice, and no second content that of its part
-pub choice-only : (head w L : ℕ) (s t : List ℕ) (r q : Chosen) → r ≡ choiceOf head w L s t → q ≡ choiceOf head w L s t → r ≡ q
-choice-only head w L s t r q e f = e ∙ sym f
+pub choice-only : (form : Form) (s t : List ℕ) (r q : Chosen) → r ≡ choiceOf form s t → q ≡ choiceOf form s t → r ≡ q
+choice-only form s t r q e f = e ∙ sym f
 
-pub part-only : (head w L : ℕ) (s t p q : List ℕ) → p ≡ partOf (choiceOf head w L s t) s t → q ≡ partOf (choiceOf head w L s t) s t → p ≡ q
-part-only head w L s t p q e f = e ∙ sym f
+pub part-only : (form : Form) (s t p q : List ℕ) → p ≡ partOf (choiceOf form s t) s t → q ≡ partOf (choiceOf form s t) s t → p ≡ q
+part-only form s t p q e f = e ∙ sym f

@@ -19,50 +19,51 @@ use Rattle.stored_links.specs.Laws.Passed.{Stored, head-passed, read-passed, ro
 use Rattle.stored_links.specs.Laws.ReadAt.{read-enough}
 use Rattle.stored_links.specs.Outcomes.{readOutcome, rowsIf}
 use Rattle.stored_links.specs.Reading.{tableAtChecks, tableChecks}
-use Rattle.stored_links.specs.Said.{costOf, costsOf, countOf, farOf, farsOf, imagesOf, usedOf}
+use Rattle.stored_links.specs.Said.{costAt, costsOf, countOf, farAt, farsOf, imagesOf, usedOf}
 use Rattle.stored_links.specs.declared.StoredLinks.{StoredLinks}
 use Rattle.stored_links.specs.declared.StoredLinks.the-variants.{Table}
 use Rattle.stored_links.specs.declared.StoredLinks.the-variants as stored
 use Rattle.choice.specs.Read.{Listed, Read}
+use Rattle.bits.specs.declared.Form.{Form}
 
-module _ (head w L : ℕ) (s : List ℕ) where
+module _ (form : Form) (s : List ℕ) where
   -- the first byte is inside, and at the start of a byte
-  at-front : tableAtChecks head w L s 0 ≡ tableChecks head w L s
+  at-front : tableAtChecks form s 0 ≡ tableChecks form s
   at-front = rw (le-ltb (length s) 0 (omega arith))
 
-  pub read-is : {r : StoredLinks} (f v f′ v′ : List ℕ) → length f ≡ 128 → length v ≡ 128 → LeftRows (readOutcome head w L s 0 f v) r f′ v′ → Read head w L s r f′
+  pub read-is : {r : StoredLinks} (f v f′ v′ : List ℕ) → length f ≡ 128 → length v ≡ 128 → LeftRows (readOutcome form s 0 f v) r f′ v′ → Read form s r f′
   read-is {r} f v f′ v′ a b o =
-      let e : readOutcome head w L s 0 f v ≡ rowsIf (tableChecks head w L s) head w s f v =
-      read-enough head w L s 0 f v (omega arith) (omega arith) ∙ ap (λ (c : Check). rowsIf c head w s f v) at-front in
+      let e : readOutcome form s 0 f v ≡ rowsIf (tableChecks form s) form s f v =
+      read-enough form s 0 f v (omega arith) (omega arith) ∙ ap (λ (c : Check). rowsIf c form s f v) at-front in
       record {
         answered = o .answered ∙ ap (λ (x : RowsOutcome StoredLinks). x .answer) e;
-        stands = λ p. front-taken (countOf head s) (sidesOf head w s) f f′ (length-listed (farOf head w (imagesOf head s) s) (countOf head s))
-            (o .far-sides ∙ ap (λ (x : RowsOutcome StoredLinks). x .far-list) e ∙ ap (λ (c : Check). frontIf c (sidesOf head w s) f) p);
+        stands = λ p. front-taken (countOf form s) (sidesOf form s) f f′ (length-listed (farAt form (imagesOf form s) s) (countOf form s))
+            (o .far-sides ∙ ap (λ (x : RowsOutcome StoredLinks). x .far-list) e ∙ ap (λ (c : Check). frontIf c (sidesOf form s) f) p);
       }
 
   -- ## What the caller learns
 
-  pub read-refused : {r : StoredLinks} {f : List ℕ} {q : Refusal} → Read head w L s r f → r ≡ stored.Refused q → tableChecks head w L s ≡ Refused q
-  read-refused {q = q} p e = table-refused (tableChecks head w L s) (imagesOf head s) (countOf head s) (usedOf head w s) q (sym (p .answered) ∙ e)
+  pub read-refused : {r : StoredLinks} {f : List ℕ} {q : Refusal} → Read form s r f → r ≡ stored.Refused q → tableChecks form s ≡ Refused q
+  read-refused {q = q} p e = table-refused (tableChecks form s) (imagesOf form s) (countOf form s) (usedOf form s) q (sym (p .answered) ∙ e)
 
   -- what passes is a stored link table
-  pub table-stored : tableChecks head w L s ≡ Passed → Stored head w L (imagesOf head s) (countOf head s) s
-  table-stored e = read-passed head w L s 125 (room-goes head w L s 125 (λ h. omega (arith, head-passed head s h .2)) ∙ e) .0
+  pub table-stored : tableChecks form s ≡ Passed → Stored form (imagesOf form s) (countOf form s) s
+  table-stored e = read-passed form s 125 (room-goes form s 125 (λ h. omega (arith, head-passed form s h .2)) ∙ e) .0
 
   -- its far sides ascend
-  pub sides-ascend : tableChecks head w L s ≡ Passed → Between 1 (sidesOf head w s) (2 ^ imagesOf head s)
+  pub sides-ascend : tableChecks form s ≡ Passed → Between 1 (sidesOf form s) (2 ^ imagesOf form s)
   sides-ascend e =
-      let n = imagesOf head s in
-      let N = countOf head s in
-      let q = length-listed (farOf head w n s) N ∙ sym (length-listed (costOf head w n s) N) in
-      rw (rowsOf-fars (farsOf head w n N s) (costsOf head w n N s) q) at (table-stored e .rows .ascending)
+      let n = imagesOf form s in
+      let N = countOf form s in
+      let q = length-listed (farAt form n s) N ∙ sym (length-listed (costAt form n s) N) in
+      rw (rowsOf-fars (farsOf form n N s) (costsOf form n N s) q) at (table-stored e .rows .ascending)
 
-  pub read-listed : {r : StoredLinks} {f : List ℕ} {n k used : ℕ} → Read head w L s r f → r ≡ Table n k used → Listed head w L s n k used f
+  pub read-listed : {r : StoredLinks} {f : List ℕ} {n k used : ℕ} → Read form s r f → r ≡ Table n k used → Listed form s n k used f
   read-listed {f = f} {n = n} {k = k} {used = used} p e =
-      let q = table-passed (tableChecks head w L s) (imagesOf head s) (countOf head s) (usedOf head w s) n k used (sym (p .answered) ∙ e) in
+      let q = table-passed (tableChecks form s) (imagesOf form s) (countOf form s) (usedOf form s) n k used (sym (p .answered) ∙ e) in
       let t = table-stored (q .0) in
-      let h : take k f ≡ sidesOf head w s = ap (λ i. take i f) (sym (q .2)) ∙ p .stands (q .0) in
-      let c : countOf head s ≤ 128 = omega (arith, t .most, t .few) in
+      let h : take k f ≡ sidesOf form s = ap (λ i. take i f) (sym (q .2)) ∙ p .stands (q .0) in
+      let c : countOf form s ≤ 128 = omega (arith, t .most, t .few) in
       record {
         passed = q .0;
         images = q .1;
@@ -70,7 +71,7 @@ module _ (head w L : ℕ) (s : List ℕ) where
         front = h;
         ascending = rw (h, ← (q .1)) (sides-ascend (q .0));
         few = omega (arith, q .2, c);
-        short = rw h (omega (arith, c, length-listed (farOf head w (imagesOf head s) s) (countOf head s)));
+        short = rw h (omega (arith, c, length-listed (farAt form (imagesOf form s) s) (countOf form s)));
         least = omega (arith, q .1, t .some);
         most = omega (arith, q .1, t .few);
       }

@@ -13,7 +13,7 @@ use Rattle.cost_writer.proofs.check_write.Tie as tie
 sized : (c : tie.After-enum-told) → Sized (c .before .before .before .before .args .n) (c .before .before .before .before .args .t .now)
 sized c = size-passed _ _ (sym (c .before .before .check-size .ensures) ∙ c .enum-told .given .1)
 
-small : (c : tie.After-enum-told3) → Small (c .before .before .before .before .before .before .before .args .head) (c .before .before .before .before .before .before .before .args .w) (c .before .before .before .before .before .before .before .args .n)
+small : (c : tie.After-enum-told3) → Small (c .before .before .before .before .before .before .before .args .form) (c .before .before .before .before .before .before .before .args .n)
 small c =
     let d = c .before .before .before in
     let a = d .before .before .before .before in
@@ -51,7 +51,7 @@ row-at-requires c κs = (small c, omega arith)
 add-refuse-if : tie.Need-add-refuse-if
 add-refuse-if c =
     let a = c .before .before .before .before .before .before .before .before in
-    rw (c .row-at .ensures) (omega (arith, end-le (a .args .head) (a .args .w) (a .args .n) (small (c .before))))
+    rw (c .row-at .ensures) (omega (arith, end-le (a .args .form) (a .args .n) (small (c .before))))
 
 refuse-if-requires : tie.Need-refuse-if-requires
 refuse-if-requires c κs = search needs

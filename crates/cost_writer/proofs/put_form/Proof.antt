@@ -7,14 +7,21 @@ use Rattle.stored_costs.specs.Laws.Form.{written-costs}
 use Rattle.stored_costs.specs.Laws.Sizes.{end-le}
 use borrow.Author.Needs.{needs}
 use Rattle.cost_writer.proofs.put_form.Statement.{statement}
+use Rattle.stored_costs.specs.Sizes.{lastEntryEnd}
 use Rattle.cost_writer.proofs.put_form.Tie as tie
 
--- the place behind the call of row_at, from the one before the entries are put
-abbrev ended : tie.After-put-entries-arg → tie.After-row-at
-ended c = c .before .before .before .before .before .before .before .before .before
+-- the places of the writes before the entries are put, and where the end was found
+abbrev second : tie.After-put-entries-arg → tie.After-put2
+second c = c .before .before .before .before
 
-end-small : (c : tie.After-row-at) → c .row-at .result ≤ 131086
-end-small c = let a = c .before .before .before in rw (c .row-at .ensures) (end-le (a .args .head) (a .args .w) (a .args .n) (a .pre .1))
+abbrev first : tie.After-put-entries-arg → tie.After-put
+first c = second c .before .before .before .before
+
+abbrev ended : tie.After-put-entries-arg → tie.After-row-at
+ended c = first c .before .before
+
+end-small : (c : tie.After-row-at) → c .row-at .result ≤ lastEntryEnd
+end-small c = let a = c .before .before .before in rw (c .row-at .ensures) (end-le (a .args .form) (a .args .n) (a .pre .1))
 
 room : (c : tie.After-row-at) → (c .row-at .result + 7) / 8 ≤ length (c .before .before .before .args .out .now)
 room c = rw (c .row-at .ensures) (c .before .before .before .pre .2)
@@ -38,8 +45,8 @@ put-entries-requires c κs =
       a .pre .0,
       record {
         narrow = omega (arith, a .pre .1 .narrow);
-        within = omega (arith, a .pre .2, c .before .before .before .put2 .kept .0, c .before .before .before .before .before .before .before .put .kept .0);
-        counted = omega (arith, end-le (a .args .head) (a .args .w) (a .args .n) (a .pre .1));
+        within = omega (arith, a .pre .2, second c .put2 .kept .0, first c .put .kept .0);
+        counted = omega (arith, end-le (a .args .form) (a .args .n) (a .pre .1));
       },
     )
 
@@ -60,7 +67,7 @@ put-requires-3 c κs =
     let r = room e in
     record {
       width = omega arith;
-      within = omega (arith, c .before .before .before .put-entries .kept .1 .1 .1 .1 .0, d .before .before .before .put2 .kept .0, d .before .before .before .before .before .before .before .put .kept .0);
+      within = omega (arith, c .before .before .before .put-entries .kept .1 .1 .1 .1 .0, second d .put2 .kept .0, first d .put .kept .0);
       counted = omega arith;
     }
 
@@ -74,9 +81,9 @@ returns c =
     let e = ended d in
     let s = e .before in
     let a = s .before .before in
-    written-costs (a .args .head) (a .args .mark) (a .args .w) (a .args .n) (cost (a .args .t .now) (a .args .n)) (a .args .out .now) (d .before .before .before .before .before .before .before .put .last .0) (d .before .before .before .put2 .last .0)
+    written-costs (a .args .form) (a .args .n) (cost (a .args .t .now) (a .args .n)) (a .args .out .now) (first d .put .last .0) (second d .put2 .last .0)
     (f .put-entries .last .1 .1 .1 .1 .0) _ (λ i. s .slice-known .given i .fits) (λ i. c .slice-known5 .given i .fits) (a .pre .2)
-    (d .before .before .before .before .before .before .before .put .ensures) (d .before .before .before .put2 .ensures) (f .put-entries .ensures) (rw (e .row-at .ensures) at (c .before .before .put3 .ensures))
+    (first d .put .ensures) (second d .put2 .ensures) (f .put-entries .ensures) (rw (e .row-at .ensures) at (c .before .before .put3 .ensures))
 
 pub put-form-spec : {M : Type 1} → statement M
 put-form-spec =

@@ -1,12 +1,14 @@
 -- `cost_writer::write_costs` meets its contract: the form is put once all checks passed. Assumes nothing.
-use mathlib.Core.Path.{ap, sym, _∙_}
+use mathlib.Core.Path.{ap, sym, _∙_, _≡_}
 use Prim.Native.Nat.{_≤_}
 use native.Mathlib.Omega.{arith}
 use lib.ListN.{length}
 use Rattle.theory.specs.Tables.{CostTable, limit}
-use Rattle.stored_costs.specs.Form.{costUsed}
+use Rattle.stored_costs.specs.Form.{costUsed, oldCosts}
 use Rattle.stored_costs.specs.Sizes.{Small}
 use Rattle.cost_writer.specs.Laws.Accepted.{write-passed}
+use Rattle.cost_writer.specs.Writing.{writeChecks}
+use Rattle.stored_costs.specs.Laws.Sizes.{end-le}
 use borrow.Author.Needs.{needs}
 use Rattle.ground.specs.Laws.Outcomes.{front-goes, front-stops}
 use Rattle.ground.specs.Laws.Refusals.{if-goes, if-stops}
@@ -15,16 +17,25 @@ use Rattle.ground.specs.declared.Written.the-variants as written
 use Rattle.cost_writer.proofs.write_costs.Statement.{statement}
 use Rattle.cost_writer.proofs.write_costs.Tie as tie
 
-told : (c : tie.After-enum-told)
-    → CostTable limit (c .before .before .before .before .before .args .n) (c .before .before .before .before .before .args .t .now)
-    × (costUsed 0 20 (c .before .before .before .before .before .args .n) ≤ length (c .before .before .before .before .before .args .out .now))
-told c = write-passed 0 20 limit _ _ _ (sym (c .before .before .check-write .ensures) ∙ c .enum-told .given .1)
+abbrev begun : tie.After-enum-told → tie.Start
+begun c = c .before .before .before .before .before .before
 
-small : (c : tie.After-enum-told) → Small 0 20 (c .before .before .before .before .before .args .n)
+-- the checks are those of document 01's form
+checked : (c : tie.After-check-write) → c .check-write .result ≡ writeChecks oldCosts (c .before .before .before .before .args .n) (c .before .before .before .before .args .t .now) (length (c .before .before .before .before .args .out .now))
+checked c = rw (c .before .old-form .ensures) at (c .check-write .ensures)
+
+told : (c : tie.After-enum-told)
+    → CostTable limit (begun c .args .n) (begun c .args .t .now) × (costUsed oldCosts (begun c .args .n) ≤ length (begun c .args .out .now))
+told c = write-passed oldCosts _ _ _ (sym (checked (c .before .before)) ∙ c .enum-told .given .1)
+
+small : (c : tie.After-enum-told) → Small oldCosts (begun c .args .n)
 small c = record { short = omega arith; narrow = omega arith; few = told c .0 .few }
 
+old-form-requires : tie.Need-old-form-requires
+old-form-requires c κs = search needs
+
 check-write-requires : tie.Need-check-write-requires
-check-write-requires c κs = search needs
+check-write-requires c κs = rw (c .old-form .ensures) (omega arith, omega arith)
 
 enum-known-r : tie.Need-enum-known-r
 enum-known-r c = search needs
@@ -35,20 +46,24 @@ enum-told c = search needs
 put-form-requires : tie.Need-put-form-requires
 put-form-requires c κs =
     let d = c .before in
-    (told d .0, small d, told d .1)
+    rw (d .before .before .before .old-form .ensures) (told d .0, small d, told d .1)
 
 row-at-requires : tie.Need-row-at-requires
-row-at-requires c κs = (small (c .before .before .before .before), omega arith)
+row-at-requires c κs =
+    let d = c .before .before .before .before in
+    rw (d .before .before .before .old-form .ensures) (small d, omega arith)
 
-add-t12 : tie.Need-add-t12
-add-t12 c = search needs
+add-t13 : tie.Need-add-t13
+add-t13 c =
+    let d = c .before .before .before .before .before in
+    rw (c .row-at .ensures, d .before .before .before .old-form .ensures) (omega (arith, end-le oldCosts (begun d .args .n) (small d)))
 
 returns : tie.Need-returns
 returns c =
-    let k = c .before .before .before .check-write in
+    let k = c .before .before .before in
     record {
-      answered = if-stops written.Refused _ _ (c .before .r .given .1) (k .ensures);
-      left = front-stops _ _ _ (sym (k .ensures) ∙ c .before .r .given .1);
+      answered = if-stops written.Refused _ _ (c .before .r .given .1) (checked k);
+      left = front-stops _ _ _ (sym (checked k) ∙ c .before .r .given .1);
     }
 
 same-length : tie.Need-same-length
@@ -57,22 +72,23 @@ same-length c = search needs
 returns-2 : tie.Need-returns-2
 returns-2 c =
     let d = c .before .before .before .before .before in
-    let k = d .before .before .check-write in
+    let k = d .before .before in
     record {
-      answered = if-goes written.Refused _ _ (d .enum-told .given .1) (k .ensures) (ap Places (rw (c .row-at .ensures)));
-      left = front-goes _ _ _ _ (sym (k .ensures) ∙ d .enum-told .given .1) (c .before .before .before .put-form .ensures);
+      answered = if-goes written.Refused _ _ (d .enum-told .given .1) (checked k) (ap Places (rw (c .row-at .ensures, k .before .old-form .ensures)));
+      left = front-goes _ _ _ _ (sym (checked k) ∙ d .enum-told .given .1) (rw (k .before .old-form .ensures) at (c .before .before .before .put-form .ensures));
     }
 
 pub write-costs-spec : {M : Type 1} → statement M
 write-costs-spec =
     tie.close
     (tie.spec
+    old-form-requires
     check-write-requires
     enum-known-r
     enum-told
     put-form-requires
     row-at-requires
-    add-t12
+    add-t13
     returns
     same-length
     returns-2)

@@ -11,24 +11,26 @@ use Rattle.theory.specs.Tables.{CostTable}
 use Rattle.bits.specs.Bits.{AllBytes}
 use Rattle.cost_writer.specs.Laws.Accepted.{passed-write}
 use Rattle.cost_writer.specs.Writing.{writeOutcome}
-use Rattle.stored_costs.specs.Form.{costsOf, markOf}
+use Rattle.stored_costs.specs.Form.{storedTable, Marked}
 use Rattle.stored_costs.specs.Laws.Passed.{table-at}
 use Rattle.stored_costs.specs.Laws.Positions.{used-bytes}
 use Rattle.stored_costs.specs.Laws.WriteBack.{read-table}
 use Rattle.stored_costs.specs.Outcomes.{judged}
 use Rattle.stored_costs.specs.declared.StoredCosts.the-variants.{Table}
+use Rattle.bits.specs.declared.Form.{Form}
 
 -- an accepted writing of the bytes m into the lent ones
 abbrev pub wroteInto : ℕ → List ℕ → List ℕ → Outcome Written
 wroteInto used m out = record { answer = Places used; places = front m out }
 
-module _ (head w L : ℕ) where
+module _ (form : Form) where
   -- writing what was read gives the same used bytes
-  pub read-again : (bytes : List ℕ) (position room n used : ℕ) (out : List ℕ) → AllBytes bytes → judged head w L bytes position room ≡ Table n used → used ≤ length out
-      → writeOutcome head (markOf head (drop (position / 8) bytes)) w L n (costsOf head w n (drop (position / 8) bytes)) out
+  pub read-again : (bytes : List ℕ) (position room n used : ℕ) (out : List ℕ) → AllBytes bytes → judged form bytes position room ≡ Table n used
+      → Marked form (drop (position / 8) bytes) → used ≤ length out
+      → writeOutcome form n (storedTable form n (drop (position / 8) bytes)) out
       ≡ wroteInto used (take used (drop (position / 8) bytes)) out
-  read-again bytes position room n used out b e h =
+  read-again bytes position room n used out b e m h =
       let s = drop (position / 8) bytes in
-      let a = table-at head w L bytes position room n used e in
-      let c : CostTable L n (costsOf head w n s) = rw (← (a .number)) (read-table head w L s room (a .readable)) in
-      rw (passed-write head w L n (costsOf head w n s) (length out) c (rw (a .count) h), a .count, used-bytes head w L bytes position room n used b e)
+      let a = table-at form bytes position room n used e in
+      let c : CostTable (form .limit) n (storedTable form n s) = rw (← (a .number)) (read-table form s room (a .readable)) in
+      rw (passed-write form n (storedTable form n s) (length out) c (rw (a .count) h), a .count, used-bytes form bytes position room n used b e m)

@@ -25,7 +25,7 @@ row-at-requires c κs = search needs
 add-refuse-if : tie.Need-add-refuse-if
 add-refuse-if c =
     let a = c .before .before .before .before .before .before in
-    omega (arith, c .row-at .ensures, end-le (a .args .head) (a .args .w) (a .args .n) (length (a .args .fars .now)) (a .pre .0))
+    omega (arith, c .row-at .ensures, end-le (a .args .form) (a .args .n) (length (a .args .fars .now)) (a .pre .0))
 
 refuse-if-requires : tie.Need-refuse-if-requires
 refuse-if-requires c κs = search needs

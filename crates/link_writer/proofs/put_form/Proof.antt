@@ -7,6 +7,7 @@ use Rattle.stored_links.specs.Laws.Form.{written-links}
 use Rattle.stored_links.specs.Laws.Sizes.{end-le}
 use borrow.Author.Needs.{needs}
 use Rattle.link_writer.proofs.put_form.Statement.{statement}
+use Rattle.stored_links.specs.Sizes.{lastRowEnd}
 use Rattle.link_writer.proofs.put_form.Tie as tie
 
 -- the places of the writes before the rows are put, and where the end was found
@@ -14,7 +15,7 @@ abbrev third : tie.After-put-rows-arg → tie.After-put3
 third c = c .before .before .before
 
 abbrev second : tie.After-put-rows-arg → tie.After-put2
-second c = third c .before .before .before .before
+second c = third c .before .before .before .before .before
 
 abbrev first : tie.After-put-rows-arg → tie.After-put
 first c = second c .before .before .before .before
@@ -25,8 +26,8 @@ ended c = first c .before .before
 abbrev begun : tie.After-row-at → tie.Start
 begun c = c .before .before .before .before
 
-end-small : (c : tie.After-row-at) → c .row-at .result ≤ 11896
-end-small c = let a = begun c in omega (arith, c .row-at .ensures, end-le (a .args .head) (a .args .w) (a .args .n) (length (a .args .fars .now)) (a .pre .0 .small))
+end-small : (c : tie.After-row-at) → c .row-at .result ≤ lastRowEnd
+end-small c = let a = begun c in omega (arith, c .row-at .ensures, end-le (a .args .form) (a .args .n) (length (a .args .fars .now)) (a .pre .0 .small))
 
 room : (c : tie.After-row-at) → (c .row-at .result + 7) / 8 ≤ length (begun c .args .out .now)
 room c = omega (arith, c .row-at .ensures, begun c .pre .0 .fits)
@@ -54,7 +55,7 @@ add-put c = search needs
 
 put-requires-3 : tie.Need-put-requires-3
 put-requires-3 c κs =
-    let q = c .before .before .before in
+    let q = c .before .before .before .before in
     let p = q .before .before .before .before in
     let h = begun (p .before .before) .pre .0 in
     record { width = omega arith; within = omega (arith, h .fits, p .put .kept .0, q .put2 .kept .0); counted = omega (arith, h .small .short) }
@@ -79,7 +80,7 @@ put-requires-4 c κs =
     let d = u .before in
     let z = end-small (ended d) in
     let r = room (ended d) in
-    record { width = omega arith; within = omega (arith, u .put-rows .kept .1 .1 .1 .1 .1 .0, same d); counted = omega arith }
+    record { width = omega arith; within = omega (arith, u .put-rows .kept .1 .1 .1 .1 .0, same d); counted = omega arith }
 
 same-length : tie.Need-same-length
 same-length c = search needs
@@ -91,8 +92,8 @@ returns c =
     let d = u .before in
     let e = ended d in
     let a = begun e in
-    written-links (a .args .head) (a .args .mark) (a .args .w) (a .args .n) (a .args .fars .now) (a .args .costs .now) (a .args .out .now)
-    (first d .put .last .0) (second d .put2 .last .0) (third d .put3 .last .0) (u .put-rows .last .1 .1 .1 .1 .1 .0) _
+    written-links (a .args .form) (a .args .n) (a .args .fars .now) (a .args .costs .now) (a .args .out .now)
+    (first d .put .last .0) (second d .put2 .last .0) (third d .put3 .last .0) (u .put-rows .last .1 .1 .1 .1 .0) _
     (λ i. e .before .slice-known .given i .fits) (λ i. c .slice-known6 .given i .fits) (a .pre .0 .fits)
     (first d .put .ensures) (second d .put2 .ensures) (third d .put3 .ensures) (u .put-rows .ensures) (rw (e .row-at .ensures) at (f .put4 .ensures))
 

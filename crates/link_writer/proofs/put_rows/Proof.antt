@@ -11,28 +11,29 @@ use Rattle.stored_links.specs.Laws.Rows.{rows-over-more, rows-over-none}
 use Rattle.stored_links.specs.Laws.Sizes.{end-le, row-within}
 use borrow.Author.Needs.{needs}
 use Rattle.link_writer.proofs.put_rows.Statement.{statement}
+use Rattle.stored_links.specs.Sizes.{lastRowEnd}
 use Rattle.link_writer.proofs.put_rows.Tie as tie
 
 abbrev Inv-loop : tie.InvT-loop
-Inv-loop head w n fars costs out₀ k₀ out k =
+Inv-loop form n fars costs out₀ k₀ out k =
     (k ≤ length fars) × (length out ≡ length out₀)
-    × (bits out ≡ overAt (bits out₀) (head + 14) (formBits (rowsTo w n (λ j. getD fars j 0) (λ j. getD costs j 0) k)))
+    × (bits out ≡ overAt (bits out₀) (form .head + 14) (formBits (rowsTo (form .width) n (λ j. getD fars j 0) (λ j. getD costs j 0) k)))
 
 abbrev μ-loop : tie.MeasureT-loop
-μ-loop head w n fars costs out₀ k₀ out k = length fars - k
+μ-loop form n fars costs out₀ k₀ out k = length fars - k
 
 abbrev begun : tie.After-row-at Inv-loop μ-loop → tie.Start Inv-loop μ-loop
 begun c = c .before .before .before .before .before .before
 
 -- the row of this turn stands within the bytes, and its place is a small number
 placed : (c : tie.After-row-at Inv-loop μ-loop)
-    → (c .row-at .result + rowWidth (begun c .args .w) (begun c .args .n) ≤ 8 * length (begun c .args .out .now)) × (c .row-at .result + rowWidth (begun c .args .w) (begun c .args .n) ≤ 11896)
+    → (c .row-at .result + rowWidth (begun c .args .form .width) (begun c .args .n) ≤ 8 * length (begun c .args .out .now)) × (c .row-at .result + rowWidth (begun c .args .form .width) (begun c .args .n) ≤ lastRowEnd)
 placed c =
     let s = begun c in
     let a = s .args in
     let h = s .pre .0 in
-    let e = row-within (a .head) (a .w) (a .n) (length (a .fars .now)) (c .before .before .loop .k) (c .before .loop-test .taken) in
-    (omega (arith, c .row-at .ensures, e, h .within), omega (arith, c .row-at .ensures, e, end-le (a .head) (a .w) (a .n) (length (a .fars .now)) (h .small)))
+    let e = row-within (a .form) (a .n) (length (a .fars .now)) (c .before .before .loop .k) (c .before .loop-test .taken) in
+    (omega (arith, c .row-at .ensures, e, h .within), omega (arith, c .row-at .ensures, e, end-le (a .form) (a .n) (length (a .fars .now)) (h .small)))
 
 loop-holds : tie.Need-loop-holds Inv-loop μ-loop
 loop-holds c = (search needs, refl, rows-over-none _ _ _ _ _ _)
@@ -77,7 +78,7 @@ loop-again c =
       search needs,
       u .put-row .kept .1 .1 .1 .1 .1 .0 ∙ l .inv .1,
       u .put-row .ensures
-          ∙ rows-over-more (a .w) (a .n) (λ j. getD (a .fars .now) j 0) (λ j. getD (a .costs .now) j 0) (bits (a .out .now)) (bits (l .out)) (a .head + 14) (r .row-at .result) (l .k) (r .row-at .ensures)
+          ∙ rows-over-more (a .form .width) (a .n) (λ j. getD (a .fars .now) j 0) (λ j. getD (a .costs .now) j 0) (bits (a .out .now)) (bits (l .out)) (a .form .head + 14) (r .row-at .result) (l .k) (r .row-at .ensures)
           (omega (arith, length-bits (a .out .now), placed r .0)) (l .inv .2),
     )
 
@@ -88,7 +89,7 @@ returns : tie.Need-returns Inv-loop μ-loop
 returns c =
     let a = c .before .before .before .before .before .args in
     let q : c .before .loop .k ≡ length (a .fars .now) = omega (arith, c .before .loop .inv .0, c .loop-test .left) in
-    c .before .loop .inv .2 ∙ ap (λ (x : ℕ). overAt (bits (a .out .now)) (a .head + 14) (formBits (rowsTo (a .w) (a .n) (λ j. getD (a .fars .now) j 0) (λ j. getD (a .costs .now) j 0) x))) q
+    c .before .loop .inv .2 ∙ ap (λ (x : ℕ). overAt (bits (a .out .now)) (a .form .head + 14) (formBits (rowsTo (a .form .width) (a .n) (λ j. getD (a .fars .now) j 0) (λ j. getD (a .costs .now) j 0) x))) q
 
 pub put-rows-spec : {M : Type 1} → statement M
 put-rows-spec =

@@ -2,7 +2,6 @@
 use mathlib.Core.Path.{ap, sym, _∙_}
 use native.Mathlib.Omega.{arith}
 use lib.ListN.{length}
-use Rattle.theory.specs.Tables.{limit}
 use Rattle.link_writer.specs.Laws.Accepted.{passed-room}
 use borrow.Author.Needs.{needs}
 use Rattle.ground.specs.Laws.Outcomes.{front-goes, front-stops}
@@ -10,6 +9,7 @@ use Rattle.ground.specs.Laws.Refusals.{if-goes, if-stops}
 use Rattle.ground.specs.declared.Written.the-variants.{Places}
 use Rattle.ground.specs.declared.Written.the-variants as written
 use Rattle.link_writer.proofs.write_links.Statement.{statement}
+use Rattle.stored_links.specs.Form.{oldLinks}
 use Rattle.link_writer.proofs.write_links.Tie as tie
 
 check-write-requires : tie.Need-check-write-requires
@@ -26,7 +26,7 @@ put-links-requires c κs =
     let d = c .before in
     let k = d .before .before in
     let a = k .before .before .before .before .args in
-    passed-room 0 21 limit (a .n) (a .count) (a .fars .now) (a .costs .now) (length (a .out .now)) (omega arith) (omega arith) (sym (k .check-write .ensures) ∙ d .enum-told .given .1)
+    passed-room oldLinks (a .n) (a .count) (a .fars .now) (a .costs .now) (length (a .out .now)) (omega arith) (omega arith) (sym (k .check-write .ensures) ∙ d .enum-told .given .1)
 
 returns : tie.Need-returns
 returns c =

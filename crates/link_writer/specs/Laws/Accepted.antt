@@ -15,29 +15,30 @@ use Rattle.links.specs.Links.{Links}
 use Rattle.links.specs.Laws.LinkChecks.{link-checks, row-checks, sizes-passed}
 use Rattle.stored_links.specs.Form.{linkUsed}
 use Rattle.stored_links.specs.Laws.Passed.{room-passed}
+use Rattle.bits.specs.declared.Form.{Form}
 
 -- what passes the last three checks, where the rows are as many as counted
-pub fit-passed : (head w L n : ℕ) (l v : List ℕ) (room : ℕ) → length l ≡ length v → fitChecks head w L n l v room ≡ Passed
-    → LinkTable L n (rowsOf l v) × (linkUsed head w n (length l) ≤ room)
-fit-passed head w L n l v room h e =
-    let q = then-passed (rowChecks L n l v) (roomCheck (linkUsed head w n (length l)) room) e in
-    (row-checks L n l v h .0 (q .0), room-passed (linkUsed head w n (length l)) room (q .1))
+pub fit-passed : (form : Form) (n : ℕ) (l v : List ℕ) (room : ℕ) → length l ≡ length v → fitChecks form n l v room ≡ Passed
+    → LinkTable (form .limit) n (rowsOf l v) × (linkUsed form n (length l) ≤ room)
+fit-passed form n l v room h e =
+    let q = then-passed (rowChecks (form .limit) n l v) (roomCheck (linkUsed form n (length l)) room) e in
+    (row-checks (form .limit) n l v h .0 (q .0), room-passed (linkUsed form n (length l)) room (q .1))
 
-module _ (head w L n N : ℕ) (l v : List ℕ) (room : ℕ) where
-  pub write-passed : writeChecks head w L n N l v room ≡ Passed → Links L n N l v × (n ≤ N) × (N ≤ 2 * n - 3) × (linkUsed head w n (length l) ≤ room)
+module _ (form : Form) (n N : ℕ) (l v : List ℕ) (room : ℕ) where
+  pub write-passed : writeChecks form n N l v room ≡ Passed → Links (form .limit) n N l v × (n ≤ N) × (N ≤ 2 * n - 3) × (linkUsed form n (length l) ≤ room)
   write-passed e =
-      let p = then-passed (sizeChecks n N l v) (fitChecks head w L n l v room) e in
-      let q = then-passed (rowChecks L n l v) (roomCheck (linkUsed head w n (length l)) room) (p .1) in
+      let p = then-passed (sizeChecks n N l v) (fitChecks form n l v room) e in
+      let q = then-passed (rowChecks (form .limit) n l v) (roomCheck (linkUsed form n (length l)) room) (p .1) in
       let s = sizes-passed n N l v (p .0) in
-      (link-checks L n N l v .0 (rw (p .0) (q .0)), s .least, s .most, room-passed (linkUsed head w n (length l)) room (q .1))
+      (link-checks (form .limit) n N l v .0 (rw (p .0) (q .0)), s .least, s .most, room-passed (linkUsed form n (length l)) room (q .1))
 
-  pub passed-write : Links L n N l v → linkUsed head w n (length l) ≤ room → writeChecks head w L n N l v room ≡ Passed
+  pub passed-write : Links (form .limit) n N l v → linkUsed form n (length l) ≤ room → writeChecks form n N l v room ≡ Passed
   passed-write t h =
-      let p = then-passed (sizeChecks n N l v) (rowChecks L n l v) (link-checks L n N l v .1 t) in
-      rw (p .0, p .1, le-ltb room (linkUsed head w n (length l)) h)
+      let p = then-passed (sizeChecks n N l v) (rowChecks (form .limit) n l v) (link-checks (form .limit) n N l v .1 t) in
+      rw (p .0, p .1, le-ltb room (linkUsed form n (length l)) h)
 
   -- so the raw writer may be called
-  pub passed-room : head ≤ 7 → w ≤ 32 → writeChecks head w L n N l v room ≡ Passed → RoomFor head w n (length l) room × (length v ≡ length l)
+  pub passed-room : form .head ≤ 7 → form .width ≤ 32 → writeChecks form n N l v room ≡ Passed → RoomFor form n (length l) room × (length v ≡ length l)
   passed-room h k e =
       let t = write-passed e in
       let s = t .0 in (

@@ -16,27 +16,29 @@ use Rattle.stored_links.specs.Form.{linkBytes, linkUsed}
 use Rattle.stored_links.specs.Laws.Positions.{TableAt}
 use Rattle.stored_links.specs.Laws.ReadAt.{used-bytes}
 use Rattle.stored_links.specs.Laws.WriteBack.{read-links}
-use Rattle.stored_links.specs.Said.{costsOf, farsOf, markOf}
+use Rattle.stored_links.specs.Said.{Marked, costsOf, farsOf}
+use Rattle.bits.specs.declared.Form.{Form}
 
 -- an accepted writing of the bytes m into the lent ones
 abbrev pub wroteInto : ℕ → List ℕ → List ℕ → Outcome Written
 wroteInto used m out = record { answer = Places used; places = front m out }
 
-module _ (head w L : ℕ) where
+module _ (form : Form) where
   -- a link table is written where there is room for it
-  pub written-is : (mark n N : ℕ) (l v out : List ℕ) → Links L n N l v → linkUsed head w n N ≤ length out
-      → writeOutcome head mark w L n N l v out ≡ wroteInto (linkUsed head w n N) (linkBytes head mark w n l v) out
-  written-is mark n N l v out t h =
-      let e : linkUsed head w n (length l) ≡ linkUsed head w n N = ap (linkUsed head w n) (t .counted) in
-      let p = passed-write head w L n N l v (length out) t (rw e h) in
-      rw p (ap (λ (x : ℕ). wroteInto x (linkBytes head mark w n l v) out) e)
+  pub written-is : (n N : ℕ) (l v out : List ℕ) → Links (form .limit) n N l v → linkUsed form n N ≤ length out
+      → writeOutcome form n N l v out ≡ wroteInto (linkUsed form n N) (linkBytes form n l v) out
+  written-is n N l v out t h =
+      let e : linkUsed form n (length l) ≡ linkUsed form n N = ap (linkUsed form n) (t .counted) in
+      let p = passed-write form n N l v (length out) t (rw e h) in
+      rw p (ap (λ (x : ℕ). wroteInto x (linkBytes form n l v) out) e)
 
   -- writing what was read gives the same used bytes
-  pub read-again : (bytes : List ℕ) (position n N used : ℕ) (out : List ℕ) → AllBytes bytes → TableAt head w L bytes position n N used → used ≤ length out
-      → writeOutcome head (markOf head (drop (position / 8) bytes)) w L n N (farsOf head w n N (drop (position / 8) bytes)) (costsOf head w n N (drop (position / 8) bytes)) out
+  pub read-again : (bytes : List ℕ) (position n N used : ℕ) (out : List ℕ) → AllBytes bytes → TableAt form bytes position n N used
+      → Marked form (drop (position / 8) bytes) → used ≤ length out
+      → writeOutcome form n N (farsOf form n N (drop (position / 8) bytes)) (costsOf form n N (drop (position / 8) bytes)) out
       ≡ wroteInto used (take used (drop (position / 8) bytes)) out
-  read-again bytes position n N used out b t h =
+  read-again bytes position n N used out b t m h =
       let s = drop (position / 8) bytes in
       let e = t .used-is in
-      written-is (markOf head s) n N (farsOf head w n N s) (costsOf head w n N s) out (read-links head w L n N s (t .stored)) (omega (arith, e, h))
-      ∙ ap₂ (λ (x : ℕ) (m : List ℕ). wroteInto x m out) e (used-bytes head w L bytes position n N used b t)
+      written-is n N (farsOf form n N s) (costsOf form n N s) out (read-links form n N s (t .stored)) (omega (arith, e, h))
+      ∙ ap₂ (λ (x : ℕ) (y : List ℕ). wroteInto x y out) e (used-bytes form bytes position n N used b t m)

@@ -16,7 +16,7 @@ first-bad-row-requires c κs = search needs
 add-refuse-if : tie.Need-add-refuse-if
 add-refuse-if c =
     let a = c .before .before .before .args in
-    omega (arith, c .first-bad-row .ensures, first-le (badRow (a .limit) (a .n) (a .fars .now) (a .costs .now)) (length (a .fars .now)))
+    omega (arith, c .first-bad-row .ensures, first-le (badRow (a .most) (a .n) (a .fars .now) (a .costs .now)) (length (a .fars .now)))
 
 refuse-if-requires : tie.Need-refuse-if-requires
 refuse-if-requires c κs = search needs
@@ -39,7 +39,7 @@ refuse-if-requires-2 : tie.Need-refuse-if-requires-2
 refuse-if-requires-2 c κs = search needs
 
 -- what the check of the rows answers
-rows : (c : tie.After-refuse-if) → let a = c .before .before .before .before .args in c .refuse-if .result ≡ firstCheck 12 (badRow (a .limit) (a .n) (a .fars .now) (a .costs .now)) (length (a .fars .now))
+rows : (c : tie.After-refuse-if) → let a = c .before .before .before .before .args in c .refuse-if .result ≡ firstCheck 12 (badRow (a .most) (a .n) (a .fars .now) (a .costs .now)) (length (a .fars .now))
 rows c = rw (c .before .first-bad-row .ensures) at (c .refuse-if .ensures)
 
 returns : tie.Need-returns

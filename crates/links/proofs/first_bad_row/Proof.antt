@@ -10,10 +10,10 @@ use Rattle.links.proofs.first_bad_row.Statement.{statement}
 use Rattle.links.proofs.first_bad_row.Tie as tie
 
 abbrev Inv-loop : tie.InvT-loop
-Inv-loop limit n fars costs k₀ k = (k ≤ length fars) × NoneBelow (badRow limit n fars costs) k
+Inv-loop most n fars costs k₀ k = (k ≤ length fars) × NoneBelow (badRow most n fars costs) k
 
 abbrev μ-loop : tie.MeasureT-loop
-μ-loop limit n fars costs k₀ k = length fars - k
+μ-loop most n fars costs k₀ k = length fars - k
 
 loop-holds : tie.Need-loop-holds Inv-loop μ-loop
 loop-holds c = (search needs, below-none _)

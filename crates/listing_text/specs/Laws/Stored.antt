@@ -13,11 +13,11 @@ use Rattle.ground.specs.declared.Check.the-variants.{Passed, Refused}
 use Rattle.ground.specs.declared.Refusal.{Refusal}
 use Rattle.ground.specs.Outcomes.{Left}
 use Rattle.bits.specs.Kinds.{endCheck}
-use Rattle.theory.specs.Tables.{CostTable, cost, limit}
+use Rattle.theory.specs.Tables.{CostTable, limit}
 use Rattle.theory.specs.Checks.{imagesCheck}
 use Rattle.bits.specs.Forms.{bytesFor}
-use Rattle.stored_costs.specs.Entries.{costOf}
-use Rattle.stored_costs.specs.Form.{costsOf, entryOf, imagesOf}
+use Rattle.stored_costs.specs.Entries.{entryCost}
+use Rattle.stored_costs.specs.Form.{storedTable, entryOf, imagesOf, oldCosts}
 use Rattle.stored_costs.specs.Laws.Passed.{judged-refused, table-at}
 use Rattle.stored_costs.specs.Laws.Sizes.{square-le}
 use Rattle.stored_costs.specs.Laws.Tables.{length-table, table-formed}
@@ -35,17 +35,17 @@ without Passed (Refused q) r b h = refl
 without Passed Passed r b h = rw (h refl) refl
 
 -- 3 cannot occur
-pub stored-checks : (s : List ℕ) (places : ℕ) → 4096 ≤ places → readAtChecks 0 20 limit s 0 places ≡ storedChecks s
+pub stored-checks : (s : List ℕ) (places : ℕ) → 4096 ≤ places → readAtChecks oldCosts s 0 places ≡ storedChecks s
 stored-checks s places h =
-    let n = imagesOf 0 s in
-    rw (le-ltb (length s) 0 (omega arith)) (without (endCheck s (bytesFor 7)) (imagesCheck n) (roomCheck (n * n) places) (bodyChecks 0 20 n s then storedCheck limit (costOf (entryOf 0 20 s) n) n)
+    let n = imagesOf oldCosts s in
+    rw (le-ltb (length s) 0 (omega arith)) (without (endCheck s (bytesFor 7)) (imagesCheck n) (roomCheck (n * n) places) (bodyChecks oldCosts n s then storedCheck limit (entryCost (entryOf oldCosts s) n) n)
     (λ e. rw (le-ltb places (n * n) (omega (arith, square-le (outside-false 3 64 n (refuseIf-passed (outside 3 64 n) _ e) .1)))) refl))
 
 module _ (s o e : List ℕ) (h : 4096 ≤ length o) where
-  pub stored-refused : (q : Refusal) → Left (readOutcome 0 20 limit s 0 o) (stored.Refused q) e → listingText s ≡ refusedLine q
+  pub stored-refused : (q : Refusal) → Left (readOutcome oldCosts s 0 o) (stored.Refused q) e → listingText s ≡ refusedLine q
   unfolding listingText
   stored-refused q p =
-      let k : storedChecks s ≡ Refused q = sym (stored-checks s (length o) h) ∙ judged-refused 0 20 limit s 0 (length o) q (sym (p .answered)) in
+      let k : storedChecks s ≡ Refused q = sym (stored-checks s (length o) h) ∙ judged-refused oldCosts s 0 (length o) q (sym (p .answered)) in
       rw k refl
 
   -- the cost table that was read: the listing is that of it
@@ -54,13 +54,13 @@ module _ (s o e : List ℕ) (h : 4096 ≤ length o) where
     pub table : CostTable limit n (take (n * n) e)
     pub text : listingText s ≡ tableText n (take (n * n) e)
 
-  pub stored-table : (n used : ℕ) → Left (readOutcome 0 20 limit s 0 o) (Table n used) e → StoredTable n
+  pub stored-table : (n used : ℕ) → Left (readOutcome oldCosts s 0 o) (Table n used) e → StoredTable n
   unfolding listingText
   stored-table n used p =
-      let a = table-at 0 20 limit s 0 (length o) n used (sym (p .answered)) in
+      let a = table-at oldCosts s 0 (length o) n used (sym (p .answered)) in
       let k : storedChecks s ≡ Passed = sym (stored-checks s (length o) h) ∙ a .passed in
-      let m = imagesOf 0 s in
-      let t = costsOf 0 20 m s in
-      let w : take (m * m) e ≡ t = ap (take (m * m)) (rw (a .passed) at (p .left)) ∙ take-at t _ (m * m) (length-table (entryOf 0 20 s) m) in
-      let c : CostTable limit m t = table-formed (entryOf 0 20 s) m limit (a .readable .some) (a .readable .few) (a .readable .fine) in
+      let m = imagesOf oldCosts s in
+      let t = storedTable oldCosts m s in
+      let w : take (m * m) e ≡ t = ap (take (m * m)) (rw (a .passed) at (p .left)) ∙ take-at t _ (m * m) (length-table (entryOf oldCosts s) m) in
+      let c : CostTable limit m t = table-formed (entryOf oldCosts s) m limit (a .readable .some) (a .readable .few) (a .readable .fine) in
       rw (← (a .number)) (record { few = a .readable .few; table = rw w c; text = rw (w, k) refl })

@@ -10,10 +10,11 @@ use Rattle.stored_costs.specs.Form.{fillOf}
 use Rattle.stored_costs.specs.Laws.Sizes.{end-le}
 use borrow.Author.Needs.{needs}
 use Rattle.stored_costs.proofs.check_body.Statement.{statement}
+use Rattle.stored_costs.specs.Sizes.{lastEntryEnd}
 use Rattle.stored_costs.proofs.check_body.Tie as tie
 
-end-small : (c : tie.After-row-at) → c .row-at .result ≤ 131086
-end-small c = let a = c .before .before in rw (c .row-at .ensures) (end-le (a .args .head) (a .args .w) (a .args .n) (a .pre))
+end-small : (c : tie.After-row-at) → c .row-at .result ≤ lastEntryEnd
+end-small c = let a = c .before .before in rw (c .row-at .ensures) (end-le (a .args .form) (a .args .n) (a .pre))
 
 -- the check passed, so the bytes are there
 whole : (c : tie.After-enum-told) → (c .before .before .before .row-at .result + 7) / 8 ≤ length (c .before .before .before .before .before .args .bytes .now)

@@ -4,7 +4,7 @@ use Prim.Native.Nat.{_+_, _-_, _≤_}
 use Rattle.ground.specs.Lowest.{checkAll}
 use Rattle.ground.specs.Laws.Lowest.{all-begins, all-ends, all-goes, all-stops}
 use Rattle.tables.specs.Checks.{entryCheck}
-use Rattle.stored_costs.specs.Entries.{costOf}
+use Rattle.stored_costs.specs.Entries.{entryCost}
 use Rattle.stored_costs.specs.Form.{entryOf}
 use Rattle.stored_costs.specs.Reading.{storedCheck}
 use borrow.Author.Needs.{needs}
@@ -12,12 +12,12 @@ use Rattle.stored_costs.proofs.check_entries.Statement.{statement}
 use Rattle.stored_costs.proofs.check_entries.Tie as tie
 
 abbrev Inv-loop : tie.InvT-loop
-Inv-loop head w limit n bytes i₀ i =
+Inv-loop form n bytes i₀ i =
     (i ≤ n)
-    × (storedCheck limit (costOf (entryOf head w bytes) n) n ≡ checkAll (λ k. checkAll (entryCheck limit (costOf (entryOf head w bytes) n) k) (k + 1) (n - (k + 1))) i (n - i))
+    × (storedCheck (form .limit) (entryCost (entryOf form bytes) n) n ≡ checkAll (λ k. checkAll (entryCheck (form .limit) (entryCost (entryOf form bytes) n) k) (k + 1) (n - (k + 1))) i (n - i))
 
 abbrev μ-loop : tie.MeasureT-loop
-μ-loop head w limit n bytes i₀ i = n - i
+μ-loop form n bytes i₀ i = n - i
 
 loop-holds : tie.Need-loop-holds Inv-loop μ-loop
 loop-holds c = (search needs, all-begins _ _)

@@ -8,7 +8,7 @@ use Rattle.tables.specs.Checks.{entryCheck}
 use Rattle.bits.specs.Bits.{bits, part, valueOf}
 use Rattle.bits.specs.Forms.{fieldValue}
 use Rattle.bits.specs.Laws.OneWidth.{field-end, times-more}
-use Rattle.stored_costs.specs.Entries.{costOf, entryCount, entryNumber}
+use Rattle.stored_costs.specs.Entries.{entryCost, entryCount, entryNumber}
 use Rattle.stored_costs.specs.Form.{costEnd, entryOf}
 use Rattle.stored_costs.specs.Laws.Entries.{number-lt}
 use Rattle.stored_costs.specs.Laws.Sizes.{end-le}
@@ -18,35 +18,38 @@ use Rattle.stored_costs.proofs.check_row.Statement.{statement}
 use Rattle.stored_costs.proofs.check_row.Tie as tie
 
 abbrev Inv-loop : tie.InvT-loop
-Inv-loop head w limit n bytes i p₀ j₀ p j =
-    (i < j) × (j ≤ n) × (p ≡ head + 7 + w * entryNumber n i j)
-    × (checkAll (entryCheck limit (costOf (entryOf head w bytes) n) i) (i + 1) (n - (i + 1)) ≡ checkAll (entryCheck limit (costOf (entryOf head w bytes) n) i) j (n - j))
+Inv-loop form n bytes i p₀ j₀ p j =
+    (i < j) × (j ≤ n) × (p ≡ form .head + 7 + form .width * entryNumber n i j)
+    × (checkAll (entryCheck (form .limit) (entryCost (entryOf form bytes) n) i) (i + 1) (n - (i + 1)) ≡ checkAll (entryCheck (form .limit) (entryCost (entryOf form bytes) n) i) j (n - j))
 
 abbrev μ-loop : tie.MeasureT-loop
-μ-loop head w limit n bytes i p₀ j₀ p j = n - j
+μ-loop form n bytes i p₀ j₀ p j = n - j
 
 abbrev begun : tie.In-loop Inv-loop μ-loop → tie.Start Inv-loop μ-loop
 begun c = c .before .before .before .before
 
 -- the entry of this turn ends before the end of them all
 ends : (c : tie.In-loop Inv-loop μ-loop)
-    → begun c .args .head + 7 + begun c .args .w * entryNumber (begun c .args .n) (begun c .args .i) (c .before .loop .j) + begun c .args .w ≤ costEnd (begun c .args .head) (begun c .args .w) (begun c .args .n)
+    → begun c .args .form .head + 7 + begun c .args .form .width * entryNumber (begun c .args .n) (begun c .args .i) (c .before .loop .j) + begun c .args .form .width ≤ costEnd (begun c .args .form) (begun c .args .n)
 ends c =
     let a = begun c .args in
     let l = c .before .loop in
-    field-end (a .head + 7) (a .w) (entryCount (a .n)) (entryNumber (a .n) (a .i) (l .j)) (number-lt (a .n) (a .i) (l .j) (l .inv .0) (c .loop-test .taken))
+    field-end (a .form .head + 7) (a .form .width) (entryCount (a .n)) (entryNumber (a .n) (a .i) (l .j)) (number-lt (a .n) (a .i) (l .j) (l .inv .0) (c .loop-test .taken))
+
+abbrev told : tie.After-refuse-if Inv-loop μ-loop → tie.In-loop Inv-loop μ-loop
+told c = c .before .before .before
 
 -- what this turn's check says
 said : (c : tie.After-refuse-if Inv-loop μ-loop)
-    → c .refuse-if .result ≡ entryCheck (begun (c .before .before) .args .limit) (costOf (entryOf (begun (c .before .before) .args .head) (begun (c .before .before) .args .w) (begun (c .before .before) .args .bytes .now)) (begun (c .before .before) .args .n)) (begun (c .before .before) .args .i) (c .before .before .before .loop .j)
+    → c .refuse-if .result ≡ entryCheck (begun (told c) .args .form .limit) (entryCost (entryOf (begun (told c) .args .form) (begun (told c) .args .bytes .now)) (begun (told c) .args .n)) (begun (told c) .args .i) (told c .before .loop .j)
 unfolding entryOf fieldValue
 said c =
-    let a = begun (c .before .before) .args in
-    let l = c .before .before .before .loop in
-    let e : c .before .entry-at .result ≡ costOf (entryOf (a .head) (a .w) (a .bytes .now)) (a .n) (a .i) (l .j) =
-    c .before .entry-at .ensures
-    ∙ ap (λ (x : ℕ). valueOf (part (bits (a .bytes .now)) x (a .w))) (l .inv .2)
-    ∙ sym (cost-of-up (entryOf (a .head) (a .w) (a .bytes .now)) (a .n) (a .i) (l .j) (l .inv .0)) in
+    let a = begun (told c) .args in
+    let l = told c .before .loop in
+    let e : c .before .before .entry-at .result ≡ entryCost (entryOf (a .form) (a .bytes .now)) (a .n) (a .i) (l .j) =
+    c .before .before .entry-at .ensures
+    ∙ ap (λ (x : ℕ). valueOf (part (bits (a .bytes .now)) x (a .form .width))) (l .inv .2)
+    ∙ sym (cost-of-up (entryOf (a .form) (a .bytes .now)) (a .n) (a .i) (l .j) (l .inv .0)) in
     rw (← e) (c .refuse-if .ensures)
 
 row-at-requires : tie.Need-row-at-requires Inv-loop μ-loop
@@ -58,14 +61,14 @@ add-j c = search needs
 loop-holds : tie.Need-loop-holds Inv-loop μ-loop
 loop-holds c =
     let a = c .before .before .args in
-    (search needs, search needs, c .row-at .ensures ∙ ap (λ (x : ℕ). a .head + 7 + a .w * x) (omega arith), refl)
+    (search needs, search needs, c .row-at .ensures ∙ ap (λ (x : ℕ). a .form .head + 7 + a .form .width * x) (omega arith), refl)
 
 entry-at-requires : tie.Need-entry-at-requires Inv-loop μ-loop
 entry-at-requires c κs =
     let h = begun c .pre .0 in
     let a = begun c .args in
     let l = c .before .loop .inv in
-    let e = end-le (a .head) (a .w) (a .n) (h .small) in (
+    let e = end-le (a .form) (a .n) (h .small) in (
       h .small .narrow,
       record { width = omega (arith, h .small .narrow); within = omega (arith, ends c, h .within, l .2); counted = omega (arith, ends c, e, l .2) },
     )
@@ -83,16 +86,16 @@ enum-told : tie.Need-enum-told Inv-loop μ-loop
 enum-told c = search needs
 
 returns : tie.Need-returns Inv-loop μ-loop
-returns c = all-stops _ _ _ (search needs) (c .before .before .before .before .before .loop .inv .3) (c .enum-told .given .1) (said (c .before .before))
+returns c = all-stops _ _ _ (search needs) (told (c .before .before) .before .loop .inv .3) (c .enum-told .given .1) (said (c .before .before))
 
 enum-told-2 : tie.Need-enum-told-2 Inv-loop μ-loop
 enum-told-2 c = search needs
 
 add-p : tie.Need-add-p Inv-loop μ-loop
 add-p c =
-    let i = c .before .before .before .before in
+    let i = told (c .before .before .before) in
     let a = begun i .args in
-    omega (arith, ends i, end-le (a .head) (a .w) (a .n) (begun i .pre .0 .small), i .before .loop .inv .2)
+    omega (arith, ends i, end-le (a .form) (a .n) (begun i .pre .0 .small), i .before .loop .inv .2)
 
 add-j-2 : tie.Need-add-j-2 Inv-loop μ-loop
 add-j-2 c = search needs
@@ -102,14 +105,14 @@ loop-less c = search needs
 
 loop-again : tie.Need-loop-again Inv-loop μ-loop
 loop-again c =
-    let i = c .before .before .before .before in
+    let i = told (c .before .before .before) in
     let a = begun i .args in
     let l = i .before .loop in
     let next : entryNumber (a .n) (a .i) (l .j + 1) ≡ entryNumber (a .n) (a .i) (l .j) + 1 = omega (arith, l .inv .0) in (
       search needs,
       search needs,
-      omega (arith, l .inv .2, ap (λ (x : ℕ). a .w * x) next, times-more (a .w) (entryNumber (a .n) (a .i) (l .j))),
-      all-goes _ _ _ (search needs) (l .inv .3) (c .enum-told2 .given .1) (said (c .before .before)),
+      omega (arith, l .inv .2, ap (λ (x : ℕ). a .form .width * x) next, times-more (a .form .width) (entryNumber (a .n) (a .i) (l .j))),
+      all-goes _ _ _ (search needs) (l .inv .3) (c .before .enum-told2 .given .1) (said (c .before .before .before)),
     )
 
 returns-2 : tie.Need-returns-2 Inv-loop μ-loop

@@ -34,8 +34,8 @@ returns c = then-stops _ _ (c .enum-told2 .given .1) (c .before .before .refuse-
 images-requires : tie.Need-images-requires
 images-requires c κs =
     let e = c .before .before in
-    let a = e .before .before in
-    (a .pre, ltb-false _ _ (refuseIf-passed (ltb (length (a .args .bytes .now)) (bytesFor (a .args .head + 7))) _ (sym (e .refuse-if .ensures) ∙ c .enum-told .given .1)))
+    let a = e .before .before .before in
+    (a .pre, ltb-false _ _ (refuseIf-passed (ltb (length (a .args .bytes .now)) (bytesFor (a .args .form .head + 7))) _ (sym (e .refuse-if .ensures) ∙ c .enum-told .given .1)))
 
 check-images-requires : tie.Need-check-images-requires
 check-images-requires c κs = search needs

@@ -23,14 +23,14 @@ images-requires : tie.Need-images-requires
 images-requires c κs =
     let e = c .before .before in
     let a = e .before .before in
-    (a .pre .0, start-passed (a .args .head) (a .args .bytes .now) (a .args .room) (sym (e .check-start .ensures) ∙ c .enum-told .given .1) .0)
+    (a .pre .0, start-passed (a .args .form) (a .args .bytes .now) (a .args .room) (sym (e .check-start .ensures) ∙ c .enum-told .given .1) .0)
 
 check-body-requires : tie.Need-check-body-requires
 check-body-requires c κs =
     let d = c .before in
     let e = d .before .before in
     let a = e .before .before in
-    let s = start-passed (a .args .head) (a .args .bytes .now) (a .args .room) (sym (e .check-start .ensures) ∙ d .enum-told .given .1) in
+    let s = start-passed (a .args .form) (a .args .bytes .now) (a .args .room) (sym (e .check-start .ensures) ∙ d .enum-told .given .1) in
     rw (c .images .ensures) (record { short = a .pre .0; narrow = a .pre .1; few = s .2 })
 
 enum-told-3 : tie.Need-enum-told-3
@@ -53,8 +53,8 @@ check-entries-requires c κs =
     let d = i .before in
     let e = d .before .before in
     let a = e .before .before in
-    let s = start-passed (a .args .head) (a .args .bytes .now) (a .args .room) (sym (e .check-start .ensures) ∙ d .enum-told .given .1) in
-    let t = body-passed (a .args .head) (a .args .w) (i .images .result) (a .args .bytes .now) (sym (b .check-body .ensures) ∙ c .enum-told3 .given .1) in
+    let s = start-passed (a .args .form) (a .args .bytes .now) (a .args .room) (sym (e .check-start .ensures) ∙ d .enum-told .given .1) in
+    let t = body-passed (a .args .form) (i .images .result) (a .args .bytes .now) (sym (b .check-body .ensures) ∙ c .enum-told3 .given .1) in
     record { small = record { short = a .pre .0; narrow = a .pre .1; few = rw (i .images .ensures) (s .2) }; within = omega (arith, t .0) }
 
 returns-3 : tie.Need-returns-3

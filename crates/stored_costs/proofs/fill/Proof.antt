@@ -12,10 +12,10 @@ use Rattle.stored_costs.proofs.fill.Statement.{statement}
 use Rattle.stored_costs.proofs.fill.Tie as tie
 
 abbrev Inv-loop : tie.InvT-loop
-Inv-loop head w n bytes out₀ i₀ out i = (i ≤ n) × (length out ≡ length out₀) × (out ≡ front (listed (placeCost (entryOf head w bytes) n) (i * n)) out₀)
+Inv-loop form n bytes out₀ i₀ out i = (i ≤ n) × (length out ≡ length out₀) × (out ≡ front (listed (placeCost (entryOf form bytes) n) (i * n)) out₀)
 
 abbrev μ-loop : tie.MeasureT-loop
-μ-loop head w n bytes out₀ i₀ out i = n - i
+μ-loop form n bytes out₀ i₀ out i = n - i
 
 loop-holds : tie.Need-loop-holds Inv-loop μ-loop
 loop-holds c = (search needs, refl, rows-none _ _ _)
@@ -28,7 +28,7 @@ fill-row-requires c κs =
       s .pre .0,
       c .before .loop-test .taken,
       omega (arith, s .pre .1, l .inv .1),
-      rows-above (entryOf (a .head) (a .w) (a .bytes .now)) (a .n) (l .i) (a .out .now) (l .out) (c .before .loop-test .taken) (l .inv .2),
+      rows-above (entryOf (a .form) (a .bytes .now)) (a .n) (l .i) (a .out .now) (l .out) (c .before .loop-test .taken) (l .inv .2),
     )
 
 add-i : tie.Need-add-i Inv-loop μ-loop
@@ -44,8 +44,8 @@ loop-again c =
     let s = f .before .before .before .before .before .before in
     let a = s .args in (
       search needs,
-      f .fill-row .kept .1 .1 .1 .1 .1 .0 ∙ l .inv .1,
-      rows-more (entryOf (a .head) (a .w) (a .bytes .now)) (a .n) (l .i) (a .out .now) (l .out) _ (f .before .before .loop-test .taken) (s .pre .1) (l .inv .2) (f .fill-row .ensures),
+      f .fill-row .kept .1 .1 .1 .1 .0 ∙ l .inv .1,
+      rows-more (entryOf (a .form) (a .bytes .now)) (a .n) (l .i) (a .out .now) (l .out) _ (f .before .before .loop-test .taken) (s .pre .1) (l .inv .2) (f .fill-row .ensures),
     )
 
 same-length : tie.Need-same-length Inv-loop μ-loop

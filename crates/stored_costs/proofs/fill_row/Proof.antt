@@ -55,7 +55,7 @@ fill-right-requires : tie.Need-fill-right-requires
 fill-right-requires c κs =
     let s = c .before .before .before .before .before .before .before .before in
     let a = s .args in (
-      rw (c .before .row-at .ensures) (row-span (a .head) (a .w) (a .n) (a .i) (length (a .bytes .now)) (s .pre .0) (s .pre .1)),
+      rw (c .before .row-at .ensures) (row-span (a .form) (a .n) (a .i) (length (a .bytes .now)) (s .pre .0) (s .pre .1)),
       omega (arith, s .pre .1, inside s .1),
       simp length-set (omega (arith, s .pre .1, inside s .0, c .before .before .before .before .fill-left .kept .1 .1 .0)),
     )
@@ -74,9 +74,9 @@ returns c =
     let g = f .before .before .before .before .before in
     let s = g .before .before .before .before in
     let a = s .args in
-    row-filled (entryOf (a .head) (a .w) (a .bytes .now)) (a .n) (a .i) (fieldValue (bits (a .bytes .now)) (r .row-at .result) (a .w)) (a .out .now) (g .fill-left .last .1 .1 .0) _
+    row-filled (entryOf (a .form) (a .bytes .now)) (a .n) (a .i) (fieldValue (bits (a .bytes .now)) (r .row-at .result) (a .form .width)) (a .out .now) (g .fill-left .last .1 .1 .0) _
     (s .pre .1) (inside s .0) (g .fill-left .kept .1 .1 .0) (s .pre .3) (g .fill-left .ensures)
-    (λ k. rw (r .row-at .ensures) (row-field (a .head) (a .w) (a .n) (a .i) k (a .bytes .now)))
+    (λ k. rw (r .row-at .ensures) (row-field (a .form) (a .n) (a .i) k (a .bytes .now)))
     (f .fill-right .ensures)
 
 pub fill-row-spec : {M : Type 1} → statement M

@@ -18,13 +18,13 @@ use Rattle.stored_costs.proofs.judge.Tie as tie
 there : (c : tie.After-enum-told)
     → (c .before .before .before .before .args .position / 8 ≤ length (c .before .before .before .before .args .bytes .now))
     × (c .before .before .before .before .args .position % 8 ≡ 0)
-    × Readable (c .before .before .before .before .args .head) (c .before .before .before .before .args .w) (c .before .before .before .before .args .limit) (drop (c .before .before .before .before .args .position / 8) (c .before .before .before .before .args .bytes .now)) (c .before .before .before .before .args .room)
+    × Readable (c .before .before .before .before .args .form) (drop (c .before .before .before .before .args .position / 8) (c .before .before .before .before .args .bytes .now)) (c .before .before .before .before .args .room)
 there c =
     let e = c .before .before in
     let a = e .before .before .args in
-    read-at-passed (a .head) (a .w) (a .limit) (a .bytes .now) (a .position) (a .room) (sym (e .check-at .ensures) ∙ c .enum-told .given .1)
+    read-at-passed (a .form) (a .bytes .now) (a .position) (a .room) (sym (e .check-at .ensures) ∙ c .enum-told .given .1)
 
-small : (c : tie.After-images) → Small (c .before .before .before .before .before .before .args .head) (c .before .before .before .before .before .before .args .w) (c .images .result)
+small : (c : tie.After-images) → Small (c .before .before .before .before .before .before .args .form) (c .images .result)
 small c =
     let d = c .before .before in
     let a = d .before .before .before .before in
@@ -58,10 +58,10 @@ images-requires c κs =
 row-at-requires : tie.Need-row-at-requires
 row-at-requires c κs = (small c, omega arith)
 
-add-t13 : tie.Need-add-t13
-add-t13 c =
+add-t11 : tie.Need-add-t11
+add-t11 c =
     let a = c .before .before .before .before .before .before .before in
-    rw (c .row-at .ensures) (omega (arith, end-le (a .args .head) (a .args .w) (c .before .images .result) (small (c .before))))
+    rw (c .row-at .ensures) (omega (arith, end-le (a .args .form) (c .before .images .result) (small (c .before))))
 
 returns : tie.Need-returns
 returns c = if-stops stored.Refused _ _ (c .before .r .given .1) (c .before .before .before .check-at .ensures)
@@ -85,6 +85,6 @@ judge-spec =
     part-images-end
     images-requires
     row-at-requires
-    add-t13
+    add-t11
     returns
     returns-2)

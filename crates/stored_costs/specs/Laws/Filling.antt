@@ -14,9 +14,10 @@ use Rattle.bits.specs.Forms.{fieldValue}
 use Rattle.bits.specs.Laws.Places.{listed-front-add, listed-front-at, listed-over-add, listed-over-more}
 use Rattle.bits.specs.Listed.{listed}
 use Rattle.bits.specs.Laws.Listed.{listed-front-none, listed-same}
-use Rattle.stored_costs.specs.Entries.{Above, costOf, rowStart, tableOf}
+use Rattle.stored_costs.specs.Entries.{Above, entryCost, rowStart, tableOf}
 use Rattle.stored_costs.specs.Form.{entryOf, rowAt}
 use Rattle.stored_costs.specs.Laws.Tables.{cost-of-same, cost-of-self, cost-of-up}
+use Rattle.bits.specs.declared.Form.{Form}
 
 -- where the next row begins, and that it does so within the table
 pub next-row : (n i : ℕ) → (i + 1) * n ≡ i * n + n
@@ -26,9 +27,9 @@ pub row-inside : (n i : ℕ) → i < n → i * n + n ≤ n * n
 row-inside n i h = omega (arith, next-row n i, mul-le-mul {n₁ = i + 1} {m₁ = n} {n₂ = n} {m₂ = n} (omega arith) (le-refl n))
 
 -- the entries of row i are the fields from where it begins on
-pub row-field : (head w n i k : ℕ) (s : List ℕ) → fieldValue (bits s) (rowAt head w n i) w k ≡ entryOf head w s (rowStart n i + k)
+pub row-field : (form : Form) (n i k : ℕ) (s : List ℕ) → fieldValue (bits s) (rowAt form n i) (form .width) k ≡ entryOf form s (rowStart n i + k)
 unfolding entryOf fieldValue
-row-field head w n i k s = ap (λ (p : ℕ). valueOf (part (bits s) p w)) (omega (arith, mul-add w (rowStart n i) k))
+row-field form n i k s = ap (λ (p : ℕ). valueOf (part (bits s) p (form .width))) (omega (arith, mul-add (form .width) (rowStart n i) k))
 
 module _ (f : ℕ → ℕ) (n : ℕ) where
   -- column i above the diagonal, 0 on it, and the entries behind it are row i
@@ -36,9 +37,9 @@ module _ (f : ℕ → ℕ) (n : ℕ) where
       → a ≡ overAt l (i * n) (listed (λ j. cost l n j i) i)
       → ((k : ℕ) → g k ≡ f (rowStart n i + k))
       → b ≡ overAt (set a (i * n + i) 0) (i * n + (i + 1)) (listed g (n - (i + 1)))
-      → b ≡ overAt l (i * n) (listed (costOf f n i) n)
+      → b ≡ overAt l (i * n) (listed (entryCost f n i) n)
   row-filled i g l a b h room same above ea eg eb =
-      let c = costOf f n i in
+      let c = entryCost f n i in
       let m = n - (i + 1) in
       let left : a ≡ overAt l (i * n) (listed c i) =
       ea ∙ ap (overAt l (i * n)) (listed-same (λ j. cost l n j i) c i (λ j k. above .holds j k ∙ cost-of-same f n j i)) in
@@ -55,7 +56,7 @@ module _ (f : ℕ → ℕ) (n : ℕ) where
 
   -- the cost at a place of the table
   abbrev pub placeCost : ℕ → ℕ
-  placeCost p = costOf f n (p / n) (p % n)
+  placeCost p = entryCost f n (p / n) (p % n)
 
   pub rows-none : (d : List ℕ) → d ≡ front (listed placeCost (0 * n)) d
   rows-none d = rw (zero-mul n) (listed-front-none placeCost d)
@@ -64,15 +65,15 @@ module _ (f : ℕ → ℕ) (n : ℕ) where
   rows-above i d e h q = record {
     holds = λ j k. ap (λ (x : List ℕ). getD x (j * n + i) 0) q
         ∙ listed-front-at placeCost (i * n) (j * n + i) d (digits-lt k h)
-        ∙ ap₂ (costOf f n) (digits-div j h) (digits-mod j h);
+        ∙ ap₂ (entryCost f n) (digits-div j h) (digits-mod j h);
   }
 
   pub rows-more : (i : ℕ) (d e b : List ℕ) → i < n → n * n ≤ length d → e ≡ front (listed placeCost (i * n)) d
-      → b ≡ overAt e (i * n) (listed (costOf f n i) n) → b ≡ front (listed placeCost ((i + 1) * n)) d
+      → b ≡ overAt e (i * n) (listed (entryCost f n i) n) → b ≡ front (listed placeCost ((i + 1) * n)) d
   rows-more i d e b h room q r =
       r
       ∙ ap₂ (λ (x y : List ℕ). overAt x (i * n) y) q
-      (listed-same (costOf f n i) (λ k. placeCost (i * n + k)) n (λ k s. sym (ap₂ (costOf f n) (digits-div i s) (digits-mod i s))))
+      (listed-same (entryCost f n i) (λ k. placeCost (i * n + k)) n (λ k s. sym (ap₂ (entryCost f n) (digits-div i s) (digits-mod i s))))
       ∙ listed-front-add placeCost (i * n) n d (omega (arith, row-inside n i h))
       ∙ ap (λ (x : ℕ). front (listed placeCost x) d) (sym (next-row n i))
 

@@ -17,63 +17,64 @@ use Rattle.bits.specs.Laws.Written.{written}
 use Rattle.stored_costs.specs.Entries.{entries, entryCount}
 use Rattle.stored_costs.specs.Form.{costBytes, costEnd, costForm, costUsed}
 use Rattle.stored_costs.specs.Laws.Entries.{length-entries}
+use Rattle.bits.specs.declared.Form.{Form}
 
-module _ (head mark w n : ℕ) (d : ℕ → ℕ → ℕ) where
+module _ (form : Form) (n : ℕ) (d : ℕ → ℕ → ℕ) where
   -- the bits of the entries
   unfoldable pub entryBits : List ℕ
-  entryBits = formBits (fieldsOf w (entries d n))
+  entryBits = formBits (fieldsOf (form .width) (entries d n))
 
   -- all bits, without the fill bits
   unfoldable pub costBits : List ℕ
-  costBits = formBits (costForm head mark w n d)
+  costBits = formBits (costForm form n d)
 
-  pub cost-parts : costBits ≡ (bitsOf head mark ++ bitsOf 7 n) ++ entryBits
+  pub cost-parts : costBits ≡ (bitsOf (form .head) (form .mark) ++ bitsOf 7 n) ++ entryBits
   unfolding costBits entryBits costForm formBits
-  cost-parts = sym (append-assoc (bitsOf head mark) (bitsOf 7 n) entryBits)
+  cost-parts = sym (append-assoc (bitsOf (form .head) (form .mark)) (bitsOf 7 n) entryBits)
 
-  pub length-entry-bits : length entryBits ≡ w * entryCount n
+  pub length-entry-bits : length entryBits ≡ form .width * entryCount n
   unfolding entryBits
-  length-entry-bits = length-fields w (entries d n) ∙ ap (λ (x : ℕ). w * x) (length-entries d n n)
+  length-entry-bits = length-fields (form .width) (entries d n) ∙ ap (λ (x : ℕ). (form .width) * x) (length-entries d n n)
 
-  pub length-front : length (bitsOf head mark ++ bitsOf 7 n) ≡ head + 7
-  length-front = omega (arith, length-append (bitsOf head mark) (bitsOf 7 n), length-bitsOf head mark, length-bitsOf 7 n)
+  pub length-front : length (bitsOf (form .head) (form .mark) ++ bitsOf 7 n) ≡ form .head + 7
+  length-front = omega (arith, length-append (bitsOf (form .head) (form .mark)) (bitsOf 7 n), length-bitsOf (form .head) (form .mark), length-bitsOf 7 n)
 
-  pub length-cost-bits : length costBits ≡ costEnd head w n
-  length-cost-bits = ap length cost-parts ∙ omega (arith, length-append (bitsOf head mark ++ bitsOf 7 n) entryBits, length-front, length-entry-bits)
+  pub length-cost-bits : length costBits ≡ costEnd form n
+  length-cost-bits = ap length cost-parts ∙ omega (arith, length-append (bitsOf (form .head) (form .mark) ++ bitsOf 7 n) entryBits, length-front, length-entry-bits)
 
   pub all-bits-costs : AllBits costBits
   unfolding costBits
-  all-bits-costs = all-bits-form (costForm head mark w n d)
+  all-bits-costs = all-bits-form (costForm form n d)
 
   -- the exact count of bytes
-  pub length-costs : length (costBytes head mark w n d) ≡ costUsed head w n
+  pub length-costs : length (costBytes form n d) ≡ costUsed form n
   unfolding costBytes formBytes costBits
   length-costs = length-packed costBits ∙ ap bytesFor length-cost-bits
 
   -- four writes, one behind the other, make the form
-  pub written-costs : (old b1 b2 b3 new : List ℕ) → AllBytes old → AllBytes new → costUsed head w n ≤ length old
-      → bits b1 ≡ overAt (bits old) 0 (bitsOf head mark)
-      → bits b2 ≡ overAt (bits b1) head (bitsOf 7 n)
-      → bits b3 ≡ overAt (bits b2) (head + 7) (formBits (fieldsOf w (entries d n)))
-      → bits new ≡ overAt (bits b3) (costEnd head w n) (bitsOf (fillWidth (costEnd head w n)) 0)
-      → new ≡ front (costBytes head mark w n d) old
+  pub written-costs : (old b1 b2 b3 new : List ℕ) → AllBytes old → AllBytes new → costUsed form n ≤ length old
+      → bits b1 ≡ overAt (bits old) 0 (bitsOf (form .head) (form .mark))
+      → bits b2 ≡ overAt (bits b1) (form .head) (bitsOf 7 n)
+      → bits b3 ≡ overAt (bits b2) (form .head + 7) (formBits (fieldsOf (form .width) (entries d n)))
+      → bits new ≡ overAt (bits b3) (costEnd form n) (bitsOf (fillWidth (costEnd form n)) 0)
+      → new ≡ front (costBytes form n d) old
   unfolding costBytes formBytes filled entryBits costBits
   written-costs old b1 b2 b3 new ho hn room e1 e2 e3 e4 =
       let o = bits old in
-      let h = bitsOf head mark in
+      let h = bitsOf (form .head) (form .mark) in
       let m = bitsOf 7 n in
       let lo = length-bits old in
-      let lh = length-bitsOf head mark in
+      let lh = length-bitsOf (form .head) (form .mark) in
       let lm = length-bitsOf 7 n in
       let lf = length-front in
       let le = length-entry-bits in
       let lc = length-cost-bits in
-      let z = bitsOf (fillWidth (costEnd head w n)) 0 in
-      let lz = length-bitsOf (fillWidth (costEnd head w n)) 0 in
-      let s2 : bits b2 ≡ overAt o 0 (h ++ m) = e2 ∙ ap (λ (x : List ℕ). overAt x head m) e1 ∙ over-at-twice o 0 h m head (omega arith) (omega arith) in
+      let z = bitsOf (fillWidth (costEnd form n)) 0 in
+      let lz = length-bitsOf (fillWidth (costEnd form n)) 0 in
+      let s2 : bits b2 ≡ overAt o 0 (h ++ m) = e2 ∙ ap (λ (x : List ℕ). overAt x (form .head) m) e1 ∙ over-at-twice o 0 h m (form .head) (omega arith) (omega arith) in
       let s3 : bits b3 ≡ overAt o 0 costBits =
-      e3 ∙ ap (λ (x : List ℕ). overAt x (head + 7) entryBits) s2 ∙ over-at-twice o 0 (h ++ m) entryBits (head + 7) (omega arith) (omega arith) ∙ ap (overAt o 0) (sym cost-parts) in
+      e3 ∙ ap (λ (x : List ℕ). overAt x (form .head + 7) entryBits) s2 ∙ over-at-twice o 0 (h ++ m) entryBits (form .head + 7) (omega arith) (omega arith) ∙ ap (overAt o 0) (sym cost-parts) in
       let s4 : bits new ≡ overAt o 0 (costBits ++ z) =
-      e4 ∙ ap (λ (x : List ℕ). overAt x (costEnd head w n) z) s3 ∙ over-at-twice o 0 costBits z (costEnd head w n) (omega arith) (omega arith) in
+      e4 ∙ ap (λ (x : List ℕ). overAt x (costEnd form n) z) s3 ∙ over-at-twice o 0 costBits z (costEnd form n) (omega arith) (omega arith) in
       written old new costBits all-bits-costs ho hn (omega arith)
       (s4 ∙ ap (λ (x : ℕ). overAt o 0 (costBits ++ bitsOf (fillWidth x) 0)) (sym lc))

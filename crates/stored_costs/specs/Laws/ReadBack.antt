@@ -19,11 +19,12 @@ use Rattle.bits.specs.Laws.Packed.{bits-packed-then}
 use Rattle.bits.specs.Laws.Parts.{part-cut}
 use Rattle.bits.specs.Laws.Listed.{listed-at}
 use Rattle.stored_costs.specs.Entries.{entries, entriesTo, entryCount, entryNumber, rowEntries}
-use Rattle.stored_costs.specs.Form.{costBytes, costEnd, costsOf, entryOf, fillOf, imagesOf}
+use Rattle.stored_costs.specs.Form.{costBytes, costEnd, storedTable, entryOf, fillOf, imagesOf}
 use Rattle.stored_costs.specs.Laws.Entries.{entry-is, length-entries, length-row, number-lt}
 use Rattle.stored_costs.specs.Laws.Form.{all-bits-costs, cost-parts, costBits, entryBits, length-cost-bits, length-costs, length-entry-bits, length-front}
 use Rattle.stored_costs.specs.Laws.Passed.{Readable}
 use Rattle.stored_costs.specs.Laws.Tables.{table-is}
+use Rattle.bits.specs.declared.Form.{Form}
 
 -- no entry is above what the costs are not above
 entries-small : (d : ℕ → ℕ → ℕ) (n L : ℕ) → ((i j : ℕ) → i < j → j < n → d i j ≤ L) → (k : ℕ) → getD (entries d n) k 0 ≤ L
@@ -49,60 +50,60 @@ entries-small d n L h k = go n (omega arith) k
         let q : k ≡ length a + (k - length a) = omega (arith, ltb-false k (length a) e) in
         subst (λ (x : ℕ). getD (a ++ b) x 0 ≤ L) (sym q) (rw (getD-append-add a b (k - length a) 0) (row m (omega arith) (k - length a))))
 
-module _ (head mark w L n : ℕ) (t behind : List ℕ) (c : CostTable L n t) (fits : L < 2 ^ w) where
+module _ (form : Form) (n : ℕ) (t behind : List ℕ) (c : CostTable (form .limit) n t) (fits : (form .limit) < 2 ^ form .width) where
   stored : List ℕ
-  stored = costBytes head mark w n (cost t n) ++ behind
+  stored = costBytes form n (cost t n) ++ behind
 
   fill : List ℕ
-  fill = bitsOf (fillWidth (costEnd head w n)) 0
+  fill = bitsOf (fillWidth (costEnd form n)) 0
 
   -- the bits: head, n, entries, fill bits, and what follows
-  stored-bits : bits stored ≡ (bitsOf head mark ++ bitsOf 7 n) ++ (entryBits head mark w n (cost t n) ++ (fill ++ bits behind))
+  stored-bits : bits stored ≡ (bitsOf (form .head) (form .mark) ++ bitsOf 7 n) ++ (entryBits form n (cost t n) ++ (fill ++ bits behind))
   unfolding stored costBytes formBytes fill costBits
   stored-bits =
-      let b = costBits head mark w n (cost t n) in
-      bits-packed-then b (all-bits-costs head mark w n (cost t n)) behind
-      ∙ ap (λ (x : ℕ). b ++ (bitsOf (fillWidth x) 0 ++ bits behind)) (length-cost-bits head mark w n (cost t n))
-      ∙ ap (λ (x : List ℕ). x ++ (fill ++ bits behind)) (cost-parts head mark w n (cost t n))
-      ∙ append-assoc (bitsOf head mark ++ bitsOf 7 n) (entryBits head mark w n (cost t n)) (fill ++ bits behind)
+      let b = costBits form n (cost t n) in
+      bits-packed-then b (all-bits-costs form n (cost t n)) behind
+      ∙ ap (λ (x : ℕ). b ++ (bitsOf (fillWidth x) 0 ++ bits behind)) (length-cost-bits form n (cost t n))
+      ∙ ap (λ (x : List ℕ). x ++ (fill ++ bits behind)) (cost-parts form n (cost t n))
+      ∙ append-assoc (bitsOf (form .head) (form .mark) ++ bitsOf 7 n) (entryBits form n (cost t n)) (fill ++ bits behind)
 
-  images-is : imagesOf head stored ≡ n
+  images-is : imagesOf form stored ≡ n
   unfolding imagesOf
   images-is =
-      let r = entryBits head mark w n (cost t n) ++ (fill ++ bits behind) in
-      ap (λ (l : List ℕ). valueOf (part l head 7)) (stored-bits ∙ append-assoc (bitsOf head mark) (bitsOf 7 n) r)
-      ∙ ap valueOf (part-cut (bitsOf head mark) (bitsOf 7 n) r head 7 (length-bitsOf head mark) (length-bitsOf 7 n))
+      let r = entryBits form n (cost t n) ++ (fill ++ bits behind) in
+      ap (λ (l : List ℕ). valueOf (part l (form .head) 7)) (stored-bits ∙ append-assoc (bitsOf (form .head) (form .mark)) (bitsOf 7 n) r)
+      ∙ ap valueOf (part-cut (bitsOf (form .head) (form .mark)) (bitsOf 7 n) r (form .head) 7 (length-bitsOf (form .head) (form .mark)) (length-bitsOf 7 n))
       ∙ value-bits 7 n (omega (arith, c .few))
 
-  entry-read : (k : ℕ) → k < entryCount n → entryOf head w stored k ≡ getD (entries (cost t n) n) k 0
+  entry-read : (k : ℕ) → k < entryCount n → entryOf form stored k ≡ getD (entries (cost t n) n) k 0
   unfolding entryOf entryBits
   entry-read k h =
       let v = entries (cost t n) n in
-      ap (λ (l : List ℕ). fieldValue l (head + 7) w k) stored-bits
-      ∙ field-value w (bitsOf head mark ++ bitsOf 7 n) v (fill ++ bits behind) (head + 7) k (length-front head mark w n (cost t n))
+      ap (λ (l : List ℕ). fieldValue l (form .head + 7) (form .width) k) stored-bits
+      ∙ field-value (form .width) (bitsOf (form .head) (form .mark) ++ bitsOf 7 n) v (fill ++ bits behind) (form .head + 7) k (length-front form n (cost t n))
       (omega (arith, length-entries (cost t n) n n))
-      (lt-of-le-of-lt (entries-small (cost t n) n L (λ i j l m. c .formed .small (omega arith) m) k) fits)
+      (lt-of-le-of-lt (entries-small (cost t n) n (form .limit) (λ i j l m. c .formed .small (omega arith) m) k) fits)
 
-  fill-is : fillOf head w n stored ≡ 0
+  fill-is : fillOf form n stored ≡ 0
   unfolding fillOf fill
   fill-is =
-      let e = entryBits head mark w n (cost t n) in
-      let a = bitsOf head mark ++ bitsOf 7 n in
-      ap (λ (l : List ℕ). valueOf (part l (costEnd head w n) (fillWidth (costEnd head w n)))) (stored-bits ∙ sym (append-assoc a e (fill ++ bits behind)))
-      ∙ ap valueOf (part-cut (a ++ e) fill (bits behind) (costEnd head w n) (fillWidth (costEnd head w n))
-      (omega (arith, length-append a e, length-front head mark w n (cost t n), length-entry-bits head mark w n (cost t n))) (length-bitsOf _ 0))
-      ∙ value-bits (fillWidth (costEnd head w n)) 0 (pow-pos (fillWidth (costEnd head w n)))
+      let e = entryBits form n (cost t n) in
+      let a = bitsOf (form .head) (form .mark) ++ bitsOf 7 n in
+      ap (λ (l : List ℕ). valueOf (part l (costEnd form n) (fillWidth (costEnd form n)))) (stored-bits ∙ sym (append-assoc a e (fill ++ bits behind)))
+      ∙ ap valueOf (part-cut (a ++ e) fill (bits behind) (costEnd form n) (fillWidth (costEnd form n))
+      (omega (arith, length-append a e, length-front form n (cost t n), length-entry-bits form n (cost t n))) (length-bitsOf _ 0))
+      ∙ value-bits (fillWidth (costEnd form n)) 0 (pow-pos (fillWidth (costEnd form n)))
 
-  pub written-images : imagesOf head (costBytes head mark w n (cost t n) ++ behind) ≡ n
+  pub written-images : imagesOf form (costBytes form n (cost t n) ++ behind) ≡ n
   unfolding stored
   written-images = images-is
 
   -- it is accepted, where there is room
-  pub written-readable : (room : ℕ) → n * n ≤ room → Readable head w L (costBytes head mark w n (cost t n) ++ behind) room
+  pub written-readable : (room : ℕ) → n * n ≤ room → Readable form (costBytes form n (cost t n) ++ behind) room
   unfolding stored
   written-readable room h =
-      let lc = length-costs head mark w n (cost t n) in
-      let la = length-append (costBytes head mark w n (cost t n)) behind in
+      let lc = length-costs form n (cost t n) in
+      let la = length-append (costBytes form n (cost t n)) behind in
       record {
         begun = omega (arith, lc, la);
         some = rw images-is (c .some);
@@ -116,6 +117,6 @@ module _ (head mark w L n : ℕ) (t behind : List ℕ) (c : CostTable L n t) (fi
       }
 
   -- and the table is the one that was written
-  pub written-costs-of : costsOf head w n (costBytes head mark w n (cost t n) ++ behind) ≡ t
+  pub written-costs-of : storedTable form n (costBytes form n (cost t n) ++ behind) ≡ t
   unfolding stored
-  written-costs-of = table-is L n t c (entryOf head w stored) entry-read
+  written-costs-of = table-is (form .limit) n t c (entryOf form stored) entry-read

@@ -5,7 +5,8 @@ use native.Mathlib.Omega.{arith}
 use Rattle.stored_costs.specs.Entries.{rowStart}
 use Rattle.stored_costs.specs.Form.{costEnd, rowAt}
 use Rattle.stored_costs.specs.Laws.Entries.{row-twice, row-within}
-use Rattle.stored_costs.specs.Sizes.{Held, Small, Span}
+use Rattle.stored_costs.specs.Sizes.{Held, Small, Span, lastEntryEnd}
+use Rattle.bits.specs.declared.Form.{Form}
 
 pub square-le : {n : ℕ} → n ≤ 64 → n * n ≤ 4096
 square-le h = mul-le-mul h h
@@ -13,14 +14,14 @@ square-le h = mul-le-mul h h
 pub count-le : (n i : ℕ) → n ≤ 64 → i ≤ n → rowStart n i ≤ 4096
 count-le n i h k = omega (arith, row-twice n i k, mul-le-mul {n₁ = i} {m₁ = n} {n₂ = 64} {m₂ = 64} (omega arith) h)
 
-pub at-le : (head w n i : ℕ) → Small head w n → i ≤ n → rowAt head w n i ≤ 131086
-at-le head w n i s h = omega (arith, s .short, mul-le-mul {n₁ = w} {m₁ = rowStart n i} {n₂ = 32} {m₂ = 4096} (s .narrow) (count-le n i (s .few) h))
+pub at-le : (form : Form) (n i : ℕ) → Small form n → i ≤ n → rowAt form n i ≤ lastEntryEnd
+at-le form n i s h = omega (arith, s .short, mul-le-mul {n₁ = (form .width)} {m₁ = rowStart n i} {n₂ = 32} {m₂ = 4096} (s .narrow) (count-le n i (s .few) h))
 
-pub end-le : (head w n : ℕ) → Small head w n → costEnd head w n ≤ 131086
-end-le head w n s = at-le head w n n s (omega arith)
+pub end-le : (form : Form) (n : ℕ) → Small form n → costEnd form n ≤ lastEntryEnd
+end-le form n s = at-le form n n s (omega arith)
 
 -- the entries of row i stand within the bytes
-pub row-span : (head w n i bytes : ℕ) → Held head w n bytes → i < n → Span (rowAt head w n i) w (n - (i + 1)) bytes
-row-span head w n i bytes h l =
-    let r = row-within n w i l in
-    record { narrow = h .small .narrow; within = omega (arith, r, h .within); counted = omega (arith, r, end-le head w n (h .small)) }
+pub row-span : (form : Form) (n i bytes : ℕ) → Held form n bytes → i < n → Span (rowAt form n i) (form .width) (n - (i + 1)) bytes
+row-span form n i bytes h l =
+    let r = row-within n (form .width) i l in
+    record { narrow = h .small .narrow; within = omega (arith, r, h .within); counted = omega (arith, r, end-le form n (h .small)) }

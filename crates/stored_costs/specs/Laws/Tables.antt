@@ -12,32 +12,32 @@ use borrow.Table.Steps.{cases}
 use Rattle.theory.specs.Tables.{CostTable, cost}
 use Rattle.bits.specs.Listed.{listed}
 use Rattle.bits.specs.Laws.Listed.{length-listed, listed-at, listed-is}
-use Rattle.stored_costs.specs.Entries.{costOf, entries, entryCount, entryNumber, tableOf}
+use Rattle.stored_costs.specs.Entries.{entryCost, entries, entryCount, entryNumber, tableOf}
 use Rattle.stored_costs.specs.Laws.Entries.{entries-listed, entry-is, number-lt}
 
 -- ## Its costs
 
 module _ (f : ℕ → ℕ) (n : ℕ) where
-  pub cost-of-self : (i : ℕ) → costOf f n i i ≡ 0
-  unfolding costOf
+  pub cost-of-self : (i : ℕ) → entryCost f n i i ≡ 0
+  unfolding entryCost
   cost-of-self i = rw (eq-eqb i i refl)
 
-  pub cost-of-up : (i j : ℕ) → i < j → costOf f n i j ≡ f (entryNumber n i j)
-  unfolding costOf
+  pub cost-of-up : (i j : ℕ) → i < j → entryCost f n i j ≡ f (entryNumber n i j)
+  unfolding entryCost
   cost-of-up i j h =
       let a : min i j ≡ i = omega arith in
       let b : max i j ≡ j = omega arith in
       rw (ne-eqb i j (λ e. omega arith), a, b)
 
-  pub cost-of-down : (i j : ℕ) → j < i → costOf f n i j ≡ f (entryNumber n j i)
-  unfolding costOf
+  pub cost-of-down : (i j : ℕ) → j < i → entryCost f n i j ≡ f (entryNumber n j i)
+  unfolding entryCost
   cost-of-down i j h =
       let a : min i j ≡ j = omega arith in
       let b : max i j ≡ i = omega arith in
       rw (ne-eqb i j (λ e. omega arith), a, b)
 
-  pub cost-of-same : (i j : ℕ) → costOf f n i j ≡ costOf f n j i
-  unfolding costOf
+  pub cost-of-same : (i j : ℕ) → entryCost f n i j ≡ entryCost f n j i
+  unfolding entryCost
   cost-of-same i j =
       let a : min i j ≡ min j i = omega arith in
       let b : max i j ≡ max j i = omega arith in
@@ -48,13 +48,13 @@ module _ (f : ℕ → ℕ) (n : ℕ) where
   -- the table has those costs
   pub length-table : length (tableOf f n) ≡ n * n
   unfolding tableOf
-  length-table = length-listed (λ p. costOf f n (p / n) (p % n)) (n * n)
+  length-table = length-listed (λ p. entryCost f n (p / n) (p % n)) (n * n)
 
-  pub table-cost : (i j : ℕ) → i < n → j < n → cost (tableOf f n) n i j ≡ costOf f n i j
+  pub table-cost : (i j : ℕ) → i < n → j < n → cost (tableOf f n) n i j ≡ entryCost f n i j
   unfolding tableOf
   table-cost i j hi hj =
-      listed-at (λ p. costOf f n (p / n) (p % n)) (n * n) (i * n + j) (digits-lt hi hj)
-      ∙ ap₂ (costOf f n) (digits-div i hj) (digits-mod i hj)
+      listed-at (λ p. entryCost f n (p / n) (p % n)) (n * n) (i * n + j) (digits-lt hi hj)
+      ∙ ap₂ (entryCost f n) (digits-div i hj) (digits-mod i hj)
 
   -- its entries are f 0, f 1, ..
   pub table-entries : entries (cost (tableOf f n) n) n ≡ listed f (entryCount n)
@@ -74,7 +74,7 @@ module _ (f : ℕ → ℕ) (n : ℕ) where
         };
       }
     where
-      small : (i j : ℕ) → i < n → j < n → costOf f n i j ≤ L
+      small : (i j : ℕ) → i < n → j < n → entryCost f n i j ≤ L
       small i j hi hj =
           cases (ltb i j) (λ e. rw (cost-of-up i j (ltb-true i j e)) (h i j (ltb-true i j e) hj))
           (λ e. cases (eqb i j) (λ q. rw (eqb-true i j q, cost-of-self j) (omega arith))
@@ -86,7 +86,7 @@ module _ (L n : ℕ) (t : List ℕ) (c : CostTable L n t) (f : ℕ → ℕ) (h :
   up : (i j : ℕ) → i < j → j < n → f (entryNumber n i j) ≡ cost t n i j
   up i j l k = h (entryNumber n i j) (number-lt n i j l k) ∙ entry-is (cost t n) n i j l k
 
-  all : (i j : ℕ) → i < n → j < n → costOf f n i j ≡ cost t n i j
+  all : (i j : ℕ) → i < n → j < n → entryCost f n i j ≡ cost t n i j
   all i j hi hj =
       cases (ltb i j) (λ e. cost-of-up f n i j (ltb-true i j e) ∙ up i j (ltb-true i j e) hj)
       (λ e. cases (eqb i j) (λ q. let s = eqb-true i j q in rw s (cost-of-self f n j ∙ sym (c .formed .self hj)))
@@ -96,7 +96,7 @@ module _ (L n : ℕ) (t : List ℕ) (c : CostTable L n t) (f : ℕ → ℕ) (h :
   pub table-is : tableOf f n ≡ t
   unfolding tableOf
   table-is =
-      listed-is (λ p. costOf f n (p / n) (p % n)) (n * n) t (c .sized)
+      listed-is (λ p. entryCost f n (p / n) (p % n)) (n * n) t (c .sized)
       (λ p l. let i : p / n < n = div-lt-iff-lt-mul (omega (arith, c .some)) .1 l in
       let j : p % n < n = mod-lt p (omega (arith, c .some)) in
       ap (λ (x : ℕ). getD t x 0) (sym (div-add-mod' p n)) ∙ sym (all (p / n) (p % n) i j))

@@ -15,64 +15,66 @@ use Rattle.bits.specs.Laws.Packed.{packed-only}
 use Rattle.bits.specs.Laws.Parts.{length-part, part-more}
 use Rattle.bits.specs.Laws.Written.{all-bytes-take, bits-take}
 use Rattle.stored_costs.specs.Entries.{entryCount}
-use Rattle.stored_costs.specs.Form.{costBytes, costEnd, costUsed, costsOf, entryOf, fillOf, imagesOf, markOf}
+use Rattle.stored_costs.specs.Form.{costBytes, costEnd, costUsed, storedTable, entryOf, fillOf, imagesOf, Marked}
 use Rattle.stored_costs.specs.Laws.Form.{all-bits-costs, cost-parts, costBits, entryBits, length-cost-bits}
 use Rattle.stored_costs.specs.Laws.Passed.{Readable}
 use Rattle.stored_costs.specs.Laws.Tables.{table-entries, table-formed}
+use Rattle.bits.specs.declared.Form.{Form}
 
 -- bits read as a number are the bits of that number
 part-again : (l : List ℕ) (position w : ℕ) → AllBits l → position + w ≤ length l → bitsOf w (valueOf (part l position w)) ≡ part l position w
 part-again l position w b h =
     ap (λ (k : ℕ). bitsOf k (valueOf (part l position w))) (sym (length-part l position w h)) ∙ bits-value (all-bits-part position w b)
 
-module _ (head w L : ℕ) (s : List ℕ) (room : ℕ) (r : Readable head w L s room) where
-  pub read-table : CostTable L (imagesOf head s) (costsOf head w (imagesOf head s) s)
-  read-table = table-formed (entryOf head w s) (imagesOf head s) L (r .some) (r .few) (r .fine)
+-- what was read is a cost table
+pub read-table : (form : Form) (s : List ℕ) (room : ℕ) → Readable form s room → CostTable (form .limit) (imagesOf form s) (storedTable form (imagesOf form s) s)
+read-table form s room r = table-formed (entryOf form s) (imagesOf form s) (form .limit) (r .some) (r .few) (r .fine)
 
+module _ (form : Form) (s : List ℕ) (room : ℕ) (r : Readable form s room) (marked : Marked form s) where
   n : ℕ
-  n = imagesOf head s
+  n = imagesOf form s
 
-  entries-again : entryBits head (markOf head s) w n (cost (costsOf head w n s) n) ≡ part (bits s) (head + 7) (w * entryCount n)
+  entries-again : entryBits form n (cost (storedTable form n s) n) ≡ part (bits s) (form .head + 7) (form .width * entryCount n)
   unfolding entryBits entryOf n
   entries-again =
-      ap (λ (l : List ℕ). formBits (fieldsOf w l)) (table-entries (entryOf head w s) (imagesOf head s))
-      ∙ fields-part (bits s) (head + 7) w (entryCount (imagesOf head s)) (all-bits-bytes s) (omega (arith, length-bits s, r .whole))
+      ap (λ (l : List ℕ). formBits (fieldsOf (form .width) l)) (table-entries (entryOf form s) (imagesOf form s))
+      ∙ fields-part (bits s) (form .head + 7) (form .width) (entryCount (imagesOf form s)) (all-bits-bytes s) (omega (arith, length-bits s, r .whole))
 
-  front-again : bitsOf head (markOf head s) ++ bitsOf 7 n ≡ part (bits s) 0 (head + 7)
+  front-again : bitsOf (form .head) (form .mark) ++ bitsOf 7 n ≡ part (bits s) 0 (form .head + 7)
   unfolding imagesOf n
   front-again =
       let b = all-bits-bytes s in
       let l = length-bits s in
-      ap₂ (λ (x y : List ℕ). x ++ y) (part-again (bits s) 0 head b (omega (arith, r .begun))) (part-again (bits s) head 7 b (omega (arith, r .begun)))
-      ∙ sym (part-more (bits s) 0 head 7 ∙ ap (λ (k : ℕ). part (bits s) 0 head ++ part (bits s) k 7) (zero-add head))
+      ap₂ (λ (x y : List ℕ). x ++ y) (ap (bitsOf (form .head)) (sym marked) ∙ part-again (bits s) 0 (form .head) b (omega (arith, r .begun))) (part-again (bits s) (form .head) 7 b (omega (arith, r .begun)))
+      ∙ sym (part-more (bits s) 0 (form .head) 7 ∙ ap (λ (k : ℕ). part (bits s) 0 (form .head) ++ part (bits s) k 7) (zero-add (form .head)))
 
-  bits-again : costBits head (markOf head s) w n (cost (costsOf head w n s) n) ≡ part (bits s) 0 (costEnd head w n)
+  bits-again : costBits form n (cost (storedTable form n s) n) ≡ part (bits s) 0 (costEnd form n)
   bits-again =
-      cost-parts head (markOf head s) w n (cost (costsOf head w n s) n)
+      cost-parts form n (cost (storedTable form n s) n)
       ∙ ap₂ (λ (x y : List ℕ). x ++ y) front-again entries-again
-      ∙ sym (part-more (bits s) 0 (head + 7) (w * entryCount n) ∙ ap (λ (k : ℕ). part (bits s) 0 (head + 7) ++ part (bits s) k (w * entryCount n)) (zero-add (head + 7)))
+      ∙ sym (part-more (bits s) 0 (form .head + 7) (form .width * entryCount n) ∙ ap (λ (k : ℕ). part (bits s) 0 (form .head + 7) ++ part (bits s) k (form .width * entryCount n)) (zero-add (form .head + 7)))
 
-  fill-again : bitsOf (fillWidth (costEnd head w n)) 0 ≡ part (bits s) (costEnd head w n) (fillWidth (costEnd head w n))
+  fill-again : bitsOf (fillWidth (costEnd form n)) 0 ≡ part (bits s) (costEnd form n) (fillWidth (costEnd form n))
   unfolding fillOf n
   fill-again =
-      ap (bitsOf (fillWidth (costEnd head w (imagesOf head s)))) (sym (r .clear))
-      ∙ part-again (bits s) (costEnd head w (imagesOf head s)) (fillWidth (costEnd head w (imagesOf head s))) (all-bits-bytes s) (omega (arith, length-bits s, r .whole))
+      ap (bitsOf (fillWidth (costEnd form (imagesOf form s)))) (sym (r .clear))
+      ∙ part-again (bits s) (costEnd form (imagesOf form s)) (fillWidth (costEnd form (imagesOf form s))) (all-bits-bytes s) (omega (arith, length-bits s, r .whole))
 
-  filled-again : filled (costBits head (markOf head s) w n (cost (costsOf head w n s) n)) ≡ bits (take (costUsed head w n) s)
+  filled-again : filled (costBits form n (cost (storedTable form n s) n)) ≡ bits (take (costUsed form n) s)
   unfolding filled n
   filled-again =
-      let e = costEnd head w (imagesOf head s) in
-      let b = costBits head (markOf head s) w (imagesOf head s) (cost (costsOf head w (imagesOf head s) s) (imagesOf head s)) in
-      ap (λ (k : ℕ). b ++ bitsOf (fillWidth k) 0) (length-cost-bits head (markOf head s) w (imagesOf head s) (cost (costsOf head w (imagesOf head s) s) (imagesOf head s)))
+      let e = costEnd form (imagesOf form s) in
+      let b = costBits form (imagesOf form s) (cost (storedTable form (imagesOf form s) s) (imagesOf form s)) in
+      ap (λ (k : ℕ). b ++ bitsOf (fillWidth k) 0) (length-cost-bits form (imagesOf form s) (cost (storedTable form (imagesOf form s) s) (imagesOf form s)))
       ∙ ap₂ (λ (x y : List ℕ). x ++ y) bits-again fill-again
       ∙ sym (part-more (bits s) 0 e (fillWidth e) ∙ ap (λ (k : ℕ). part (bits s) 0 e ++ part (bits s) k (fillWidth e)) (zero-add e))
       ∙ ap (part (bits s) 0) (omega arith)
-      ∙ bits-take (costUsed head w (imagesOf head s)) s (r .whole)
+      ∙ bits-take (costUsed form (imagesOf form s)) s (r .whole)
 
   -- the same used bytes
-  pub read-written : AllBytes s → costBytes head (markOf head s) w (imagesOf head s) (cost (costsOf head w (imagesOf head s) s) (imagesOf head s)) ≡ take (costUsed head w (imagesOf head s)) s
+  pub read-written : AllBytes s → costBytes form (imagesOf form s) (cost (storedTable form (imagesOf form s) s) (imagesOf form s)) ≡ take (costUsed form (imagesOf form s)) s
   unfolding costBytes formBytes costBits n
   read-written h =
-      let d = cost (costsOf head w (imagesOf head s) s) (imagesOf head s) in
-      sym (packed-only (costBits head (markOf head s) w (imagesOf head s) d) (all-bits-costs head (markOf head s) w (imagesOf head s) d) (take (costUsed head w (imagesOf head s)) s)
-      (all-bytes-take (costUsed head w (imagesOf head s)) s h) (sym filled-again))
+      let d = cost (storedTable form (imagesOf form s) s) (imagesOf form s) in
+      sym (packed-only (costBits form (imagesOf form s) d) (all-bits-costs form (imagesOf form s) d) (take (costUsed form (imagesOf form s)) s)
+      (all-bytes-take (costUsed form (imagesOf form s)) s h) (sym filled-again))

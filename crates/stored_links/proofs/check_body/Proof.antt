@@ -9,10 +9,11 @@ use Rattle.stored_links.specs.Laws.Passed.{end-passed}
 use Rattle.stored_links.specs.Laws.Sizes.{end-le}
 use borrow.Author.Needs.{needs}
 use Rattle.stored_links.proofs.check_body.Statement.{statement}
+use Rattle.stored_links.specs.Sizes.{lastRowEnd}
 use Rattle.stored_links.proofs.check_body.Tie as tie
 
-end-small : (c : tie.After-row-at) → c .row-at .result ≤ 11896
-end-small c = let a = c .before .before in omega (arith, c .row-at .ensures, end-le (a .args .head) (a .args .w) (a .args .n) (a .args .count) (a .pre))
+end-small : (c : tie.After-row-at) → c .row-at .result ≤ lastRowEnd
+end-small c = let a = c .before .before in omega (arith, c .row-at .ensures, end-le (a .args .form) (a .args .n) (a .args .count) (a .pre))
 
 -- the check passed, so the bytes are there
 whole : (c : tie.After-enum-told) → (c .before .before .before .row-at .result + 7) / 8 ≤ length (c .before .before .before .before .before .args .bytes .now)

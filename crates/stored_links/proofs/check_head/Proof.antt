@@ -10,11 +10,14 @@ use Rattle.stored_links.proofs.check_head.Statement.{statement}
 use Rattle.stored_links.proofs.check_head.Tie as tie
 
 -- the check passed, so the bytes of both numbers are there
-begun : (c : tie.After-enum-told) → bytesFor (c .before .before .before .before .args .head + 14) ≤ length (c .before .before .before .before .args .bytes .now)
+abbrev start : tie.After-enum-told → tie.Start
+start c = c .before .before .before .before .before
+
+begun : (c : tie.After-enum-told) → bytesFor (start c .args .form .head + 14) ≤ length (start c .args .bytes .now)
 begun c =
     let e = c .before .before in
-    let a = e .before .before .args in
-    end-passed (a .bytes .now) (bytesFor (a .head + 14)) (sym (e .refuse-if .ensures) ∙ c .enum-told .given .1)
+    let a = e .before .before .before .args in
+    end-passed (a .bytes .now) (bytesFor (a .form .head + 14)) (sym (e .refuse-if .ensures) ∙ c .enum-told .given .1)
 
 add-refuse-if : tie.Need-add-refuse-if
 add-refuse-if c = search needs
@@ -35,10 +38,10 @@ returns : tie.Need-returns
 returns c = then-stops _ _ (c .enum-told2 .given .1) (c .before .before .refuse-if .ensures)
 
 images-requires : tie.Need-images-requires
-images-requires c κs = (c .before .before .before .before .pre, begun c)
+images-requires c κs = (c .before .before .before .before .before .pre, begun c)
 
 row-count-requires : tie.Need-row-count-requires
-row-count-requires c κs = (c .before .before .before .before .before .pre, begun (c .before))
+row-count-requires c κs = (c .before .before .before .before .before .before .pre, begun (c .before))
 
 check-count-requires : tie.Need-check-count-requires
 check-count-requires c κs = search needs

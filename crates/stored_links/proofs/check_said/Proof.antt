@@ -4,7 +4,7 @@ use mathlib.Core.Path.{ap₂, _∙_}
 use Prim.Native.Nat.{ℕ}
 use Rattle.bits.specs.Laws.Listed.{length-listed}
 use Rattle.links.specs.Checks.{rowChecks}
-use Rattle.stored_links.specs.Said.{costOf, farOf}
+use Rattle.stored_links.specs.Said.{costAt, farAt}
 use Rattle.stored_links.specs.Laws.Outcomes.{front-taken}
 use borrow.Author.Needs.{needs}
 use Rattle.stored_links.proofs.check_said.Statement.{statement}
@@ -33,9 +33,9 @@ returns c =
     let f = c .before .before .before .before .before in
     let a = f .before .before .before .before .args in
     c .check-front .ensures
-    ∙ ap₂ (λ (l v : List ℕ). rowChecks (a .limit) (a .n) l v)
-    (front-taken (a .count) _ _ _ (length-listed (farOf (a .head) (a .w) (a .n) (a .bytes .now)) (a .count)) (f .fill .ensures .0))
-    (front-taken (a .count) _ _ _ (length-listed (costOf (a .head) (a .w) (a .n) (a .bytes .now)) (a .count)) (f .fill .ensures .1))
+    ∙ ap₂ (λ (l v : List ℕ). rowChecks (a .form .limit) (a .n) l v)
+    (front-taken (a .count) _ _ _ (length-listed (farAt (a .form) (a .n) (a .bytes .now)) (a .count)) (f .fill .ensures .0))
+    (front-taken (a .count) _ _ _ (length-listed (costAt (a .form) (a .n) (a .bytes .now)) (a .count)) (f .fill .ensures .1))
 
 pub check-said-spec : {M : Type 1} → statement M
 check-said-spec =

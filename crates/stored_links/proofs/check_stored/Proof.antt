@@ -10,7 +10,7 @@ use Rattle.stored_links.proofs.check_stored.Statement.{statement}
 use Rattle.stored_links.proofs.check_stored.Tie as tie
 
 -- the first checks passed
-begun : (c : tie.After-enum-told) → headChecks (c .before .before .before .before .args .head) (c .before .before .before .before .args .bytes .now) ≡ Passed
+begun : (c : tie.After-enum-told) → headChecks (c .before .before .before .before .args .form) (c .before .before .before .before .args .bytes .now) ≡ Passed
 begun c = sym (c .before .before .check-head .ensures) ∙ c .enum-told .given .1
 
 check-head-requires : tie.Need-check-head-requires
@@ -28,17 +28,17 @@ returns c = then-stops _ _ (c .enum-told2 .given .1) (c .before .before .check-h
 images-requires : tie.Need-images-requires
 images-requires c κs =
     let a = c .before .before .before .before in
-    (a .pre .0, head-passed (a .args .head) (a .args .bytes .now) (begun c) .0)
+    (a .pre .0, head-passed (a .args .form) (a .args .bytes .now) (begun c) .0)
 
 mul-refuse-if : tie.Need-mul-refuse-if
 mul-refuse-if c =
     let a = c .before .before .before .before .before in
-    omega (arith, c .images .ensures, head-passed (a .args .head) (a .args .bytes .now) (begun (c .before)) .2)
+    omega (arith, c .images .ensures, head-passed (a .args .form) (a .args .bytes .now) (begun (c .before)) .2)
 
 sub-refuse-if : tie.Need-sub-refuse-if
 sub-refuse-if c =
     let a = c .before .before .before .before .before in
-    omega (arith, c .images .ensures, head-passed (a .args .head) (a .args .bytes .now) (begun (c .before)) .1)
+    omega (arith, c .images .ensures, head-passed (a .args .form) (a .args .bytes .now) (begun (c .before)) .1)
 
 refuse-if-requires : tie.Need-refuse-if-requires
 refuse-if-requires c κs = search needs
@@ -61,14 +61,14 @@ row-count-requires : tie.Need-row-count-requires
 row-count-requires c κs =
     let d = c .before .before .before .before in
     let a = d .before .before .before .before in
-    (a .pre .0, head-passed (a .args .head) (a .args .bytes .now) (begun d) .0)
+    (a .pre .0, head-passed (a .args .form) (a .args .bytes .now) (begun d) .0)
 
 check-body-requires : tie.Need-check-body-requires
 check-body-requires c κs =
     let i = c .before .before .before .before in
     let d = i .before in
     let a = d .before .before .before .before in
-    let h = head-passed (a .args .head) (a .args .bytes .now) (begun d) in
+    let h = head-passed (a .args .form) (a .args .bytes .now) (begun d) in
     record {
       short = a .pre .0;
       narrow = a .pre .1;

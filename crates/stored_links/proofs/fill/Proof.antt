@@ -8,33 +8,34 @@ use Rattle.bits.specs.Bits.{bits, part, valueOf}
 use Rattle.bits.specs.Listed.{listed}
 use Rattle.bits.specs.Laws.Listed.{listed-front-end, listed-front-more, listed-front-none}
 use Rattle.stored_links.specs.Form.{rowWidth}
-use Rattle.stored_links.specs.Said.{costOf, farOf}
+use Rattle.stored_links.specs.Said.{costAt, farAt}
 use Rattle.stored_links.specs.Laws.Sizes.{end-le, row-within}
 use borrow.Author.Needs.{needs}
 use Rattle.stored_links.proofs.fill.Statement.{statement}
+use Rattle.stored_links.specs.Sizes.{lastRowEnd}
 use Rattle.stored_links.proofs.fill.Tie as tie
 
 abbrev Inv-loop : tie.InvT-loop
-Inv-loop head w n count bytes fars₀ costs₀ k₀ fars costs k =
+Inv-loop form n count bytes fars₀ costs₀ k₀ fars costs k =
     (k ≤ count) × (length fars ≡ length fars₀) × (length costs ≡ length costs₀)
-    × (fars ≡ front (listed (farOf head w n bytes) k) fars₀) × (costs ≡ front (listed (costOf head w n bytes) k) costs₀)
+    × (fars ≡ front (listed (farAt form n bytes) k) fars₀) × (costs ≡ front (listed (costAt form n bytes) k) costs₀)
 
 abbrev μ-loop : tie.MeasureT-loop
-μ-loop head w n count bytes fars₀ costs₀ k₀ fars costs k = count - k
+μ-loop form n count bytes fars₀ costs₀ k₀ fars costs k = count - k
 
 abbrev begun : tie.After-row-at Inv-loop μ-loop → tie.Start Inv-loop μ-loop
 begun c = c .before .before .before .before .before .before
 
 -- the row of this turn stands within the bytes, and its place is a small number
 placed : (c : tie.After-row-at Inv-loop μ-loop)
-    → (c .row-at .result + rowWidth (begun c .args .w) (begun c .args .n) ≤ 8 * length (begun c .args .bytes .now)) × (c .row-at .result + rowWidth (begun c .args .w) (begun c .args .n) ≤ 11896)
+    → (c .row-at .result + rowWidth (begun c .args .form .width) (begun c .args .n) ≤ 8 * length (begun c .args .bytes .now)) × (c .row-at .result + rowWidth (begun c .args .form .width) (begun c .args .n) ≤ lastRowEnd)
 placed c =
     let s = begun c in
     let a = s .args in
     let h = s .pre .0 in
     let k = c .before .before .loop .k in
-    let e = row-within (a .head) (a .w) (a .n) (a .count) k (c .before .loop-test .taken) in
-    (omega (arith, c .row-at .ensures, e, h .within), omega (arith, c .row-at .ensures, e, end-le (a .head) (a .w) (a .n) (a .count) (h .small)))
+    let e = row-within (a .form) (a .n) (a .count) k (c .before .loop-test .taken) in
+    (omega (arith, c .row-at .ensures, e, h .within), omega (arith, c .row-at .ensures, e, end-le (a .form) (a .n) (a .count) (h .small)))
 
 loop-holds : tie.Need-loop-holds Inv-loop μ-loop
 loop-holds c = (search needs, refl, refl, listed-front-none _ _, listed-front-none _ _)
@@ -81,7 +82,7 @@ loop-less : tie.Need-loop-less Inv-loop μ-loop
 loop-less c = search needs
 
 loop-again : tie.Need-loop-again Inv-loop μ-loop
-unfolding farOf costOf
+unfolding farAt costAt
 loop-again c =
     let r = c .before .before in
     let s = begun r in
@@ -90,10 +91,10 @@ loop-again c =
       search needs,
       simp length-set (l .inv .1),
       simp length-set (l .inv .2),
-      listed-front-more (farOf (a .head) (a .w) (a .n) (a .bytes .now)) (l .k) (c .before .far-at .result) _ (l .fars) (omega (arith, s .pre .1, r .before .loop-test .taken)) (l .inv .3)
+      listed-front-more (farAt (a .form) (a .n) (a .bytes .now)) (l .k) (c .before .far-at .result) _ (l .fars) (omega (arith, s .pre .1, r .before .loop-test .taken)) (l .inv .3)
           (c .before .far-at .ensures ∙ ap (λ (p : ℕ). 2 * valueOf (part (bits (a .bytes .now)) p (a .n - 1))) (r .row-at .ensures)),
-      listed-front-more (costOf (a .head) (a .w) (a .n) (a .bytes .now)) (l .k) (c .cost-at .result) _ (l .costs) (omega (arith, s .pre .2, r .before .loop-test .taken)) (l .inv .4)
-          (c .cost-at .ensures ∙ ap (λ (p : ℕ). valueOf (part (bits (a .bytes .now)) (p + (a .n - 1)) (a .w))) (r .row-at .ensures)),
+      listed-front-more (costAt (a .form) (a .n) (a .bytes .now)) (l .k) (c .cost-at .result) _ (l .costs) (omega (arith, s .pre .2, r .before .loop-test .taken)) (l .inv .4)
+          (c .cost-at .ensures ∙ ap (λ (p : ℕ). valueOf (part (bits (a .bytes .now)) (p + (a .n - 1)) (a .form .width))) (r .row-at .ensures)),
     )
 
 same-length : tie.Need-same-length Inv-loop μ-loop

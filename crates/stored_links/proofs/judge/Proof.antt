@@ -22,12 +22,12 @@ rest c = drop (begun c .args .position / 8) (begun c .args .bytes .now)
 
 -- what the checks say once they passed
 there : (c : tie.After-enum-told)
-    → TableAt (begun c .args .head) (begun c .args .w) (begun c .args .limit) (begun c .args .bytes .now) (begun c .args .position)
-    (imagesOf (begun c .args .head) (rest c)) (countOf (begun c .args .head) (rest c)) (usedOf (begun c .args .head) (begun c .args .w) (rest c))
+    → TableAt (begun c .args .form) (begun c .args .bytes .now) (begun c .args .position)
+    (imagesOf (begun c .args .form) (rest c)) (countOf (begun c .args .form) (rest c)) (usedOf (begun c .args .form) (rest c))
 there c =
     let e = c .before .before in
     let a = begun c .args in
-    read-at-passed (a .head) (a .w) (a .limit) (a .bytes .now) (a .position) (a .room) (sym (e .check-at .ensures) ∙ c .enum-told .given .1) .0
+    read-at-passed (a .form) (a .bytes .now) (a .position) (a .room) (sym (e .check-at .ensures) ∙ c .enum-told .given .1) .0
 
 check-at-requires : tie.Need-check-at-requires
 check-at-requires c κs = search needs
@@ -52,7 +52,7 @@ said-requires c κs =
     let d = c .before in
     let a = begun d in
     let t = there d .stored in
-    rw (rest-part (a .args .bytes .now) (a .args .position / 8)) (t .begun, stored-held _ _ (a .args .limit) _ _ _ (a .pre .0) (a .pre .1) t .small)
+    rw (rest-part (a .args .bytes .now) (a .args .position / 8)) (t .begun, stored-held (a .args .form) _ _ _ (a .pre .0) (a .pre .1) t .small)
 
 returns : tie.Need-returns
 returns c = if-stops stored.Refused _ _ (c .before .r .given .1) (c .before .before .before .check-at .ensures)

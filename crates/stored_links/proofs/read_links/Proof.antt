@@ -5,7 +5,6 @@ use native.Mathlib.Omega.{arith}
 use lib.ListN.{length}
 use Rattle.ground.specs.Laws.Buffers.{rest-part}
 use Rattle.ground.specs.declared.Check.the-variants.{Passed}
-use Rattle.theory.specs.Tables.{limit}
 use Rattle.stored_links.specs.Outcomes.{judged}
 use Rattle.stored_links.specs.Reading.{readAtChecks}
 use Rattle.stored_links.specs.Laws.Passed.{stored-held}
@@ -13,6 +12,7 @@ use Rattle.stored_links.specs.Laws.Positions.{TableAt, refused-at, table
 use borrow.Author.Needs.{needs}
 use Rattle.ground.specs.Laws.Outcomes.{front-goes, front-stops}
 use Rattle.stored_links.proofs.read_links.Statement.{statement}
+use Rattle.stored_links.specs.Form.{oldLinks}
 use Rattle.stored_links.proofs.read_links.Tie as tie
 
 abbrev begun : tie.After-judge-links → tie.Start
@@ -20,13 +20,13 @@ begun c = c .before .before .before .before .before
 
 -- the answer is a table: what it says
 told : (c : tie.After-n)
-    → (readAtChecks 0 21 limit (begun (c .before .before) .args .bytes .now) (begun (c .before .before) .args .position) (c .before .before .before .lesser .result) ≡ Passed)
-    × TableAt 0 21 limit (begun (c .before .before) .args .bytes .now) (begun (c .before .before) .args .position) (c .n .given .0 .0) (c .n .given .0 .1 .0) (c .n .given .0 .1 .1 .0)
+    → (readAtChecks oldLinks (begun (c .before .before) .args .bytes .now) (begun (c .before .before) .args .position) (c .before .before .before .lesser .result) ≡ Passed)
+    × TableAt oldLinks (begun (c .before .before) .args .bytes .now) (begun (c .before .before) .args .position) (c .n .given .0 .0) (c .n .given .0 .1 .0) (c .n .given .0 .1 .1 .0)
     × (2 * c .n .given .0 .0 - 3 ≤ c .before .before .before .lesser .result)
 told c =
     let j = c .before .before in
     let a = begun j .args in
-    table-at 0 21 limit (a .bytes .now) (a .position) (j .before .lesser .result) _ _ _ (sym (j .judge-links .ensures) ∙ c .n .given .1)
+    table-at oldLinks (a .bytes .now) (a .position) (j .before .lesser .result) _ _ _ (sym (j .judge-links .ensures) ∙ c .n .given .1)
 
 lesser-requires : tie.Need-lesser-requires
 lesser-requires c κs = search needs
@@ -40,31 +40,34 @@ enum-known-r c = search needs
 enum-known-n : tie.Need-enum-known-n
 enum-known-n c = search needs
 
+old-form-requires : tie.Need-old-form-requires
+old-form-requires c κs = search needs
+
 sub-fill : tie.Need-sub-fill
-sub-fill c = told (c .before) .1 .inside
+sub-fill c = told (c .before .before) .1 .inside
 
 part-fill-start : tie.Need-part-fill-start
-part-fill-start c = told (c .before) .1 .inside
+part-fill-start c = told (c .before .before) .1 .inside
 
 part-fill-end : tie.Need-part-fill-end
 part-fill-end c = search needs
 
 fill-requires : tie.Need-fill-requires
 fill-requires c κs =
-    let n = c .before .before .before .before in
+    let n = c .before .before .before .before .before in
     let j = n .before .before in
     let a = begun j .args in
     let t = told n in
     let m = t .1 .stored .most in
     let r = j .before .lesser .ensures in
-    rw (rest-part (a .bytes .now) (a .position / 8)) (stored-held 0 21 limit _ _ _ (search needs) (search needs) (t .1 .stored), omega (arith, m, r, t .2), omega (arith, m, r, t .2))
+    rw (c .before .before .before .old-form .ensures, rest-part (a .bytes .now) (a .position / 8)) (stored-held oldLinks _ _ _ (omega arith) (omega arith) (t .1 .stored), omega (arith, m, r, t .2), omega (arith, m, r, t .2))
 
 returns : tie.Need-returns
 returns c =
     let j = c .before .before .before in
     let a = begun j .args in
-    let e = j .judge-links .ensures ∙ ap (λ (x : ℕ). judged 0 21 limit (a .bytes .now) (a .position) x) (j .before .lesser .ensures) in
-    let r = refused-at 0 21 limit (a .bytes .now) (a .position) (min (length (a .fars .now)) (length (a .costs .now))) _ (sym e ∙ c .before .r .given .1) in
+    let e = j .judge-links .ensures ∙ ap (λ (x : ℕ). judged oldLinks (a .bytes .now) (a .position) x) (j .before .lesser .ensures) in
+    let r = refused-at oldLinks (a .bytes .now) (a .position) (min (length (a .fars .now)) (length (a .costs .now))) _ (sym e ∙ c .before .r .given .1) in
     record { answered = sym (c .before .r .given .1) ∙ e; far-sides = front-stops _ _ _ r; doubled = front-stops _ _ _ r }
 
 same-length : tie.Need-same-length
@@ -76,15 +79,15 @@ same-length-2 c = search needs
 returns-2 : tie.Need-returns-2
 returns-2 c =
     let f = c .before .before .before .before in
-    let n = f .before .before .before .before .before in
+    let n = f .before .before .before .before .before .before in
     let j = n .before .before in
     let a = begun j .args in
     let t = told n in
-    let p = ap (λ (x : ℕ). readAtChecks 0 21 limit (a .bytes .now) (a .position) x) (sym (j .before .lesser .ensures)) ∙ t .0 in
+    let p = ap (λ (x : ℕ). readAtChecks oldLinks (a .bytes .now) (a .position) x) (sym (j .before .lesser .ensures)) ∙ t .0 in
     let s = t .1 .stored in
-    let u = rw (rest-part (a .bytes .now) (a .position / 8)) at (f .fill .ensures) in
+    let u = rw (f .before .before .before .before .old-form .ensures, rest-part (a .bytes .now) (a .position / 8)) at (f .fill .ensures) in
     record {
-      answered = sym (n .n .given .1) ∙ j .judge-links .ensures ∙ ap (λ (x : ℕ). judged 0 21 limit (a .bytes .now) (a .position) x) (j .before .lesser .ensures);
+      answered = sym (n .n .given .1) ∙ j .judge-links .ensures ∙ ap (λ (x : ℕ). judged oldLinks (a .bytes .now) (a .position) x) (j .before .lesser .ensures);
       far-sides = front-goes _ _ _ _ p (rw (s .images, s .counted) (u .0));
       doubled = front-goes _ _ _ _ p (rw (s .images, s .counted) (u .1));
     }
@@ -97,6 +100,7 @@ read-links-spec =
     judge-links-requires
     enum-known-r
     enum-known-n
+    old-form-requires
     sub-fill
     part-fill-start
     part-fill-end

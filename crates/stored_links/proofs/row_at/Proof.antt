@@ -15,10 +15,10 @@ add-result-2 : tie.Need-add-result-2
 add-result-2 c = search needs
 
 mul-result : tie.Need-mul-result
-mul-result c = omega (arith, end-le (c .args .head) (c .args .w) (c .args .n) (c .args .k) (c .pre))
+mul-result c = omega (arith, end-le (c .before .before .args .form) (c .before .before .args .n) (c .before .before .args .k) (c .before .before .pre))
 
 add-result-3 : tie.Need-add-result-3
-add-result-3 c = omega (arith, end-le (c .args .head) (c .args .w) (c .args .n) (c .args .k) (c .pre))
+add-result-3 c = omega (arith, end-le (c .before .before .args .form) (c .before .before .args .n) (c .before .before .args .k) (c .before .before .pre))
 
 returns : tie.Need-returns
 returns c = search needs

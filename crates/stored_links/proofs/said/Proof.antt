@@ -5,7 +5,7 @@ use Rattle.stored_links.specs.Laws.Sizes.{end-le}
 use Rattle.stored_links.proofs.said.Statement.{statement}
 use Rattle.stored_links.proofs.said.Tie as tie
 
-small : (c : tie.After-row-count) → Small (c .before .before .before .args .head) (c .before .before .before .args .w) (c .before .images .result) (c .row-count .result)
+small : (c : tie.After-row-count) → Small (c .before .before .before .args .form) (c .before .images .result) (c .row-count .result)
 small c =
     let s = c .before .before .before .pre .1 in
     record {
@@ -25,11 +25,11 @@ row-count-requires c κs = (c .before .before .pre .1 .short, c .before .before 
 row-at-requires : tie.Need-row-at-requires
 row-at-requires c κs = small c
 
-add-t7 : tie.Need-add-t7
-add-t7 c =
+add-t6 : tie.Need-add-t6
+add-t6 c =
     let r = c .before in
     let a = r .before .before .before .args in
-    omega (arith, c .row-at .ensures, end-le (a .head) (a .w) (r .before .images .result) (r .row-count .result) (small r))
+    omega (arith, c .row-at .ensures, end-le (a .form) (r .before .images .result) (r .row-count .result) (small r))
 
 returns : tie.Need-returns
 returns c = rw (c .row-at .ensures, c .before .before .images .ensures, c .before .row-count .ensures)
@@ -41,5 +41,5 @@ said-spec =
     images-requires
     row-count-requires
     row-at-requires
-    add-t7
+    add-t6
     returns)

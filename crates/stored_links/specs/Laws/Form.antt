@@ -15,94 +15,95 @@ use Rattle.bits.specs.Laws.Parts.{over-at-twice}
 use Rattle.bits.specs.Laws.Written.{written}
 use Rattle.stored_links.specs.Form.{linkBytes, linkForm, linkUsed, rowAt, rowWidth, rowsTo}
 use Rattle.stored_links.specs.Laws.Rows.{length-rows}
+use Rattle.bits.specs.declared.Form.{Form}
 
-module _ (head mark w n : ℕ) (l v : List ℕ) where
+module _ (form : Form) (n : ℕ) (l v : List ℕ) where
   -- the bits in front of the rows
   unfoldable pub frontBits : List ℕ
-  frontBits = (bitsOf head mark ++ bitsOf 7 n) ++ bitsOf 7 (length l)
+  frontBits = (bitsOf (form .head) (form .mark) ++ bitsOf 7 n) ++ bitsOf 7 (length l)
 
   -- the bits of the rows
   unfoldable pub allRows : List ℕ
-  allRows = formBits (rowsTo w n (λ k. getD l k 0) (λ k. getD v k 0) (length l))
+  allRows = formBits (rowsTo (form .width) n (λ k. getD l k 0) (λ k. getD v k 0) (length l))
 
   -- all bits, without the fill bits
   unfoldable pub linkBits : List ℕ
-  linkBits = formBits (linkForm head mark w n l v)
+  linkBits = formBits (linkForm form n l v)
 
   pub link-parts : linkBits ≡ frontBits ++ allRows
   unfolding frontBits allRows linkBits linkForm formBits
   link-parts =
-      let h = bitsOf head mark in
+      let h = bitsOf (form .head) (form .mark) in
       let m = bitsOf 7 n in
       let c = bitsOf 7 (length l) in
       sym (append-assoc (h ++ m) c allRows ∙ append-assoc h m (c ++ allRows))
 
-  pub length-all-rows : length allRows ≡ rowWidth w n * length l
+  pub length-all-rows : length allRows ≡ rowWidth (form .width) n * length l
   unfolding allRows
-  length-all-rows = length-rows w n (λ k. getD l k 0) (λ k. getD v k 0) (length l)
+  length-all-rows = length-rows (form .width) n (λ k. getD l k 0) (λ k. getD v k 0) (length l)
 
-  length-two : length (bitsOf head mark ++ bitsOf 7 n) ≡ head + 7
-  length-two = omega (arith, length-append (bitsOf head mark) (bitsOf 7 n), length-bitsOf head mark, length-bitsOf 7 n)
+  length-two : length (bitsOf (form .head) (form .mark) ++ bitsOf 7 n) ≡ form .head + 7
+  length-two = omega (arith, length-append (bitsOf (form .head) (form .mark)) (bitsOf 7 n), length-bitsOf (form .head) (form .mark), length-bitsOf 7 n)
 
-  pub length-front : length frontBits ≡ head + 14
+  pub length-front : length frontBits ≡ form .head + 14
   unfolding frontBits
-  length-front = omega (arith, length-two, length-append (bitsOf head mark ++ bitsOf 7 n) (bitsOf 7 (length l)), length-bitsOf 7 (length l))
+  length-front = omega (arith, length-two, length-append (bitsOf (form .head) (form .mark) ++ bitsOf 7 n) (bitsOf 7 (length l)), length-bitsOf 7 (length l))
 
-  pub length-link-bits : length linkBits ≡ rowAt head w n (length l)
+  pub length-link-bits : length linkBits ≡ rowAt form n (length l)
   length-link-bits = ap length link-parts ∙ omega (arith, length-append frontBits allRows, length-front, length-all-rows)
 
   pub all-bits-links : AllBits linkBits
   unfolding linkBits
-  all-bits-links = all-bits-form (linkForm head mark w n l v)
+  all-bits-links = all-bits-form (linkForm form n l v)
 
   -- the exact count of bytes
-  pub length-links : length (linkBytes head mark w n l v) ≡ linkUsed head w n (length l)
+  pub length-links : length (linkBytes form n l v) ≡ linkUsed form n (length l)
   unfolding linkBytes formBytes linkBits
   length-links = length-packed linkBits ∙ ap bytesFor length-link-bits
 
-  pub all-bytes-links : AllBytes (linkBytes head mark w n l v)
+  pub all-bytes-links : AllBytes (linkBytes form n l v)
   unfolding linkBytes formBytes linkBits
   all-bytes-links = all-bytes-packed linkBits all-bits-links
 
   -- what follows the bytes follows the fill bits
-  pub bits-links-then : (behind : List ℕ) → bits (linkBytes head mark w n l v ++ behind) ≡ frontBits ++ (allRows ++ (bitsOf (fillWidth (rowAt head w n (length l))) 0 ++ bits behind))
+  pub bits-links-then : (behind : List ℕ) → bits (linkBytes form n l v ++ behind) ≡ frontBits ++ (allRows ++ (bitsOf (fillWidth (rowAt form n (length l))) 0 ++ bits behind))
   unfolding linkBytes formBytes linkBits
   bits-links-then behind =
-      let z = bitsOf (fillWidth (rowAt head w n (length l))) 0 in
+      let z = bitsOf (fillWidth (rowAt form n (length l))) 0 in
       bits-packed-then linkBits all-bits-links behind
       ∙ ap (λ (x : ℕ). linkBits ++ (bitsOf (fillWidth x) 0 ++ bits behind)) length-link-bits
       ∙ ap (λ (x : List ℕ). x ++ (z ++ bits behind)) link-parts
       ∙ append-assoc frontBits allRows (z ++ bits behind)
 
   -- five writes, one behind the other, make the form
-  pub written-links : (old b1 b2 b3 b4 new : List ℕ) → AllBytes old → AllBytes new → linkUsed head w n (length l) ≤ length old
-      → bits b1 ≡ overAt (bits old) 0 (bitsOf head mark)
-      → bits b2 ≡ overAt (bits b1) head (bitsOf 7 n)
-      → bits b3 ≡ overAt (bits b2) (head + 7) (bitsOf 7 (length l))
-      → bits b4 ≡ overAt (bits b3) (head + 14) (formBits (rowsTo w n (λ k. getD l k 0) (λ k. getD v k 0) (length l)))
-      → bits new ≡ overAt (bits b4) (rowAt head w n (length l)) (bitsOf (fillWidth (rowAt head w n (length l))) 0)
-      → new ≡ front (linkBytes head mark w n l v) old
+  pub written-links : (old b1 b2 b3 b4 new : List ℕ) → AllBytes old → AllBytes new → linkUsed form n (length l) ≤ length old
+      → bits b1 ≡ overAt (bits old) 0 (bitsOf (form .head) (form .mark))
+      → bits b2 ≡ overAt (bits b1) (form .head) (bitsOf 7 n)
+      → bits b3 ≡ overAt (bits b2) (form .head + 7) (bitsOf 7 (length l))
+      → bits b4 ≡ overAt (bits b3) (form .head + 14) (formBits (rowsTo (form .width) n (λ k. getD l k 0) (λ k. getD v k 0) (length l)))
+      → bits new ≡ overAt (bits b4) (rowAt form n (length l)) (bitsOf (fillWidth (rowAt form n (length l))) 0)
+      → new ≡ front (linkBytes form n l v) old
   unfolding linkBytes formBytes filled frontBits allRows linkBits
   written-links old b1 b2 b3 b4 new ho hn room e1 e2 e3 e4 e5 =
       let o = bits old in
-      let h = bitsOf head mark in
+      let h = bitsOf (form .head) (form .mark) in
       let m = bitsOf 7 n in
       let c = bitsOf 7 (length l) in
       let lo = length-bits old in
-      let lh = length-bitsOf head mark in
+      let lh = length-bitsOf (form .head) (form .mark) in
       let lm = length-bitsOf 7 n in
       let lc = length-bitsOf 7 (length l) in
       let l2 = length-two in
       let l3 = length-front in
       let lr = length-all-rows in
       let lb = length-link-bits in
-      let end = rowAt head w n (length l) in
+      let end = rowAt form n (length l) in
       let z = bitsOf (fillWidth end) 0 in
       let lz = length-bitsOf (fillWidth end) 0 in
-      let s2 : bits b2 ≡ overAt o 0 (h ++ m) = e2 ∙ ap (λ (x : List ℕ). overAt x head m) e1 ∙ over-at-twice o 0 h m head (omega arith) (omega arith) in
-      let s3 : bits b3 ≡ overAt o 0 frontBits = e3 ∙ ap (λ (x : List ℕ). overAt x (head + 7) c) s2 ∙ over-at-twice o 0 (h ++ m) c (head + 7) (omega arith) (omega arith) in
+      let s2 : bits b2 ≡ overAt o 0 (h ++ m) = e2 ∙ ap (λ (x : List ℕ). overAt x (form .head) m) e1 ∙ over-at-twice o 0 h m (form .head) (omega arith) (omega arith) in
+      let s3 : bits b3 ≡ overAt o 0 frontBits = e3 ∙ ap (λ (x : List ℕ). overAt x (form .head + 7) c) s2 ∙ over-at-twice o 0 (h ++ m) c (form .head + 7) (omega arith) (omega arith) in
       let s4 : bits b4 ≡ overAt o 0 linkBits =
-      e4 ∙ ap (λ (x : List ℕ). overAt x (head + 14) allRows) s3 ∙ over-at-twice o 0 frontBits allRows (head + 14) (omega arith) (omega arith) ∙ ap (overAt o 0) (sym link-parts) in
+      e4 ∙ ap (λ (x : List ℕ). overAt x (form .head + 14) allRows) s3 ∙ over-at-twice o 0 frontBits allRows (form .head + 14) (omega arith) (omega arith) ∙ ap (overAt o 0) (sym link-parts) in
       let s5 : bits new ≡ overAt o 0 (linkBits ++ z) = e5 ∙ ap (λ (x : List ℕ). overAt x end z) s4 ∙ over-at-twice o 0 linkBits z end (omega arith) (omega arith) in
       written old new linkBits all-bits-links ho hn (omega arith)
       (s5 ∙ ap (λ (x : ℕ). overAt o 0 (linkBits ++ bitsOf (fillWidth x) 0)) (sym lb))

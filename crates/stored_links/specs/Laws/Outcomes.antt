@@ -11,6 +11,7 @@ use Rattle.ground.specs.declared.Check.the-variants.{Passed, Refused}
 use Rattle.ground.specs.declared.Refusal.{Refusal}
 use Rattle.stored_links.specs.Outcomes.{rowsIf, tableIf}
 use Rattle.stored_links.specs.declared.StoredLinks.the-variants.{Table}
+use Rattle.bits.specs.declared.Form.{Form}
 use Rattle.stored_links.specs.declared.StoredLinks.the-variants as stored
 
 pub table-passed : (c : Check) (m M v n N used : ℕ) → tableIf c m M v ≡ Table n N used → (c ≡ Passed) × (m ≡ n) × (M ≡ N) × (v ≡ used)
@@ -22,9 +23,9 @@ table-refused Passed m M v r e = absurd (let q : _≡_ {A = ℕ} 0 1 = cc in ome
 table-refused (Refused q) m M v r e = let z : q ≡ r = cc in ap Refused z
 
 -- refused, nothing is altered
-pub refused-alters-nothing : {c : Check} {r : Refusal} (head w : ℕ) (s f v : List ℕ) → c ≡ Refused r
-    → rowsIf c head w s f v ≡ record { answer = stored.Refused r; far-list = f; cost-list = v }
-refused-alters-nothing head w s f v e = rw e
+pub refused-alters-nothing : {c : Check} {r : Refusal} (form : Form) (s f v : List ℕ) → c ≡ Refused r
+    → rowsIf c form s f v ≡ record { answer = stored.Refused r; far-list = f; cost-list = v }
+refused-alters-nothing form s f v e = rw e
 
 -- the front that was written, taken again
 pub front-taken : (k : ℕ) (m d e : List ℕ) → length m ≡ k → e ≡ front m d → take k e ≡ m

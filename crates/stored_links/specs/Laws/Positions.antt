@@ -16,20 +16,21 @@ use Rattle.bits.specs.Kinds.{misplaced, positionCheck}
 use Rattle.stored_links.specs.Form.{linkUsed}
 use Rattle.stored_links.specs.Laws.Outcomes.{table-passed, table-refused}
 use Rattle.stored_links.specs.Laws.Passed.{Stored, head-passed, passed-read, read-passed, room-goes}
-use Rattle.stored_links.specs.Outcomes.{judged, judgedTable, saidIf}
+use Rattle.stored_links.specs.Outcomes.{judged}
 use Rattle.stored_links.specs.Reading.{readAtChecks, readChecks, tableAtChecks}
 use Rattle.stored_links.specs.Said.{countOf, imagesOf, usedOf}
 use Rattle.stored_links.specs.declared.StoredLinks.the-variants.{Table}
+use Rattle.bits.specs.declared.Form.{Form}
 use Rattle.stored_links.specs.declared.StoredLinks.the-variants as stored
 
 -- the answer is this table: what it says of the bytes from the position on
-pub record TableAt (head w L : ℕ) (bytes : List ℕ) (position n N used : ℕ) : Type 0 where
+pub record TableAt (form : Form) (bytes : List ℕ) (position n N used : ℕ) : Type 0 where
   pub inside : position / 8 ≤ length bytes
   pub aligned : position % 8 ≡ 0
-  pub stored : Stored head w L n N (drop (position / 8) bytes)
-  pub used-is : linkUsed head w n N ≡ used
+  pub stored : Stored form n N (drop (position / 8) bytes)
+  pub used-is : linkUsed form n N ≡ used
 
-module _ (head w L : ℕ) (bytes : List ℕ) (position : ℕ) where
+module _ (form : Form) (bytes : List ℕ) (position : ℕ) where
   pub position-passed : positionCheck bytes position ≡ Passed → (position / 8 ≤ length bytes) × (position % 8 ≡ 0)
   position-passed e =
       let q = or-false (ltb (length bytes) (position / 8)) (ltb 0 (position % 8)) (refuseIf-passed (misplaced (length bytes) position) _ e) in
@@ -37,39 +38,36 @@ module _ (head w L : ℕ) (bytes : List ℕ) (position : ℕ) where
       (ltb-false (length bytes) (position / 8) (q .0), omega (arith, z))
 
   -- the position is a byte's start within the bytes, and a table stands there that has room
-  pub read-at-passed : (room : ℕ) → readAtChecks head w L bytes position room ≡ Passed
-      → TableAt head w L bytes position (imagesOf head (drop (position / 8) bytes)) (countOf head (drop (position / 8) bytes)) (usedOf head w (drop (position / 8) bytes))
-      × (2 * imagesOf head (drop (position / 8) bytes) - 3 ≤ room)
+  pub read-at-passed : (room : ℕ) → readAtChecks form bytes position room ≡ Passed
+      → TableAt form bytes position (imagesOf form (drop (position / 8) bytes)) (countOf form (drop (position / 8) bytes)) (usedOf form (drop (position / 8) bytes))
+      × (2 * imagesOf form (drop (position / 8) bytes) - 3 ≤ room)
   read-at-passed room e =
       let s = drop (position / 8) bytes in
-      let p = then-passed (positionCheck bytes position) (readChecks head w L s room) e in
+      let p = then-passed (positionCheck bytes position) (readChecks form s room) e in
       let q = position-passed (p .0) in
-      let r = read-passed head w L s room (p .1) in
+      let r = read-passed form s room (p .1) in
       (record { inside = q .0; aligned = q .1; stored = r .0; used-is = refl }, r .1)
 
-  pub table-at : (room n N used : ℕ) → judged head w L bytes position room ≡ Table n N used
-      → (readAtChecks head w L bytes position room ≡ Passed) × TableAt head w L bytes position n N used × (2 * n - 3 ≤ room)
+  pub table-at : (room n N used : ℕ) → judged form bytes position room ≡ Table n N used
+      → (readAtChecks form bytes position room ≡ Passed) × TableAt form bytes position n N used × (2 * n - 3 ≤ room)
   table-at room n N used e =
       let s = drop (position / 8) bytes in
-      let t = table-passed (readAtChecks head w L bytes position room) (imagesOf head s) (countOf head s) (usedOf head w s) n N used e in
+      let t = table-passed (readAtChecks form bytes position room) (imagesOf form s) (countOf form s) (usedOf form s) n N used e in
       let p = read-at-passed room (t .0) in
       (t .0, rw (← (t .1), ← (t .2), ← (t .3)) (p .0), rw (← (t .1)) (p .1))
 
-  pub refused-at : (room : ℕ) (r : Refusal) → judged head w L bytes position room ≡ stored.Refused r → readAtChecks head w L bytes position room ≡ Refused r
+  pub refused-at : (room : ℕ) (r : Refusal) → judged form bytes position room ≡ stored.Refused r → readAtChecks form bytes position room ≡ Refused r
   refused-at room r e =
       let s = drop (position / 8) bytes in
-      table-refused (readAtChecks head w L bytes position room) (imagesOf head s) (countOf head s) (usedOf head w s) r e
+      table-refused (readAtChecks form bytes position room) (imagesOf form s) (countOf form s) (usedOf form s) r e
 
   -- a table that stands there is accepted, where there is room
-  pub accepted-at : (n N used : ℕ) → TableAt head w L bytes position n N used → (room : ℕ) → 2 * n - 3 ≤ room → readAtChecks head w L bytes position room ≡ Passed
+  pub accepted-at : (n N used : ℕ) → TableAt form bytes position n N used → (room : ℕ) → 2 * n - 3 ≤ room → readAtChecks form bytes position room ≡ Passed
   accepted-at n N used t room h =
-      rw (le-ltb (length bytes) (position / 8) (t .inside), t .aligned) (passed-read head w L (drop (position / 8) bytes) n N room (t .stored) h)
+      rw (le-ltb (length bytes) (position / 8) (t .inside), t .aligned) (passed-read form (drop (position / 8) bytes) n N room (t .stored) h)
 
   -- with 125 places in each output 3 is never the answer, so the answer is that of the checks without 3
-  pub enough-room : (room : ℕ) → 125 ≤ room → readAtChecks head w L bytes position room ≡ tableAtChecks head w L bytes position
+  pub enough-room : (room : ℕ) → 125 ≤ room → readAtChecks form bytes position room ≡ tableAtChecks form bytes position
   enough-room room h =
       let s = drop (position / 8) bytes in
-      ap (λ (c : Check). positionCheck bytes position then c) (room-goes head w L s room (λ e. omega (arith, head-passed head s e .2)))
-
-  pub judged-enough : (room : ℕ) → 125 ≤ room → judged head w L bytes position room ≡ judgedTable head w L bytes position
-  judged-enough room h = ap (λ (c : Check). saidIf c head w (drop (position / 8) bytes)) (enough-room room h)
+      ap (λ (c : Check). positionCheck bytes position then c) (room-goes form s room (λ e. omega (arith, head-passed form s e .2)))

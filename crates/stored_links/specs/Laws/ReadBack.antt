@@ -21,105 +21,106 @@ use Rattle.stored_links.specs.Form.{linkBytes, linkUsed, rowAt}
 use Rattle.stored_links.specs.Laws.Form.{allRows, bits-links-then, frontBits, length-all-rows, length-front, length-links}
 use Rattle.stored_links.specs.Laws.Passed.{Stored}
 use Rattle.stored_links.specs.Laws.Rows.{cost-found, far-found}
-use Rattle.stored_links.specs.Said.{costOf, costsOf, countOf, farOf, farsOf, fillOf, imagesOf}
+use Rattle.stored_links.specs.Said.{costAt, costsOf, countOf, farAt, farsOf, fillOf, imagesOf}
 use types.Part.{whole}
+use Rattle.bits.specs.declared.Form.{Form}
 
 -- a far side without image 0 is twice its half, and its half fits one bit less
 pub half-fits : (n S : ℕ) → 3 ≤ n → S < 2 ^ n → S / 2 < 2 ^ (n - 1)
 half-fits n S h k = let e : n ≡ suc (n - 1) = omega arith in omega (arith, ap (λ (x : ℕ). 2 ^ x) e)
 
-module _ (head mark w L n N : ℕ) (l v behind : List ℕ) (t : Links L n N l v) (fits : 2 * L < 2 ^ w) where
+module _ (form : Form) (n N : ℕ) (l v behind : List ℕ) (t : Links (form .limit) n N l v) (fits : 2 * form .limit < 2 ^ form .width) where
   s : List ℕ
-  s = linkBytes head mark w n l v ++ behind
+  s = linkBytes form n l v ++ behind
 
   end : ℕ
-  end = rowAt head w n (length l)
+  end = rowAt form n (length l)
 
-  good : (k : ℕ) → k < length l → GoodRow L n l v k
-  good k h = link-rows L n l v (t .counted ∙ sym (t .costed)) (t .table) k h
+  good : (k : ℕ) → k < length l → GoodRow (form .limit) n l v k
+  good k h = link-rows (form .limit) n l v (t .counted ∙ sym (t .costed)) (t .table) k h
 
   -- n to 2 n - 3 rows
   pub count-fits : (n ≤ N) × (N ≤ 2 * n - 3)
   count-fits =
-      let c = row-count L n (rowsOf l v) (t .some) (t .table) in
+      let c = row-count (form .limit) n (rowsOf l v) (t .some) (t .table) in
       let q = rows-length l v (t .counted ∙ sym (t .costed)) in
       (omega (arith, t .counted), omega (arith, t .counted))
 
-  images-is : imagesOf head s ≡ n
+  images-is : imagesOf form s ≡ n
   unfolding imagesOf frontBits s end
   images-is =
-      let h = bitsOf head mark in
+      let h = bitsOf (form .head) (form .mark) in
       let m = bitsOf 7 n in
-      let r = allRows head mark w n l v ++ (bitsOf (fillWidth end) 0 ++ bits behind) in
+      let r = allRows form n l v ++ (bitsOf (fillWidth end) 0 ++ bits behind) in
       let c = bitsOf 7 (length l) in
-      ap (λ (x : List ℕ). valueOf (part x head 7)) (bits-links-then head mark w n l v behind ∙ append-assoc (h ++ m) c r ∙ append-assoc h m (c ++ r))
-      ∙ ap valueOf (part-cut h m (c ++ r) head 7 (length-bitsOf head mark) (length-bitsOf 7 n))
+      ap (λ (x : List ℕ). valueOf (part x (form .head) 7)) (bits-links-then form n l v behind ∙ append-assoc (h ++ m) c r ∙ append-assoc h m (c ++ r))
+      ∙ ap valueOf (part-cut h m (c ++ r) (form .head) 7 (length-bitsOf (form .head) (form .mark)) (length-bitsOf 7 n))
       ∙ value-bits 7 n (omega (arith, t .few))
 
-  count-is : countOf head s ≡ N
+  count-is : countOf form s ≡ N
   unfolding countOf frontBits s end
   count-is =
-      let h = bitsOf head mark in
+      let h = bitsOf (form .head) (form .mark) in
       let m = bitsOf 7 n in
-      let r = allRows head mark w n l v ++ (bitsOf (fillWidth end) 0 ++ bits behind) in
+      let r = allRows form n l v ++ (bitsOf (fillWidth end) 0 ++ bits behind) in
       let c = bitsOf 7 (length l) in
       let f = count-fits in
-      ap (λ (x : List ℕ). valueOf (part x (head + 7) 7)) (bits-links-then head mark w n l v behind ∙ append-assoc (h ++ m) c r)
-      ∙ ap valueOf (part-cut (h ++ m) c r (head + 7) 7 (omega (arith, length-append h m, length-bitsOf head mark, length-bitsOf 7 n)) (length-bitsOf 7 (length l)))
+      ap (λ (x : List ℕ). valueOf (part x (form .head + 7) 7)) (bits-links-then form n l v behind ∙ append-assoc (h ++ m) c r)
+      ∙ ap valueOf (part-cut (h ++ m) c r (form .head + 7) 7 (omega (arith, length-append h m, length-bitsOf (form .head) (form .mark), length-bitsOf 7 n)) (length-bitsOf 7 (length l)))
       ∙ value-bits 7 (length l) (omega (arith, f .1, t .counted, t .few))
       ∙ t .counted
 
-  fill-is : fillOf head w n N s ≡ 0
+  fill-is : fillOf form n N s ≡ 0
   unfolding fillOf s end
   fill-is =
-      let a = frontBits head mark w n l v in
-      let b = allRows head mark w n l v in
+      let a = frontBits form n l v in
+      let b = allRows form n l v in
       let z = bitsOf (fillWidth end) 0 in
-      ap (λ (x : ℕ). valueOf (part (bits s) (rowAt head w n x) (fillWidth (rowAt head w n x)))) (sym (t .counted))
-      ∙ ap (λ (x : List ℕ). valueOf (part x end (fillWidth end))) (bits-links-then head mark w n l v behind ∙ sym (append-assoc a b (z ++ bits behind)))
-      ∙ ap valueOf (part-cut (a ++ b) z (bits behind) end (fillWidth end) (omega (arith, length-append a b, length-front head mark w n l v, length-all-rows head mark w n l v)) (length-bitsOf (fillWidth end) 0))
+      ap (λ (x : ℕ). valueOf (part (bits s) (rowAt form n x) (fillWidth (rowAt form n x)))) (sym (t .counted))
+      ∙ ap (λ (x : List ℕ). valueOf (part x end (fillWidth end))) (bits-links-then form n l v behind ∙ sym (append-assoc a b (z ++ bits behind)))
+      ∙ ap valueOf (part-cut (a ++ b) z (bits behind) end (fillWidth end) (omega (arith, length-append a b, length-front form n l v, length-all-rows form n l v)) (length-bitsOf (fillWidth end) 0))
       ∙ value-bits (fillWidth end) 0 (pow-pos (fillWidth end))
 
-  far-is : (k : ℕ) → k < N → getD l k 0 ≡ farOf head w n s k
-  unfolding farOf allRows s end
+  far-is : (k : ℕ) → k < N → getD l k 0 ≡ farAt form n s k
+  unfolding farAt allRows s end
   far-is k h =
       let q : k < length l = omega (arith, t .counted) in
       let r = bitsOf (fillWidth end) 0 ++ bits behind in
-      let a = frontBits head mark w n l v in
+      let a = frontBits form n l v in
       let g = good k q in
-      let e : valueOf (part (bits s) (rowAt head w n k) (n - 1)) ≡ getD l k 0 / 2 =
-      ap (λ (x : List ℕ). valueOf (part x (rowAt head w n k) (n - 1))) (bits-links-then head mark w n l v behind)
-      ∙ ap valueOf (far-found w n (λ j. getD l j 0) (λ j. getD v j 0) a r (head + 14) k (length l) (length-front head mark w n l v) q)
+      let e : valueOf (part (bits s) (rowAt form n k) (n - 1)) ≡ getD l k 0 / 2 =
+      ap (λ (x : List ℕ). valueOf (part x (rowAt form n k) (n - 1))) (bits-links-then form n l v behind)
+      ∙ ap valueOf (far-found (form .width) n (λ j. getD l j 0) (λ j. getD v j 0) a r (form .head + 14) k (length l) (length-front form n l v) q)
       ∙ value-bits (n - 1) (getD l k 0 / 2) (half-fits n (getD l k 0) (t .some) (g .fits)) in
       omega (arith, e, g .near)
 
-  cost-is : (k : ℕ) → k < N → getD v k 0 ≡ costOf head w n s k
-  unfolding costOf allRows s end
+  cost-is : (k : ℕ) → k < N → getD v k 0 ≡ costAt form n s k
+  unfolding costAt allRows s end
   cost-is k h =
       let q : k < length l = omega (arith, t .counted) in
       let r = bitsOf (fillWidth end) 0 ++ bits behind in
-      let a = frontBits head mark w n l v in
+      let a = frontBits form n l v in
       let g = good k q in
-      sym (ap (λ (x : List ℕ). valueOf (part x (rowAt head w n k + (n - 1)) w)) (bits-links-then head mark w n l v behind)
-      ∙ ap valueOf (cost-found w n (λ j. getD l j 0) (λ j. getD v j 0) a r (head + 14) k (length l) (length-front head mark w n l v) q)
-      ∙ value-bits w (getD v k 0) (lt-of-le-of-lt (g .small) fits))
+      sym (ap (λ (x : List ℕ). valueOf (part x (rowAt form n k + (n - 1)) (form .width))) (bits-links-then form n l v behind)
+      ∙ ap valueOf (cost-found (form .width) n (λ j. getD l j 0) (λ j. getD v j 0) a r (form .head + 14) k (length l) (length-front form n l v) q)
+      ∙ value-bits (form .width) (getD v k 0) (lt-of-le-of-lt (g .small) fits))
 
   -- the rows are those that were written
-  pub written-fars : farsOf head w n N (linkBytes head mark w n l v ++ behind) ≡ l
+  pub written-fars : farsOf form n N (linkBytes form n l v ++ behind) ≡ l
   unfolding s
-  written-fars = listed-is (farOf head w n s) N l (t .counted) far-is
+  written-fars = listed-is (farAt form n s) N l (t .counted) far-is
 
-  pub written-costs : costsOf head w n N (linkBytes head mark w n l v ++ behind) ≡ v
+  pub written-costs : costsOf form n N (linkBytes form n l v ++ behind) ≡ v
   unfolding s
-  written-costs = listed-is (costOf head w n s) N v (t .costed) cost-is
+  written-costs = listed-is (costAt form n s) N v (t .costed) cost-is
 
   -- and the bytes begin with a stored link table
-  pub written-stored : Stored head w L n N (linkBytes head mark w n l v ++ behind)
+  pub written-stored : Stored form n N (linkBytes form n l v ++ behind)
   unfolding s
   written-stored =
-      let lc = length-links head mark w n l v in
-      let la = length-append (linkBytes head mark w n l v) behind in
-      let u : linkUsed head w n N ≤ length (linkBytes head mark w n l v ++ behind) = rw (← (t .counted)) (omega (arith, lc, la)) in
+      let lc = length-links form n l v in
+      let la = length-append (linkBytes form n l v) behind in
+      let u : linkUsed form n N ≤ length (linkBytes form n l v ++ behind) = rw (← (t .counted)) (omega (arith, lc, la)) in
       record {
         begun = omega (arith, u);
         images = images-is;

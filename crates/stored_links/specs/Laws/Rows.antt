@@ -15,7 +15,8 @@ use Rattle.bits.specs.Laws.Forms.{form-append}
 use Rattle.bits.specs.Laws.Numbers.{all-bits-bytes, all-bits-part, bits-value, length-bitsOf}
 use Rattle.bits.specs.Laws.Parts.{length-part, over-at-none, over-at-twice, part-cut, part-more}
 use Rattle.stored_links.specs.Form.{rowAt, rowFields, rowWidth, rowsTo}
-use Rattle.stored_links.specs.Said.{costOf, farOf}
+use Rattle.stored_links.specs.Said.{costAt, farAt}
+use Rattle.bits.specs.declared.Form.{Form}
 
 -- bits read as a number are the bits of that number
 pub part-again : (l : List ℕ) (position w : ℕ) → AllBits l → position + w ≤ length l → bitsOf w (valueOf (part l position w)) ≡ part l position w
@@ -105,30 +106,30 @@ rows-same w n f g d e (suc m) h =
     rw (ih, q .0, q .1)
 
 -- row k read is the bits it stands in
-row-again : (head w n : ℕ) (s : List ℕ) (k : ℕ) → rowAt head w n k + rowWidth w n ≤ length (bits s)
-    → formBits (rowFields w n (farOf head w n s k) (costOf head w n s k)) ≡ part (bits s) (rowAt head w n k) (rowWidth w n)
-unfolding farOf costOf
-row-again head w n s k h =
+row-again : (form : Form) (n : ℕ) (s : List ℕ) (k : ℕ) → rowAt form n k + rowWidth (form .width) n ≤ length (bits s)
+    → formBits (rowFields (form .width) n (farAt form n s k) (costAt form n s k)) ≡ part (bits s) (rowAt form n k) (rowWidth (form .width) n)
+unfolding farAt costAt
+row-again form n s k h =
     let l = bits s in
     let b = all-bits-bytes s in
-    let p = rowAt head w n k in
+    let p = rowAt form n k in
     let x = valueOf (part l p (n - 1)) in
     let q : 2 * x / 2 ≡ x = omega arith in
-    row-bits w n (2 * x) (valueOf (part l (p + (n - 1)) w))
-    ∙ ap₂ (λ (y z : List ℕ). y ++ z) (ap (bitsOf (n - 1)) q ∙ part-again l p (n - 1) b (omega arith)) (part-again l (p + (n - 1)) w b (omega arith))
-    ∙ sym (part-more l p (n - 1) w)
+    row-bits (form .width) n (2 * x) (valueOf (part l (p + (n - 1)) (form .width)))
+    ∙ ap₂ (λ (y z : List ℕ). y ++ z) (ap (bitsOf (n - 1)) q ∙ part-again l p (n - 1) b (omega arith)) (part-again l (p + (n - 1)) (form .width) b (omega arith))
+    ∙ sym (part-more l p (n - 1) (form .width))
 
 -- the first m rows read are the bits they stand in
-pub rows-again : (head w n : ℕ) (s : List ℕ) (m : ℕ) → rowAt head w n m ≤ length (bits s)
-    → formBits (rowsTo w n (farOf head w n s) (costOf head w n s) m) ≡ part (bits s) (head + 14) (rowWidth w n * m)
+pub rows-again : (form : Form) (n : ℕ) (s : List ℕ) (m : ℕ) → rowAt form n m ≤ length (bits s)
+    → formBits (rowsTo (form .width) n (farAt form n s) (costAt form n s) m) ≡ part (bits s) (form .head + 14) (rowWidth (form .width) n * m)
 unfolding rowsTo formBits part
-rows-again head w n s zero h = rw mul-zero
-rows-again head w n s (suc m) h =
+rows-again form n s zero h = rw mul-zero
+rows-again form n s (suc m) h =
     let l = bits s in
-    let ih = rows-again head w n s m (omega (arith, mul-suc (rowWidth w n) m)) in
-    rows-suc w n (farOf head w n s) (costOf head w n s) m
-    ∙ ap₂ (λ (x y : List ℕ). x ++ y) ih (row-again head w n s m (omega (arith, mul-suc (rowWidth w n) m)))
-    ∙ sym (ap (part l (head + 14)) (mul-suc (rowWidth w n) m) ∙ part-more l (head + 14) (rowWidth w n * m) (rowWidth w n))
+    let ih = rows-again form n s m (omega (arith, mul-suc (rowWidth (form .width) n) m)) in
+    rows-suc (form .width) n (farAt form n s) (costAt form n s) m
+    ∙ ap₂ (λ (x y : List ℕ). x ++ y) ih (row-again form n s m (omega (arith, mul-suc (rowWidth (form .width) n) m)))
+    ∙ sym (ap (part l (form .head + 14)) (mul-suc (rowWidth (form .width) n) m) ∙ part-more l (form .head + 14) (rowWidth (form .width) n * m) (rowWidth (form .width) n))
 
 -- two writes, one behind the other, make a row
 pub row-over : (w n S c position : ℕ) (l x y : List ℕ) → position + rowWidth w n ≤ length l

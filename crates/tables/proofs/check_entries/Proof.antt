@@ -10,10 +10,10 @@ use Rattle.tables.proofs.check_entries.Statement.{statement}
 use Rattle.tables.proofs.check_entries.Tie as tie
 
 abbrev Inv-loop : tie.InvT-loop
-Inv-loop limit n t i₀ i = (i ≤ n) × (checkAll (λ i. checkAll (entryCheck limit (cost t n) i) 0 n) 0 n ≡ checkAll (λ i. checkAll (entryCheck limit (cost t n) i) 0 n) i (n - i))
+Inv-loop most n t i₀ i = (i ≤ n) × (checkAll (λ i. checkAll (entryCheck most (cost t n) i) 0 n) 0 n ≡ checkAll (λ i. checkAll (entryCheck most (cost t n) i) 0 n) i (n - i))
 
 abbrev μ-loop : tie.MeasureT-loop
-μ-loop limit n t i₀ i = n - i
+μ-loop most n t i₀ i = n - i
 
 loop-holds : tie.Need-loop-holds Inv-loop μ-loop
 loop-holds c = (search needs, all-begins _ _)

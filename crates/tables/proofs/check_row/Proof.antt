@@ -10,10 +10,10 @@ use Rattle.tables.proofs.check_row.Statement.{statement}
 use Rattle.tables.proofs.check_row.Tie as tie
 
 abbrev Inv-loop : tie.InvT-loop
-Inv-loop limit n t i j₀ j = (j ≤ n) × (checkAll (entryCheck limit (cost t n) i) 0 n ≡ checkAll (entryCheck limit (cost t n) i) j (n - j))
+Inv-loop most n t i j₀ j = (j ≤ n) × (checkAll (entryCheck most (cost t n) i) 0 n ≡ checkAll (entryCheck most (cost t n) i) j (n - j))
 
 abbrev μ-loop : tie.MeasureT-loop
-μ-loop limit n t i j₀ j = n - j
+μ-loop most n t i j₀ j = n - j
 
 loop-holds : tie.Need-loop-holds Inv-loop μ-loop
 loop-holds c = (search needs, all-begins _ _)
