@@ -2,6 +2,8 @@
 pub mod Tables
 pub mod Batch
 pub mod Fitting
+-- Its checks by their numbers, in order.
+pub mod InOrder
 -- What is true of it.
 pub mod Laws
 pub mod Examples

@@ -10,3 +10,5 @@ pub mod Forms
 pub mod OneWidth
 pub mod Places
 pub mod Listed
+-- The checks of stored bytes by their numbers.
+pub mod InOrder

@@ -2,6 +2,8 @@
 pub mod Inclusion
 pub mod Call
 pub mod Read
+-- Its checks by their numbers, in order.
+pub mod InOrder
 -- Examples that antt computes.
 pub mod Examples
 -- What the answer is worth, and how the code meets it.

@@ -1,2 +1,4 @@
 -- What a call promises crosses unchanged.
 pub mod Crossing
+-- A call whose answer is the first refusal of its checks meets demand 1.
+pub mod Refusals

@@ -1,4 +1,8 @@
 -- What the contracts of `kemotuiki` cite: an outcome with its answer in numbers.
 pub mod Crossing
+-- Demand 1 of one call, and of every call.
+pub mod Refusals
+pub mod Demand1
+pub mod Demand1Stored
 -- What is true of it.
 pub mod Laws

@@ -4,6 +4,8 @@ pub mod Form
 pub mod Reading
 pub mod Outcomes
 pub mod Sizes
+-- Its checks by their numbers, in order.
+pub mod InOrder
 -- What is true of them.
 pub mod Laws
 pub mod Examples

@@ -4,6 +4,8 @@ pub mod Said
 pub mod Sizes
 pub mod Reading
 pub mod Outcomes
+-- Its checks by their numbers, in order.
+pub mod InOrder
 -- What is true of them.
 pub mod Laws
 pub mod Examples

@@ -1,0 +1,2 @@
+-- Every kind of answer crosses and nothing is lost.
+pub mod Kept

@@ -1,0 +1,51 @@
+-- The checks of a stored cost table by their numbers. Assumes nothing.
+use mathlib.Core.List.{List, [], _∷_}
+use Prim.Native.Nat.{ℕ, _*_, _+_, _-_, _/_}
+use native.Mathlib.Omega.{arith}
+use lib.ListN.{drop}
+use Rattle.ground.specs.InOrder.{InOrder}
+use Rattle.ground.specs.Laws.InOrder.{all-only, join-order, room-order, step-order}
+use Rattle.ground.specs.Lowest.{checkAll}
+use Rattle.ground.specs.Refusals.{roomCheck}
+use Rattle.ground.specs.Steps.{Step, _by_}
+use Rattle.theory.specs.Checks.{imagesCheck}
+use Rattle.theory.specs.Laws.InOrder.{images-order}
+use Rattle.tables.specs.Checks.{entryCheck}
+use Rattle.tables.specs.InOrder.{entry-only}
+use Rattle.bits.specs.Forms.{bytesFor}
+use Rattle.bits.specs.Kinds.{endCheck, fillCheck, positionCheck}
+use Rattle.bits.specs.Laws.InOrder.{end-order, fill-order, position-order}
+use Rattle.bits.specs.declared.Form.{Form}
+use Rattle.stored_costs.specs.Entries.{costOf}
+use Rattle.stored_costs.specs.Form.{costUsed, entryOf, fillOf, imagesOf}
+use Rattle.stored_costs.specs.Reading.{readAtChecks, readChecks, storedCheck}
+
+-- 4
+stored-order : (L : ℕ) (d : ℕ → ℕ → ℕ) (n : ℕ) → InOrder (4 by storedCheck L d n ∷ []) (storedCheck L d n)
+stored-order L d n =
+    step-order 4 (storedCheck L d n) (omega arith)
+    (all-only 4 (λ i. checkAll (entryCheck L d i) (i + 1) (n - (i + 1))) 0 n (λ i. all-only 4 (entryCheck L d i) (i + 1) (n - (i + 1)) (entry-only L d i)))
+
+-- 9, 1, 3, 9, 11, 4
+abbrev pub readSteps : Form → List ℕ → ℕ → List Step
+readSteps form s room =
+    9 by endCheck s (bytesFor (form .head + 7))
+    ∷ 1 by imagesCheck (imagesOf form s)
+    ∷ 3 by roomCheck (imagesOf form s * imagesOf form s) room
+    ∷ 9 by endCheck s (costUsed form (imagesOf form s))
+    ∷ 11 by fillCheck (fillOf form (imagesOf form s) s)
+    ∷ 4 by storedCheck (form .limit) (costOf (entryOf form s) (imagesOf form s)) (imagesOf form s)
+    ∷ []
+
+read-order : (form : Form) (s : List ℕ) (room : ℕ) → InOrder (readSteps form s room) (readChecks form s room)
+read-order form s room =
+    let n = imagesOf form s in
+    join-order (join-order (end-order s (bytesFor (form .head + 7))) (join-order (images-order n) (room-order (n * n) room)))
+    (join-order (join-order (end-order s (costUsed form n)) (fill-order (fillOf form n s))) (stored-order (form .limit) (costOf (entryOf form s) n) n))
+
+-- 9 of the position, then those of the bytes from there on
+abbrev pub readAtSteps : Form → List ℕ → ℕ → ℕ → List Step
+readAtSteps form bytes position room = 9 by positionCheck bytes position ∷ readSteps form (drop (position / 8) bytes) room
+
+pub read-at-order : (form : Form) (bytes : List ℕ) (position room : ℕ) → InOrder (readAtSteps form bytes position room) (readAtChecks form bytes position room)
+read-at-order form bytes position room = join-order (position-order bytes position) (read-order form (drop (position / 8) bytes) room)
