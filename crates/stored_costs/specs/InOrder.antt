@@ -16,7 +16,7 @@ use Rattle.bits.specs.Forms.{bytesFor}
 use Rattle.bits.specs.Kinds.{endCheck, fillCheck, positionCheck}
 use Rattle.bits.specs.Laws.InOrder.{end-order, fill-order, position-order}
 use Rattle.bits.specs.declared.Form.{Form}
-use Rattle.stored_costs.specs.Entries.{costOf}
+use Rattle.stored_costs.specs.Entries.{entryCost}
 use Rattle.stored_costs.specs.Form.{costUsed, entryOf, fillOf, imagesOf}
 use Rattle.stored_costs.specs.Reading.{readAtChecks, readChecks, storedCheck}
 
@@ -34,14 +34,14 @@ readSteps form s room =
     ∷ 3 by roomCheck (imagesOf form s * imagesOf form s) room
     ∷ 9 by endCheck s (costUsed form (imagesOf form s))
     ∷ 11 by fillCheck (fillOf form (imagesOf form s) s)
-    ∷ 4 by storedCheck (form .limit) (costOf (entryOf form s) (imagesOf form s)) (imagesOf form s)
+    ∷ 4 by storedCheck (form .limit) (entryCost (entryOf form s) (imagesOf form s)) (imagesOf form s)
     ∷ []
 
 read-order : (form : Form) (s : List ℕ) (room : ℕ) → InOrder (readSteps form s room) (readChecks form s room)
 read-order form s room =
     let n = imagesOf form s in
     join-order (join-order (end-order s (bytesFor (form .head + 7))) (join-order (images-order n) (room-order (n * n) room)))
-    (join-order (join-order (end-order s (costUsed form n)) (fill-order (fillOf form n s))) (stored-order (form .limit) (costOf (entryOf form s) n) n))
+    (join-order (join-order (end-order s (costUsed form n)) (fill-order (fillOf form n s))) (stored-order (form .limit) (entryCost (entryOf form s) n) n))
 
 -- 9 of the position, then those of the bytes from there on
 abbrev pub readAtSteps : Form → List ℕ → ℕ → ℕ → List Step
