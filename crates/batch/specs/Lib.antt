@@ -1,6 +1,7 @@
 -- What the batch writer answers and writes.
 pub mod Tables
 pub mod Batch
+pub mod ReadBack
 pub mod Fitting
 -- What is true of it.
 pub mod Laws

@@ -2,6 +2,7 @@
 pub mod Inclusion
 pub mod Call
 pub mod Read
+pub mod Taken
 -- Examples that antt computes.
 pub mod Examples
 -- What the answer is worth, and how the code meets it.

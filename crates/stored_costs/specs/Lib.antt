@@ -3,6 +3,7 @@ pub mod Entries
 pub mod Form
 pub mod Reading
 pub mod Outcomes
+pub mod Stored
 pub mod Sizes
 -- What is true of them.
 pub mod Laws

@@ -4,6 +4,7 @@ pub mod Said
 pub mod Sizes
 pub mod Reading
 pub mod Outcomes
+pub mod Stored
 -- What is true of them.
 pub mod Laws
 pub mod Examples
