@@ -14,7 +14,7 @@ ghost use Rattle.tree.specs.Growing.{Turned};
 ghost use Rattle.tree.specs.Held.{Held};
 ghost use Rattle.tree.specs.Putting.{loweredIn, Given, PutAll, Room};
 ghost use Rattle.tree.specs.Readings.{short, roomCheck, measuredCheck, exactCheck, measuredOutcome, exactOutcome};
-ghost use Rattle.tree.specs.Writing.{Wrote};
+ghost use Rattle.tree.specs.Writing.{RowsWritten};
 
 // The cost c, lowered by the value w, from which two limits are taken off.
 fn cost_more(c: u32, w: u32) -> u32
@@ -161,7 +161,7 @@ fn measured_rows(n: usize, t: &[u32], f: &mut [u64], v: &mut [u32]) -> usize
 // The measured reading of a cost table, written into slices that have room for it; the number of its rows.
 fn write_reading(n: usize, t: &[u32], fars: &mut [u64], costs: &mut [u32]) -> usize
     requires { ⌜ CostTable limit n (now t) × (2 * n - 3 ≤ length (now fars)) × (2 * n - 3 ≤ length (now costs)) ⌝ }
-    ensures { λ r. ⌜ Wrote (measured limit (cost (now (t .entry)) n) n) r (now (fars .entry)) (now (costs .entry)) (now (fars .exit)) (now (costs .exit)) ⌝ }
+    ensures { λ r. ⌜ RowsWritten (measured limit (cost (now (t .entry)) n) n) r (now (fars .entry)) (now (costs .entry)) (now (fars .exit)) (now (costs .exit)) ⌝ }
 {
     let mut f = [0u64; 128];
     let mut v = [0u32; 128];

@@ -7,8 +7,8 @@ use lib.Seq.{length-take-le}
 use borrow.Author.Needs.{needs}
 use Rattle.theory.specs.Tables.{limit}
 use Rattle.counts.specs.Differ.{differ}
-use Rattle.compare.specs.Read.{Listed}
-use Rattle.compare.specs.Laws.Read.{read-listed, read-refused}
+use Rattle.tree.specs.Exact.{SidesStand}
+use Rattle.tree.specs.Laws.Exact.{read-accepted, read-refused}
 use Rattle.compare.specs.declared.Comparison.the-variants.{Compared}
 use Rattle.ground.specs.Laws.Refusals.{if-goes, if-stops}
 use Rattle.compare.specs.declared.Comparison.the-variants as answer
@@ -28,25 +28,25 @@ enum-known-rows-2 : tie.Need-enum-known-rows-2
 enum-known-rows-2 c = search needs
 
 -- the far sides of the second tree, where its table was accepted
-listed : (c : tie.After-rows2)
-    → Listed limit (c .before .before .before .before .before .before .before .args .n) (c .before .before .before .before .before .before .before .args .second .now) (c .rows2 .given .0 .0) (c .before .before .before .read .last .1 .1 .0)
-listed c =
+stand : (c : tie.After-rows2)
+    → SidesStand limit (c .before .before .before .before .before .before .before .args .n) (c .before .before .before .before .before .before .before .args .second .now) (c .rows2 .given .0 .0) (c .before .before .before .read .last .1 .1 .0)
+stand c =
     let e = c .before .before .before in
     let s = e .before .before .before .before in
-    read-listed limit (s .args .n) (s .args .second .now) (s .pre .0) (s .pre .1) (e .read .ensures) (c .rows2 .given .1)
+    read-accepted limit (s .args .n) (s .args .second .now) (s .pre .0) (s .pre .1) (e .read .ensures) (c .rows2 .given .1)
 
 array-share-prefix-fars : tie.Need-array-share-prefix-fars
-array-share-prefix-fars c = omega (arith, listed (c .before) .few, c .before .before .before .before .read .kept .1 .1 .0)
+array-share-prefix-fars c = omega (arith, stand (c .before) .few, c .before .before .before .before .before .before .before .before .pre .1, c .before .before .before .before .read .kept .1 .1 .0)
 
 slice-aggregate-differ : tie.Need-slice-aggregate-differ
 slice-aggregate-differ c =
-    sym (length-take-le _ _ (omega (arith, listed (c .before .before) .few, c .before .before .before .before .before .read .kept .1 .1 .0)))
+    sym (length-take-le _ _ (omega (arith, stand (c .before .before) .few, c .before .before .before .before .before .before .before .before .before .pre .1, c .before .before .before .before .before .read .kept .1 .1 .0)))
 
 differ-requires : tie.Need-differ-requires
 differ-requires c κs =
     let s = c .before .before .before .before .before .before .before .before .before in
-    let q = listed (c .before .before) in
-    (s .pre .0, s .pre .1, s .pre .2, q .ascending, s .pre .3, q .short)
+    let q = stand (c .before .before) in
+    (s .pre .0, s .pre .1, s .pre .2, q .ascending, s .pre .3, omega (arith, q .counted, q .few, s .pre .1))
 
 returns : tie.Need-returns
 returns c =
@@ -57,9 +57,9 @@ returns c =
 returns-2 : tie.Need-returns-2
 returns-2 c =
     let s = c .before .before .before .before .before .before .before .before .before .before in
-    let q = listed (c .before .before .before) in
+    let q = stand (c .before .before .before) in
     if-goes (answer.Refused 2) _ _ (q .passed) refl
-    (ap Compared (c .differ .ensures) ∙ ap (λ (l : List ℕ). Compared (differ (s .args .n) (s .args .first .now) l)) (q .front))
+    (ap Compared (c .differ .ensures) ∙ ap (λ (l : List ℕ). Compared (differ (s .args .n) (s .args .first .now) l)) (q .sides))
 
 pub against-second-spec : {M : Type 1} → statement M
 against-second-spec =
