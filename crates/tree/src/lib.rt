@@ -2,7 +2,7 @@
 use ground::Check;
 use ground::Written;
 ghost use mathlib.Core.Path.{_≡_};
-ghost use Prim.Native.Nat.{_+_, _-_, _*_, _^_, _<_, _≤_, min};
+ghost use Prim.Native.Nat.{_+_, _-_, _*_, _<_, _≤_, min};
 ghost use lib.ListN.{length};
 ghost use Rattle.ground.specs.Buffers.{over};
 ghost use Rattle.ground.specs.Counts.{one-if};

@@ -20,8 +20,9 @@ returns : tie.Need-returns
 returns c =
     let e = c .before .before .before in
     let s = e .before .before .before .before .before in
-    sides-read limit (s .args .n) (s .args .t .now) (s .pre .0) (s .pre .1) (s .args .fars .now) (replicate 128 0) _ _ (omega (arith, s .pre .1, s .pre .2)) (omega (arith, s .pre .1))
-    (e .exact .ensures)
+    let p = s .pre in
+    sides-read limit (s .args .n) (s .args .t .now) (p .0) (p .1) (s .args .fars .now) (replicate 128 0) _ _
+    (omega (arith, p .1, p .2)) (omega (arith, p .1)) (e .exact .ensures)
 
 pub read-spec : {M : Type 1} → statement M
 read-spec = tie.close (tie.spec slice-aggregate-exact exact-requires same-length returns)

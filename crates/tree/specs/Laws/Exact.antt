@@ -2,7 +2,7 @@
 -- the rows are, and what a call with room enough leaves. Assumes nothing.
 use mathlib.Core.List.{List}
 use mathlib.Core.Logic.{_↔_}
-use mathlib.Core.Path.{ap, refl, subst, sym, _∙_, _≡_}
+use mathlib.Core.Path.{ap, refl, sym, _∙_, _≡_}
 use Prim.Native.Nat.{ℕ, _*_, _-_, _≤_}
 use native.Mathlib.Omega.{arith}
 use lib.ListN.{drop, length, length-map, take}
@@ -19,7 +19,7 @@ use Rattle.ground.specs.declared.Written.the-variants as written
 use Rattle.theory.specs.Demands.{OneTree, exact-reading, one-tree}
 use Rattle.theory.specs.LinkTables.{Row, far, fars}
 use Rattle.theory.specs.Outcomes.{LeftRows}
-use Rattle.theory.specs.Readings.{Exact}
+use Rattle.theory.specs.Readings.{Exact, measured}
 use Rattle.theory.specs.Tables.{CostTable, cost}
 use Rattle.tables.specs.Checks.{costsCheck, lengthCheck}
 use Rattle.tables.specs.Laws.Formed.{cost-table, passed-costs}
@@ -46,6 +46,11 @@ module _ (L n : ℕ) (t : List ℕ) where
   pub exact-rows : Wired L n t → (T : List Row) → Exact L (cost t n) n T ↔ (T ≡ exactRows L n t)
   unfolding exactRows
   exact-rows w T = exact-reading L (cost t n) n (omega (arith, w .table .some)) (w .table .formed) .answer T (w .condition)
+
+  -- the measured reading has the same rows
+  pub readings-agree : exactRows L n t ≡ measured L (cost t n) n
+  unfolding exactRows
+  readings-agree = refl
 
   pub exact-tree : Wired L n t → OneTree L n (exactRows L n t)
   exact-tree w = one-tree L n (exactRows L n t) (w .table .some) (exact-rows w (exactRows L n t) .1 refl .tree)
@@ -85,7 +90,8 @@ module _ (L n : ℕ) (t : List ℕ) where
         T : List Row
         T = exactRows L n t
 
-        go : (c : Check) → tableCheck L n t ≡ c → r ≡ outcome (tableCheck L n t) T f v .answer → f′ ≡ outcome (tableCheck L n t) T f v .far-list → SidesRead L n t r f′
+        go : (c : Check) → tableCheck L n t ≡ c → r ≡ outcome (tableCheck L n t) T f v .answer → f′ ≡ outcome (tableCheck L n t) T f v .far-list
+            → SidesRead L n t r f′
         go Passed s p q = record {
           answered = rw s (rw s at p ∙ ap Places (sym (length-map T far)));
           stand = λ _. rw (rw s at q) (take-at (fars T) (drop (length (fars T)) f) (length (fars T)) refl);
