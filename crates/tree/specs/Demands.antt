@@ -3,11 +3,10 @@ use mathlib.Core.List.{List}
 use mathlib.Core.Logic.{_↔_}
 use mathlib.Core.Path.{refl, subst, _∙_, _≡_}
 use Prim.Native.Nat.{ℕ, _*_, _+_, _≤_}
-use native.Mathlib.Omega.{arith}
 use lib.ListN.{length}
 use Rattle.ground.specs.declared.Written.{Written}
 use Rattle.ground.specs.declared.Written.the-variants.{Places}
-use Rattle.theory.specs.Demands.{exact-reading, stable}
+use Rattle.theory.specs.Demands.{stable}
 use Rattle.theory.specs.FarSides.{FarSide}
 use Rattle.theory.specs.FourPoint.{FourPoint}
 use Rattle.theory.specs.LinkTables.{Row, costOf}
@@ -19,6 +18,7 @@ use Rattle.tree.specs.Exact.{exactRows}
 use Rattle.tree.specs.Promises.{Drawn, ExactAnswer, exact-answer, measured-answer}
 use Rattle.tree.specs.Readings.{exactOutcome, measuredOutcome}
 use Rattle.tree.specs.Writing.{Ready, rowsLeft}
+use Rattle.tree.specs.Laws.Exact.{wired-exactly}
 use Rattle.tree.specs.Laws.Writing.{measured-passed}
 
 -- ## Demand 2
@@ -35,13 +35,10 @@ pub exactly-when : (L n : ℕ) (t f v : List ℕ) (r : Written) (f′ v′ : Lis
     → ExactlyWhen L n t f v r f′ v′
 exactly-when L n t f v r f′ v′ y l = record {
   by-condition = (λ p. found (p .0) (p .1) .condition, reads);
-  by-tree = (λ p. tree .0 (found (p .0) (p .1) .condition), λ x. reads (tree .1 x));
+  by-tree = (λ p. let x = found (p .0) (p .1) in (rowsLeft (p .0) f′ v′, x .exact), λ x. reads (wired-exactly L n t (y .table) .0 x .condition));
   answer = found;
 }
   where
-    tree : FourPoint (cost t n) n ↔ ((T : List Row) × Exact L (cost t n) n T)
-    tree = exact-reading L (cost t n) n (omega (arith, y .table .some)) (y .table .formed) .accepted
-
     found : (k : ℕ) → r ≡ Places k → ExactAnswer L n t f v k f′ v′
     found k e = exact-answer L n t f v k f′ v′ (subst (λ (q : Written). LeftRows (exactOutcome L n t f v) q f′ v′) e l)
 

@@ -11,9 +11,9 @@ ghost use Rattle.theory.specs.Outcomes.{LeftRows};
 ghost use Rattle.theory.specs.Readings.{measured};
 ghost use Rattle.theory.specs.Tables.{limit, cost, CostTable};
 ghost use Rattle.tree.specs.Growing.{Turned};
-ghost use Rattle.tree.specs.Held.{Held};
-ghost use Rattle.tree.specs.Putting.{loweredIn, Given, PutAll, Room};
-ghost use Rattle.tree.specs.Readings.{short, roomCheck, measuredCheck, exactCheck, measuredOutcome, exactOutcome};
+ghost use Rattle.tree.specs.Held.{RowsHeld};
+ghost use Rattle.tree.specs.Putting.{loweredIn, Given, PutAll, PutRoom};
+ghost use Rattle.tree.specs.Readings.{short, outputsRoomCheck, measuredCheck, exactCheck, measuredOutcome, exactOutcome};
 ghost use Rattle.tree.specs.Writing.{RowsWritten};
 
 // The cost c, lowered by the value w, from which two limits are taken off.
@@ -74,7 +74,7 @@ fn put_rows(
     fars: &mut [u64],
     costs: &mut [u32],
 ) -> usize
-    requires { ⌜ (k < 64) × Given add (now f) (now v) (now slots) (now best) count × Room k (loweredIn limit add (now f) (now v) (now slots) (now best) count) at (now fars) (now costs) ⌝ }
+    requires { ⌜ (k < 64) × Given add (now f) (now v) (now slots) (now best) count × PutRoom k (loweredIn limit add (now f) (now v) (now slots) (now best) count) at (now fars) (now costs) ⌝ }
     ensures { λ r. ⌜ PutAll k (loweredIn limit add (now (f .entry)) (now (v .entry)) (now (slots .entry)) (now (best .entry)) count) at (now (fars .entry)) (now (costs .entry)) r (now (fars .exit)) (now (costs .exit)) ⌝ }
 {
     let mut place = at;
@@ -102,8 +102,8 @@ fn grow(
     steps: &mut [u32],
     best: &mut [u32],
 ) -> usize
-    requires { ⌜ CostTable limit n (now t) × (1 ≤ k) × (k < n) × Held limit (cost (now t) n) k (now f) (now v) count × (length (now fars) ≡ 128) × (length (now costs) ≡ 128) × (length (now steps) ≡ 384) × (length (now best) ≡ 192) ⌝ }
-    ensures { λ r. ⌜ Held limit (cost (now (t .entry)) n) (k + 1) (now (fars .exit)) (now (costs .exit)) r ⌝ }
+    requires { ⌜ CostTable limit n (now t) × (1 ≤ k) × (k < n) × RowsHeld limit (cost (now t) n) k (now f) (now v) count × (length (now fars) ≡ 128) × (length (now costs) ≡ 128) × (length (now steps) ≡ 384) × (length (now best) ≡ 192) ⌝ }
+    ensures { λ r. ⌜ RowsHeld limit (cost (now (t .entry)) n) (k + 1) (now (fars .exit)) (now (costs .exit)) r ⌝ }
 {
     let mut outs = [0u8; 128];
     let mut ins = [0u8; 128];
@@ -131,7 +131,7 @@ fn write_rows(f: &[u64], v: &[u32], count: usize, fars: &mut [u64], costs: &mut 
 // The measured reading: from no row over one image, one image more at a time; the number of its rows.
 fn measured_rows(n: usize, t: &[u32], f: &mut [u64], v: &mut [u32]) -> usize
     requires { ⌜ CostTable limit n (now t) × (length (now f) ≡ 128) × (length (now v) ≡ 128) ⌝ }
-    ensures { λ r. ⌜ Held limit (cost (now (t .entry)) n) n (now (f .exit)) (now (v .exit)) r ⌝ }
+    ensures { λ r. ⌜ RowsHeld limit (cost (now (t .entry)) n) n (now (f .exit)) (now (v .exit)) r ⌝ }
 {
     let mut fars = [0u64; 128];
     let mut costs = [0u32; 128];
@@ -183,7 +183,7 @@ fn is_short(need: usize, f: usize, v: usize) -> bool
 // Refusal 3.
 fn check_room(n: usize, f: usize, v: usize) -> Check
     requires { ⌜ (3 ≤ n) × (n ≤ 64) ⌝ }
-    ensures { λ r. ⌜ r ≡ roomCheck n f v ⌝ }
+    ensures { λ r. ⌜ r ≡ outputsRoomCheck (2 * n - 3) f v ⌝ }
 {
     ground::refuse_if(is_short(2 * n - 3, f, v), 3, 0, 0)
 }
