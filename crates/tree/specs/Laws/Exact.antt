@@ -21,17 +21,22 @@ use Rattle.theory.specs.LinkTables.{Row, far, fars}
 use Rattle.theory.specs.Outcomes.{LeftRows}
 use Rattle.theory.specs.Readings.{Exact, measured}
 use Rattle.theory.specs.Tables.{CostTable, cost}
-use Rattle.tables.specs.Checks.{costsCheck, lengthCheck}
+use Rattle.tables.specs.Checks.{costsCheck, lengthCheck, sizeCheck}
 use Rattle.tables.specs.Laws.Formed.{cost-table, passed-costs}
 use Rattle.wiring.specs.Check.{wiringCheck}
 use Rattle.wiring.specs.Promises.{wiring-passed}
 use Rattle.tree.specs.Exact.{SidesRead, SidesStand, Wired, exactRows, exactSides, tableCheck, treeCheck}
-use Rattle.tree.specs.Readings.{exactCheck, exactOutcome, outcome}
+use Rattle.tree.specs.Readings.{exactCheck, exactOutcome, outcome, outputsRoomCheck}
+use Rattle.tree.specs.Laws.Writing.{room-passed}
 
 -- a table of the right length has 4, 5, 6, 7 left to pass
 pub table-sized : (L n : ℕ) (t : List ℕ) → length t ≡ n * n → tableCheck L n t ≡ treeCheck L n t
 unfolding tableCheck
 table-sized L n t e = rw (eq-eqb (length t) (n * n) e)
+
+-- a check that passed says nothing among others
+passed-between : (x y z w : Check) → y ≡ Passed → ((x then (y then z)) then w) ≡ (x then (z then w))
+passed-between x y z w e = rw e (then-assoc x z w)
 
 module _ (L n : ℕ) (t : List ℕ) where
   -- ## The tree of a wired table
@@ -78,8 +83,9 @@ module _ (L n : ℕ) (t : List ℕ) where
     exact-check : (f v : ℕ) → 2 * n - 3 ≤ f → 2 * n - 3 ≤ v → exactCheck L n t f v ≡ tableCheck L n t
     unfolding tableCheck treeCheck
     exact-check f v a b =
-        rw (le-ltb n 3 least, le-ltb 64 n most, le-ltb f (2 * n - 3) a, le-ltb v (2 * n - 3) b)
-        (then-assoc (lengthCheck n t) (costsCheck L (cost t n) n) (wiringCheck (cost t n) n))
+        let r = room-passed (2 * n - 3) f v a b in
+        passed-between (sizeCheck n t) (outputsRoomCheck (2 * n - 3) f v) (costsCheck L (cost t n) n) (wiringCheck (cost t n) n) r
+        ∙ rw (le-ltb n 3 least, le-ltb 64 n most) refl
 
     pub sides-read : {r : Written} (f v f′ v′ : List ℕ) → 2 * n - 3 ≤ length f → 2 * n - 3 ≤ length v → LeftRows (exactOutcome L n t f v) r f′ v′
         → SidesRead L n t r f′
