@@ -14,6 +14,6 @@ pub record Connected (L n : ℕ) (T : List Row) : Type 0 where
   pub counted : OneTree L n T
   -- every row but the last has an upper row, and it is a later one
   pub above : (p : ℕ) → suc p < length T → (suc p < getD (uppers (fars T)) p 0) × (getD (uppers (fars T)) p 0 ≤ length T)
-  -- the route of every image climbs strictly from its own link, and ends at the last row
+  -- the route of every image climbs strictly from its own link and holds the last row, so it ends there
   pub climbs : (i : ℕ) → i < n
       → Between (placeOf 1 (own n i) (fars T)) (route n (fars T) i) (suc (length T)) × List·Memᴰ (length T) (route n (fars T) i)

@@ -56,7 +56,7 @@ returns : tie.Need-returns
 returns c =
     let e = c .before .before .before .before in
     let s = e .before .before .before .before in
-    let r = read-refused limit (s .args .n) (s .args .second .now) (s .pre .0) (s .pre .1) (e .read .ensures) (c .before .rows .given .1) in
+    let r = read-refused limit (s .args .n) (s .args .second .now) (e .read .ensures) (c .before .rows .given .1) in
     if-stops (answer.Refused 2) _ _ r refl
 
 returns-2 : tie.Need-returns-2

@@ -54,7 +54,7 @@ returns : tie.Need-returns
 returns c =
     let e = c .before .before .before .before in
     let s = e .before .before .before .before in
-    let r = read-refused limit (s .args .n) (s .args .first .now) (s .pre .0) (s .pre .1) (e .read .ensures) (c .before .rows .given .1) in
+    let r = read-refused limit (s .args .n) (s .args .first .now) (e .read .ensures) (c .before .rows .given .1) in
     if-stops (answer.Refused 1) _ _ r refl
 
 returns-2 : tie.Need-returns-2

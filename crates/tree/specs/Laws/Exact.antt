@@ -60,10 +60,20 @@ module _ (L n : ℕ) (t : List ℕ) where
   pub exact-tree : Wired L n t → OneTree L n (exactRows L n t)
   exact-tree w = one-tree L n (exactRows L n t) (w .table .some) (exact-rows w (exactRows L n t) .1 refl .tree)
 
-  -- ## The checks, of 3 to 64 images
+  -- ## A call with room enough
+
+  -- what a refusal tells the caller
+  pub read-refused : {r : Written} {f : List ℕ} {q : Refusal} → SidesRead L n t r f → r ≡ written.Refused q → tableCheck L n t ≡ Refused q
+  read-refused {q = q} p e = go (tableCheck L n t) refl (sym e ∙ p .answered)
+    where
+      go : (c : Check) → tableCheck L n t ≡ c → written.Refused q ≡ placesIf (tableCheck L n t) (length (exactSides L n t)) → tableCheck L n t ≡ Refused q
+      go Passed s h = absurd (let z = rw s at h in let o : _≡_ {A = ℕ} 0 1 = cc in omega arith)
+      go (Refused x) s h = let z = rw s at h in let o : x ≡ q = cc in s ∙ ap Refused o
+
+  -- ## Of 3 to 64 images
 
   module _ (least : 3 ≤ n) (most : n ≤ 64) where
-    -- passed exactly by the wired tables
+    -- the checks of a table are passed exactly by the wired ones
     pub table-passed : (tableCheck L n t ≡ Passed) ↔ Wired L n t
     unfolding tableCheck treeCheck
     table-passed = (
@@ -77,9 +87,7 @@ module _ (L n : ℕ) (t : List ℕ) where
           rw (eq-eqb (length t) (n * n) (c .sized), passed-costs L (cost t n) n (c .formed)) (wiring-passed L (cost t n) n (c .formed) .1 (w .condition)),
     )
 
-    -- ## A call with room enough
-
-    -- 1 and 3 are never given
+    -- 1 and 3 are never given where there is room enough
     exact-check : (f v : ℕ) → 2 * n - 3 ≤ f → 2 * n - 3 ≤ v → exactCheck L n t f v ≡ tableCheck L n t
     unfolding tableCheck treeCheck
     exact-check f v a b =
@@ -87,6 +95,7 @@ module _ (L n : ℕ) (t : List ℕ) where
         passed-between (sizeCheck n t) (outputsRoomCheck (2 * n - 3) f v) (costsCheck L (cost t n) n) (wiringCheck (cost t n) n) r
         ∙ rw (le-ltb n 3 least, le-ltb 64 n most) refl
 
+    -- what a call leaves
     pub sides-read : {r : Written} (f v f′ v′ : List ℕ) → 2 * n - 3 ≤ length f → 2 * n - 3 ≤ length v → LeftRows (exactOutcome L n t f v) r f′ v′
         → SidesRead L n t r f′
     sides-read {r} f v f′ v′ a b l =
@@ -107,14 +116,7 @@ module _ (L n : ℕ) (t : List ℕ) where
           stand = λ h. absurd (let z = sym s ∙ h in let o : _≡_ {A = ℕ} 0 1 = cc in omega arith);
         }
 
-    -- the caller learns the refusal, or the far sides
-    pub read-refused : {r : Written} {f : List ℕ} {q : Refusal} → SidesRead L n t r f → r ≡ written.Refused q → tableCheck L n t ≡ Refused q
-    read-refused {q = q} p e = go (tableCheck L n t) refl (sym e ∙ p .answered)
-      where
-        go : (c : Check) → tableCheck L n t ≡ c → written.Refused q ≡ placesIf (tableCheck L n t) (length (exactSides L n t)) → tableCheck L n t ≡ Refused q
-        go Passed s h = absurd (let z = rw s at h in let o : _≡_ {A = ℕ} 0 1 = cc in omega arith)
-        go (Refused x) s h = let z = rw s at h in let o : x ≡ q = cc in s ∙ ap Refused o
-
+    -- what an accepted call tells the caller
     pub read-accepted : {r : Written} {f : List ℕ} {k : ℕ} → SidesRead L n t r f → r ≡ Places k → SidesStand L n t k f
     read-accepted {f = f} {k = k} p e = go (tableCheck L n t) refl (sym e ∙ p .answered)
       where
