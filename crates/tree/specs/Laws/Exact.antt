@@ -84,7 +84,7 @@ module _ (L n : ℕ) (t : List ℕ) where
           record { table = c; condition = wiring-passed L (cost t n) n (c .formed) .0 (q .1) },
       λ w.
           let c = w .table in
-          rw (eq-eqb (length t) (n * n) (c .sized), passed-costs L (cost t n) n (c .formed)) (wiring-passed L (cost t n) n (c .formed) .1 (w .condition)),
+          table-sized L n t (c .sized) ∙ rw (passed-costs L (cost t n) n (c .formed)) (wiring-passed L (cost t n) n (c .formed) .1 (w .condition)),
     )
 
     -- 1 and 3 are never given where there is room enough
