@@ -13,6 +13,7 @@ use Rattle.stored_costs.specs.declared.StoredCosts.the-variants.{Table}
 use Rattle.bits.specs.declared.Form.{Form}
 use Rattle.ground.specs.Buffers.{front}
 use Rattle.ground.specs.Outcomes.{Outcome}
+use Rattle.stored_costs.specs.declared.StoredCosts.{StoredCosts}
 
 -- the bytes s begin with a stored table, and there is room for it
 pub record Readable (form : Form) (s : List ℕ) (room : ℕ) : Type 0 where

@@ -10,9 +10,9 @@ use Rattle.stored_links.specs.Form.{linkUsed}
 use Rattle.stored_links.specs.Said.{costsOf, countOf, farsOf, fillOf, imagesOf}
 use Rattle.bits.specs.declared.Form.{Form}
 use Rattle.stored_links.specs.declared.StoredLinks.the-variants.{Table}
-use Rattle.stored_links.specs.Stored.{Stored}
 use Rattle.ground.specs.Buffers.{front}
 use Rattle.theory.specs.Outcomes.{RowsOutcome}
+use Rattle.stored_links.specs.declared.StoredLinks.{StoredLinks}
 
 -- the bytes s begin with a stored link table of N rows over n images
 pub record Stored (form : Form) (n N : ℕ) (s : List ℕ) : Type 0 where
