@@ -14,8 +14,8 @@ pub record Next (form : Form) (n N : ℕ) (l v : List ℕ) (room : ℕ) : Type 0
   pub fits : linkUsed form n N ≤ room
 
 -- so it is for each table, with the rows and the room that the tables before left, and no row is left over
-unfoldable pub Fits : Form → List Table → List ℕ → List ℕ → ℕ → Type 0
-Fits form [] l v room = (length l ≡ 0) × (length v ≡ 0)
-Fits form (t ∷ ts) l v room =
+unfoldable pub BatchFits : Form → List Table → List ℕ → List ℕ → ℕ → Type 0
+BatchFits form [] l v room = (length l ≡ 0) × (length v ≡ 0)
+BatchFits form (t ∷ ts) l v room =
     Next form (t .0) (t .1) l v room
-    × Fits form ts (drop (t .1) l) (drop (t .1) v) (room - linkUsed form (t .0) (t .1))
+    × BatchFits form ts (drop (t .1) l) (drop (t .1) v) (room - linkUsed form (t .0) (t .1))

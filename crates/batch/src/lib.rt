@@ -9,7 +9,7 @@ ghost use Rattle.ground.specs.Outcomes.{Left};
 ghost use Rattle.stored_links.specs.Form.{linkBytes, linkUsed, oldLinks};
 ghost use Rattle.batch.specs.Tables.{leftOverChecks, nextChecks, runOutChecks, tables};
 ghost use Rattle.batch.specs.Batch.{batchAnswer, batchBytes, batchFrom, batchOutcome, numbered};
-ghost use Rattle.batch.specs.Fitting.{Fits, Next};
+ghost use Rattle.batch.specs.Fitting.{BatchFits, Next};
 ghost use Rattle.batch.specs.declared.Batched.the-variants.{Bytes};
 
 // What the batch answers: the bytes used, or the first refusal with the table's number beside it.
@@ -140,7 +140,7 @@ fn put_next(
 
 // The tables' stored forms, joined, at the front of the lent bytes: each is written into the rest that the tables before left.
 fn put_tables(ns: &[u32], counts: &[u32], fars: &[u64], costs: &[u32], out: &mut [u8])
-    requires { ⌜ (length (now ns) ≡ length (now counts)) × Fits oldLinks (tables (now ns) (now counts)) (now fars) (now costs) (length (now out)) ⌝ }
+    requires { ⌜ (length (now ns) ≡ length (now counts)) × BatchFits oldLinks (tables (now ns) (now counts)) (now fars) (now costs) (length (now out)) ⌝ }
     ensures { λ r. ⌜ now (out .exit) ≡ front (batchBytes oldLinks (tables (now (ns .entry)) (now (counts .entry))) (now (fars .entry)) (now (costs .entry))) (now (out .entry)) ⌝ }
 {
     let mut used = 0;

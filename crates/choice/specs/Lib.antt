@@ -2,6 +2,7 @@
 pub mod Inclusion
 pub mod Call
 pub mod Read
+pub mod Taken
 -- Its checks by their numbers, in order.
 pub mod InOrder
 -- Examples that antt computes.

@@ -1,4 +1,2 @@
--- How the code meets the answer.
-pub mod Read
--- When both tables are accepted.
-pub mod Accepted
+-- When both tables are accepted, and by what the comparison refuses.
+pub mod Answers

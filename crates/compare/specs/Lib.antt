@@ -1,9 +1,9 @@
--- What the contracts of `compare` cite: the answer in document 01's words, and what reading one table gives.
+-- What the contracts of `compare` cite: the answer in document 01's words.
 pub mod Call
-pub mod Read
--- What the promise is worth.
+-- What an answer says of the two tables, and what the promise is worth.
+pub mod Answers
 pub mod Promises
 -- Its checks by their numbers, in order.
 pub mod InOrder
--- How the code meets it, and when it is accepted.
+-- Which answer is given when.
 pub mod Laws

@@ -15,20 +15,21 @@ use Rattle.ground.specs.Laws.Maps.{map-mem}
 use Rattle.ground.specs.Members.{isIn}
 use Rattle.ground.specs.Tests.{one-of}
 use Rattle.theory.specs.Comparison.{common, inners}
-use Rattle.theory.specs.Demands.{exact-reading, measured-reading}
 use Rattle.theory.specs.FarSides.{inner, sides}
 use Rattle.theory.specs.Laws.Comparison.{common-same}
 use Rattle.theory.specs.Laws.FarSides.{sides-all, sides-between}
 use Rattle.theory.specs.LinkTables.{LinkTable, Row, far, fars}
-use Rattle.theory.specs.Readings.{Exact, measured}
+use Rattle.theory.specs.Readings.{Exact}
 use Rattle.theory.specs.Tables.{cost}
+use Rattle.tree.specs.Exact.{Wired, exactRows, exactSides}
+use Rattle.tree.specs.Laws.Exact.{exact-rows, exact-tree}
 use Rattle.counts.specs.Differ.{differ, overOf}
 use Rattle.counts.specs.Laws.Distance.{differing-exactly, differing-over, differing-sym, differing-zero}
 use Rattle.counts.specs.Laws.Formula.{formula}
 use Rattle.counts.specs.Laws.InnerRows.{inner-most}
 use Rattle.counts.specs.declared.Difference.{Difference}
-use Rattle.compare.specs.Laws.Accepted.{Accepted, compare-accepted, compare-accepts}
-use Rattle.compare.specs.Call.{comparison, sidesOf}
+use Rattle.compare.specs.Call.{comparison}
+use Rattle.compare.specs.Laws.Answers.{compare-accepted, compare-accepts}
 use Rattle.compare.specs.declared.Comparison.{Comparison}
 use Rattle.compare.specs.declared.Comparison.the-variants.{Compared}
 
@@ -97,25 +98,22 @@ module _ (L n : ℕ) where
       → TreesDiffer n T U x
   compare-says t u x e T U p q =
       let a = compare-accepted L n t u x e in
-      let v = is-read t T (a .first) p in
-      let w = is-read u U (a .second) q in
+      let v = exact-rows L n t (a .first) T .0 p in
+      let w = exact-rows L n u (a .second) U .0 q in
       let s : x ≡ differ n (fars T) (fars U) = a .answer ∙ ap₂ (λ (A B : List Row). differ n (fars A) (fars B)) (sym v) (sym w) in
       subst (TreesDiffer n T U) (sym s) (trees-differ L n T U (a .first .table .some) (p .tree) (q .tree))
-    where
-      is-read : (t : List ℕ) (T : List Row) → Accepted L n t → Exact L (cost t n) n T → T ≡ measured L (cost t n) n
-      is-read t T a p = exact-reading L (cost t n) n (omega (arith, a .table .some)) (a .table .formed) .answer T (a .condition) .0 p
 
   -- ## The count is a distance
 
-  ascends : (t : List ℕ) → Accepted L n t → Between 1 (inners n (sidesOf L n t)) (2 ^ n)
-  ascends t a = tree-ascends L n _ (measured-reading L (cost t n) n (a .table .some) (a .table .formed) .drawn .tree)
+  ascends : (t : List ℕ) → Wired L n t → Between 1 (inners n (exactSides L n t)) (2 ^ n)
+  ascends t a = tree-ascends L n (exactRows L n t) (exact-tree L n t a .tree)
 
   -- the same both ways
   pub compare-turned : (t u : List ℕ) (x : Difference) → comparison L n t u ≡ Compared x → comparison L n u t ≡ Compared (turned x)
   compare-turned t u x e =
       let a = compare-accepted L n t u x e in
-      let l = inners n (sidesOf L n t) in
-      let r = inners n (sidesOf L n u) in
+      let l = inners n (exactSides L n t) in
+      let r = inners n (exactSides L n u) in
       compare-accepts L n u t (a .second) (a .first)
       ∙ ap₂ (λ (c d : ℕ). Compared (record { first = length r; second = length l; common = c; count = d; over = overOf n }))
       (ap length (common-same 1 (2 ^ n) r l (ascends u (a .second)) (ascends t (a .first)))) (differing-sym r l)
@@ -127,10 +125,10 @@ module _ (L n : ℕ) where
   compare-over t u w x y e f =
       let a = compare-accepted L n t u x e in
       let b = compare-accepted L n u w y f in
-      let l = inners n (sidesOf L n t) in
-      let m = inners n (sidesOf L n u) in
-      let r = inners n (sidesOf L n w) in (
-        differ n (sidesOf L n t) (sidesOf L n w),
+      let l = inners n (exactSides L n t) in
+      let m = inners n (exactSides L n u) in
+      let r = inners n (exactSides L n w) in (
+        differ n (exactSides L n t) (exactSides L n w),
         compare-accepts L n t w (a .first) (b .second),
         omega (
           arith,

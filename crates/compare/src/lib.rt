@@ -9,8 +9,8 @@ ghost use Prim.Native.Nat.{_≤_, _^_};
 ghost use lib.ListN.{length};
 ghost use Rattle.ground.specs.Ascending.{Between};
 ghost use Rattle.theory.specs.Tables.{limit};
+ghost use Rattle.tree.specs.Exact.{SidesRead};
 ghost use Rattle.compare.specs.Call.{againstSecond, bothTables, comparison};
-ghost use Rattle.compare.specs.Read.{Read};
 
 // What the comparison answers: the difference, or a refusal with the table's number, 0 with refusal 1.
 pub enum Comparison {
@@ -22,7 +22,7 @@ pub enum Comparison {
 // rows, so refusal 3 is never given.
 fn read(n: usize, t: &[u32], fars: &mut [u64]) -> Written
     requires { ⌜ (3 ≤ n) × (n ≤ 64) × (length (now fars) ≡ 128) ⌝ }
-    ensures { λ r. ⌜ Read limit n (now (t .entry)) r (now (fars .exit)) ⌝ }
+    ensures { λ r. ⌜ SidesRead limit n (now (t .entry)) r (now (fars .exit)) ⌝ }
 {
     let mut costs = [0u32; 128];
     tree::exact(n, t, fars, &mut costs)

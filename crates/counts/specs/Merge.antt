@@ -9,8 +9,8 @@ use Rattle.theory.specs.Comparison.{common, inners}
 use Rattle.theory.specs.FarSides.{inner}
 
 -- 1 where x is at most y, so that the list in which x stands goes on; else 0
-unfoldable pub step : ℕ → ℕ → ℕ
-step x y = one-if (leb x y)
+unfoldable pub advance : ℕ → ℕ → ℕ
+advance x y = one-if (leb x y)
 
 -- 1 where x and y are the same inner far side, else 0
 unfoldable pub oneCommon : ℕ → ℕ → ℕ → ℕ

@@ -5,7 +5,7 @@ ghost use lib.ListN.{length};
 ghost use Rattle.ground.specs.Ascending.{Between};
 ghost use Rattle.theory.specs.Comparison.{common, inners};
 ghost use Rattle.counts.specs.Differ.{differ, overOf};
-ghost use Rattle.counts.specs.Merge.{oneCommon, step};
+ghost use Rattle.counts.specs.Merge.{oneCommon, advance};
 ghost use Rattle.counts.specs.Tally.{oneInner};
 
 // What is counted: inner far sides of the first, of the second, common ones, and those in exactly one list; over is what that
@@ -39,8 +39,8 @@ fn inner_rows(n: usize, sides: &[u64]) -> usize
 }
 
 // 1 where x is at most y, so that the list in which x stands goes on; else 0.
-fn step(x: u64, y: u64) -> usize
-    ensures { λ r. ⌜ r ≡ step x y ⌝ }
+fn advance(x: u64, y: u64) -> usize
+    ensures { λ r. ⌜ r ≡ advance x y ⌝ }
 {
     if x <= y { 1 } else { 0 }
 }
@@ -68,8 +68,8 @@ fn common_rows(n: usize, first: &[u64], second: &[u64]) -> usize
         let x = first[i];
         let y = second[j];
         count += one_common(n, x, y);
-        i += step(x, y);
-        j += step(y, x);
+        i += advance(x, y);
+        j += advance(y, x);
     }
     count
 }

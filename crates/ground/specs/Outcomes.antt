@@ -8,6 +8,7 @@ use Rattle.ground.specs.Refusals.{placesIf}
 use Rattle.ground.specs.declared.Check.{Check}
 use Rattle.ground.specs.declared.Check.the-variants.{Passed, Refused}
 use Rattle.ground.specs.declared.Written.{Written}
+use Rattle.ground.specs.declared.Written.the-variants.{Places}
 
 pub record Outcome (A : Type 0) : Type 0 where
   pub answer : A
@@ -26,3 +27,7 @@ frontIf (Refused r) m d = d
 -- m at the front and its length the answer where the check passed; else the refusal, and nothing altered
 abbrev pub writtenIf : Check → List ℕ → List ℕ → Outcome Written
 writtenIf y m d = record { answer = placesIf y (length m); places = frontIf y m d }
+
+-- an accepted writing of m into the lent places d, of which so many are used
+abbrev pub wroteInto : ℕ → List ℕ → List ℕ → Outcome Written
+wroteInto used m d = record { answer = Places used; places = front m d }

@@ -8,8 +8,9 @@ use Rattle.ground.specs.Refusals.{refusal, refuseIf, valueIf, _then_}
 use Rattle.ground.specs.declared.Answer.{Answer}
 use Rattle.ground.specs.declared.Check.{Check}
 use Rattle.theory.specs.Index.{clipped}
-use Rattle.theory.specs.Tables.{cost}
+use Rattle.theory.specs.Tables.{CostTable, cost}
 use Rattle.tables.specs.Checks.{costsCheck, sizeCheck}
+use Rattle.theory.specs.FarSides.{FarSide}
 
 -- empty, with image 1, or with an image beyond n
 abbrev pub badFarSide : ℕ → ℕ → Bool
@@ -26,3 +27,8 @@ indexCheck L n t S = sizeCheck n t then costsCheck L (cost t n) n then farSideCh
 -- the index, or 0 where it is negative
 abbrev pub indexAnswer : ℕ → ℕ → List ℕ → ℕ → Answer
 indexAnswer L n t S = valueIf (indexCheck L n t S) (clipped L (cost t n) n (bit S))
+
+-- the call is accepted exactly for a cost table and a far side
+pub record IndexAsked (L n : ℕ) (t : List ℕ) (S : ℕ) : Type 0 where
+  pub table : CostTable L n t
+  pub side : FarSide n S

@@ -1,6 +1,6 @@
 -- What the promise of the index call is worth: what an accepted answer says, and that there is no second answer. Assumes nothing.
 use mathlib.Core.List.{List}
-use mathlib.Core.Path.{subst, sym, _∙_, _≡_}
+use mathlib.Core.Path.{subst, _≡_}
 use Prim.Native.Nat.{ℕ, _*_, _<_, _≤_}
 use native.Mathlib.Nat.{le-antisymm}
 use native.Mathlib.Omega.{arith}
@@ -9,15 +9,14 @@ use borrow.Author.Tests.{ltb-false, ltb-true}
 use borrow.Table.Steps.{cases}
 use Rattle.ground.specs.Bits.{bit}
 use Rattle.ground.specs.Laws.Refusals.{if-accepted}
-use Rattle.ground.specs.declared.Answer.{Answer}
 use Rattle.ground.specs.declared.Answer.the-variants.{Value}
 use Rattle.theory.specs.FarSides.{FarSide}
 use Rattle.theory.specs.Index.{AtLeast, clipped}
 use Rattle.theory.specs.Laws.FarSides.{far-image}
 use Rattle.theory.specs.Laws.Index.{clipped-cap, clipped-low, low-clipped}
 use Rattle.theory.specs.Tables.{WellFormed, cost}
-use Rattle.index.specs.Call.{indexAnswer, indexCheck}
-use Rattle.index.specs.Laws.Passed.{Accepted, index-passed}
+use Rattle.index.specs.Call.{IndexAsked, indexAnswer, indexCheck}
+use Rattle.index.specs.Laws.Passed.{index-passed}
 use Rattle.ground.specs.declared.Answer.the-variants as answer
 
 -- v is the most that all choices of images on the two sides support, or 0 where they support nothing
@@ -35,7 +34,7 @@ index-is L d n S c f =
 
 -- an accepted answer: the table is a cost table, S is a far side, and v is its index
 pub record Answered (L n : ℕ) (t : List ℕ) (S v : ℕ) : Type 0 where
-  pub accepted : Accepted L n t S
+  pub accepted : IndexAsked L n t S
   pub value : IndexIs (cost t n) n S v
   pub most : v ≤ 2 * L
 
@@ -50,10 +49,7 @@ index-answered L n t S v e =
       most = omega (arith, clipped-cap L (cost t n) n (bit S), same);
     }
 
--- no second answer meets the promise, and no second number is the index
-pub index-only : (L n : ℕ) (t : List ℕ) (S : ℕ) (r q : Answer) → r ≡ indexAnswer L n t S → q ≡ indexAnswer L n t S → r ≡ q
-index-only L n t S r q e f = e ∙ sym f
-
+-- no second number is the index
 pub value-only : (d : ℕ → ℕ → ℕ) (n S v w : ℕ) → IndexIs d n S v → IndexIs d n S w → v ≡ w
 value-only d n S v w p q = le-antisymm (under p q) (under q p)
   where

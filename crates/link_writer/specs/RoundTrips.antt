@@ -1,29 +1,31 @@
 -- What document 01 says of stored link tables, in the words of the calls, for its own form. Assumes nothing.
 use mathlib.Core.List.{List, [], _++_}
 use mathlib.Core.Path.{ap, refl, sym, _∙_, _≡_}
-use Prim.Native.Nat.{min, ℕ, _*_, _-_, _/_, _<_, _^_, _≤_}
+use Prim.Native.Nat.{min, ℕ, _*_, _+_, _-_, _/_, _<_, _^_, _≤_}
 use native.Mathlib.Omega.{arith}
-use lib.ListN.{drop, length, length-append, take}
+use lib.ListN.{drop, length, length-append, length-drop, take}
+use lib.Seq.{drop-at, take-at}
 use Rattle.ground.specs.declared.Check.the-variants.{Refused}
 use Rattle.ground.specs.declared.Refusal.{Refusal}
 use Rattle.ground.specs.declared.Written.{Written}
 use Rattle.ground.specs.declared.Written.the-variants.{Places}
-use Rattle.ground.specs.Outcomes.{Outcome}
+use Rattle.ground.specs.Outcomes.{Outcome, wroteInto}
 use Rattle.theory.specs.Tables.{limit}
 use Rattle.bits.specs.Bits.{AllBytes, part, valueOf}
-use Rattle.link_writer.specs.Laws.Again.{read-again, written-is, wroteInto}
+use Rattle.link_writer.specs.Laws.Again.{read-again, written-is}
 use Rattle.link_writer.specs.Writing.{writeChecks, writeOutcome}
 use Rattle.links.specs.Links.{Links}
 use Rattle.stored_links.specs.Form.{linkBytes, linkUsed, oldLinks}
 use Rattle.stored_links.specs.Laws.Form.{length-links}
 use Rattle.stored_links.specs.Laws.Outcomes.{refused-alters-nothing}
 use Rattle.stored_links.specs.Laws.Positions.{table-at}
-use Rattle.stored_links.specs.Laws.ReadAt.{read-rest, readInto, same-bytes, written-at}
+use Rattle.stored_links.specs.Laws.ReadAt.{read-rest, same-bytes, written-at}
 use Rattle.stored_links.specs.Laws.WriteBack.{read-links}
 use Rattle.stored_links.specs.Outcomes.{judged, readOutcome}
 use Rattle.stored_links.specs.Reading.{readAtChecks}
 use Rattle.stored_links.specs.Said.{costsOf, farsOf}
 use Rattle.stored_links.specs.declared.StoredLinks.the-variants.{Table}
+use Rattle.stored_links.specs.Stored.{readInto}
 use Rattle.ground.specs.declared.Written.the-variants as written
 use Rattle.stored_links.specs.declared.StoredLinks.the-variants as stored
 
@@ -63,14 +65,14 @@ unfolding part valueOf
 one-stored-form a b p q r s n N i j ha hb e f g h =
     same-bytes oldLinks a b p q n N i j ha hb (table-at oldLinks a p r n N i e .1) (table-at oldLinks b q s n N j f .1) refl refl g h
 
--- Two tables written one after another are read one after the other, the second from the byte where the first ended: at that position,
--- or as the part of the bytes from there on.
-pub one-after-another : (m n M N : ℕ) (k x l y behind f u : List ℕ) → Links limit m M k x → Links limit n N l y
+-- Two stored tables are read one after the other, the second from the byte where the first ended: at that position, or as the part of the
+-- bytes from there on.
+pub read-in-turn : (m n M N : ℕ) (k x l y behind f u : List ℕ) → Links limit m M k x → Links limit n N l y
     → 2 * m - 3 ≤ length f → 2 * m - 3 ≤ length u → 2 * n - 3 ≤ length f → 2 * n - 3 ≤ length u
     → (readOutcome oldLinks (linkBytes oldLinks m k x ++ (linkBytes oldLinks n l y ++ behind)) 0 f u ≡ readInto m M (linkUsed oldLinks m M) k x f u)
     × (readOutcome oldLinks (linkBytes oldLinks m k x ++ (linkBytes oldLinks n l y ++ behind)) (8 * linkUsed oldLinks m M) f u ≡ readInto n N (linkUsed oldLinks n N) l y f u)
     × (readOutcome oldLinks (drop (linkUsed oldLinks m M) (linkBytes oldLinks m k x ++ (linkBytes oldLinks n l y ++ behind))) 0 f u ≡ readInto n N (linkUsed oldLinks n N) l y f u)
-one-after-another m n M N k x l y behind f u s t h i g j =
+read-in-turn m n M N k x l y behind f u s t h i g j =
     let a = linkBytes oldLinks m k x in
     let b = linkBytes oldLinks n l y ++ behind in
     let e : length a ≡ linkUsed oldLinks m M = length-links oldLinks m k x ∙ ap (linkUsed oldLinks m) (s .counted) in
@@ -80,6 +82,30 @@ one-after-another m n M N k x l y behind f u s t h i g j =
       second,
       read-rest oldLinks (a ++ b) (linkUsed oldLinks m M) f u (omega (arith, e, length-append a b)) ∙ second,
     )
+
+-- Two tables that two calls wrote, the second into the rest of the lent bytes, are read one after the other: the bytes as both calls left them.
+abbrev pub bothWritten : (m n M N : ℕ) (k x l y out : List ℕ) → List ℕ
+bothWritten m n M N k x l y out =
+    let first = writeOutcome oldLinks m M k x out .places in
+    take (linkUsed oldLinks m M) first ++ writeOutcome oldLinks n N l y (drop (linkUsed oldLinks m M) first) .places
+
+pub one-after-another : (m n M N : ℕ) (k x l y out f u : List ℕ) → Links limit m M k x → Links limit n N l y
+    → linkUsed oldLinks m M + linkUsed oldLinks n N ≤ length out
+    → 2 * m - 3 ≤ length f → 2 * m - 3 ≤ length u → 2 * n - 3 ≤ length f → 2 * n - 3 ≤ length u
+    → (readOutcome oldLinks (bothWritten m n M N k x l y out) 0 f u ≡ readInto m M (linkUsed oldLinks m M) k x f u)
+    × (readOutcome oldLinks (bothWritten m n M N k x l y out) (8 * linkUsed oldLinks m M) f u ≡ readInto n N (linkUsed oldLinks n N) l y f u)
+one-after-another m n M N k x l y out f u s t r h i g j =
+    let a = linkBytes oldLinks m k x in
+    let b = linkBytes oldLinks n l y in
+    let o = drop (length a) out in
+    let e : length a ≡ linkUsed oldLinks m M = length-links oldLinks m k x ∙ ap (linkUsed oldLinks m) (s .counted) in
+    let first : writeOutcome oldLinks m M k x out .places ≡ a ++ o = ap (λ (p : Outcome Written). p .places) (written-is oldLinks m M k x out s (omega arith)) in
+    let second : writeOutcome oldLinks n N l y o .places ≡ b ++ drop (length b) o =
+    ap (λ (p : Outcome Written). p .places) (written-is oldLinks n N l y o t (omega (arith, e, length-drop (length a) out))) in
+    let both : bothWritten m n M N k x l y out ≡ a ++ (b ++ drop (length b) o) =
+    rw (first, take-at a o (linkUsed oldLinks m M) e, drop-at a o (linkUsed oldLinks m M) e, second) in
+    let p = read-in-turn m n M N k x l y (drop (length b) o) f u s t h i g j in
+    rw both (p .0, p .1)
 
 -- Refused, no lent place is altered.
 pub refused-writing : (n N : ℕ) (l v out : List ℕ) (r : Refusal) → writeChecks oldLinks n N l v (length out) ≡ Refused r

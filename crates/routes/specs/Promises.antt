@@ -11,7 +11,6 @@ use Rattle.ground.specs.Ascending.{Between}
 use Rattle.ground.specs.Buffers.{front}
 use Rattle.ground.specs.Filters.{filter}
 use Rattle.ground.specs.Ranges.{from}
-use Rattle.ground.specs.declared.Answer.{Answer}
 use Rattle.ground.specs.declared.Answer.the-variants.{Value}
 use Rattle.ground.specs.declared.Check.the-variants.{Passed}
 use Rattle.ground.specs.declared.Written.the-variants.{Places}
@@ -21,33 +20,35 @@ use Rattle.theory.specs.Laws.Paths.{path-four-point, path-none-above, path-same
 use Rattle.theory.specs.LinkTables.{Row, path, rowsOf}
 use Rattle.theory.specs.Routes.{contains, route, uppers}
 use Rattle.links.specs.Links.{Links}
-use Rattle.routes.specs.Laws.Accepted.{PathTaken, RouteTaken, UppersTaken, passed-path, passed-route, passed-upper, path-passed, route-passed, upper-passed}
+use Rattle.routes.specs.Laws.Accepted.{passed-path, passed-route, passed-upper, path-passed, route-passed, upper-passed}
 use Rattle.routes.specs.Laws.Containing.{last-row, upper-none, upper-smallest, upper-there}
-use Rattle.routes.specs.Laws.Holding.{heldBy, route-ascends, route-ends, route-first, route-held, route-starts}
+use Rattle.routes.specs.Laws.Holding.{route-ascends, route-ends, route-first, route-held, route-starts}
 use Rattle.routes.specs.Orders.{pathChecks, routeChecks, upperChecks}
 use Rattle.routes.specs.Outcomes.{pathOutcome, routeOutcome, upperOutcome}
 use Rattle.routes.specs.Laws.UpperRows.{upper-contains, upper-later, upper-most, uppers-length}
+use Rattle.routes.specs.Asked.{PathAsked, RouteAsked, UppersAsked}
+use Rattle.routes.specs.Climbs.{heldBy}
 
 -- ## Which calls are accepted: exactly those with a link table, room and images in range
 
-pub path-accepted : (L n N : ℕ) (l v : List ℕ) (i j : ℕ) → (pathChecks L n N l v i j ≡ Passed) ↔ PathTaken L n N l v i j
+pub path-accepted : (L n N : ℕ) (l v : List ℕ) (i j : ℕ) → (pathChecks L n N l v i j ≡ Passed) ↔ PathAsked L n N l v i j
 path-accepted L n N l v i j = (path-passed L n N l v i j, passed-path L n N l v i j)
 
-pub upper-accepted : (L n N : ℕ) (l v : List ℕ) (room : ℕ) → (upperChecks L n N l v room ≡ Passed) ↔ UppersTaken L n N l v room
+pub upper-accepted : (L n N : ℕ) (l v : List ℕ) (room : ℕ) → (upperChecks L n N l v room ≡ Passed) ↔ UppersAsked L n N l v room
 upper-accepted L n N l v room = (upper-passed L n N l v room, passed-upper L n N l v room)
 
-pub route-accepted : (L n N : ℕ) (l v : List ℕ) (i room : ℕ) → (routeChecks L n N l v i room ≡ Passed) ↔ RouteTaken L n N l v i room
+pub route-accepted : (L n N : ℕ) (l v : List ℕ) (i room : ℕ) → (routeChecks L n N l v i room ≡ Passed) ↔ RouteAsked L n N l v i room
 route-accepted L n N l v i room = (route-passed L n N l v i room, passed-route L n N l v i room)
 
 -- ## What an accepted call answers and leaves behind
 
-pub path-answer : (L n N : ℕ) (l v : List ℕ) (i j : ℕ) → PathTaken L n N l v i j → pathOutcome L n N l v i j ≡ Value (path (rowsOf l v) (i - 1) (j - 1))
+pub path-answer : (L n N : ℕ) (l v : List ℕ) (i j : ℕ) → PathAsked L n N l v i j → pathOutcome L n N l v i j ≡ Value (path (rowsOf l v) (i - 1) (j - 1))
 path-answer L n N l v i j t = rw (passed-path L n N l v i j t)
 
-pub upper-answer : (L n N : ℕ) (l v o : List ℕ) → UppersTaken L n N l v (length o) → upperOutcome L n N l v o ≡ record { answer = Places N; places = front (uppers l) o }
+pub upper-answer : (L n N : ℕ) (l v o : List ℕ) → UppersAsked L n N l v (length o) → upperOutcome L n N l v o ≡ record { answer = Places N; places = front (uppers l) o }
 upper-answer L n N l v o t = rw (passed-upper L n N l v (length o) t, ← (uppers-length 1 l ∙ t .table .counted))
 
-pub route-answer : (L n N : ℕ) (l v : List ℕ) (i : ℕ) (o : List ℕ) → RouteTaken L n N l v i (length o)
+pub route-answer : (L n N : ℕ) (l v : List ℕ) (i : ℕ) (o : List ℕ) → RouteAsked L n N l v i (length o)
     → routeOutcome L n N l v i o ≡ record { answer = Places (length (route n l (i - 1))); places = front (route n l (i - 1)) o }
 route-answer L n N l v i o t = rw (passed-route L n N l v i (length o) t)
 
@@ -109,8 +110,3 @@ route-laws L n N l v t i h = record {
   first = λ e. rw e (route-first L n N l v t);
   held = λ a. route-held L n N l v t i a h;
 }
-
--- ## No second answer meets a promise
-
-pub path-only : {r q : Answer} (L n N : ℕ) (l v : List ℕ) (i j : ℕ) → r ≡ pathOutcome L n N l v i j → q ≡ pathOutcome L n N l v i j → r ≡ q
-path-only L n N l v i j e f = cc

@@ -45,7 +45,7 @@ fn path_cost(fars: &[u64], costs: &[u32], i: usize, j: usize) -> u32
 }
 
 // 8: either image is outside 1..n.
-fn check_images(n: usize, i: usize, j: usize) -> Check
+fn check_both(n: usize, i: usize, j: usize) -> Check
     ensures { λ r. ⌜ r ≡ (imageCheck n i then imageCheck n j) ⌝ }
 {
     let first = ground::refuse_if(ground::is_outside(1, n, i), 8, 0, 0);
@@ -66,7 +66,7 @@ fn check_path(n: usize, count: usize, fars: &[u64], costs: &[u32], i: usize, j: 
             let rows = links::check_rows(theory::LIMIT, n, fars, costs);
             match rows {
                 Check::Refused(_) => rows,
-                Check::Passed => check_images(n, i, j),
+                Check::Passed => check_both(n, i, j),
             }
         }
     }

@@ -3,6 +3,7 @@ pub mod Entries
 pub mod Form
 pub mod Reading
 pub mod Outcomes
+pub mod Stored
 pub mod Sizes
 -- Its checks by their numbers, in order.
 pub mod InOrder

@@ -4,6 +4,7 @@ pub mod Said
 pub mod Sizes
 pub mod Reading
 pub mod Outcomes
+pub mod Stored
 -- Its checks by their numbers, in order.
 pub mod InOrder
 -- What is true of them.

@@ -1,4 +1,4 @@
--- The checks of the two readings by their numbers. Assumes nothing.
+-- The checks of the two readings, and of one table where room is no question, by their numbers. Assumes nothing.
 use mathlib.Core.List.{List, _++_, _∷_}
 use mathlib.Core.Path.{refl, _≡_}
 use Prim.Native.Nat.{ℕ, _*_, _-_}
@@ -13,13 +13,15 @@ use Rattle.ground.specs.declared.Check.the-variants.{Passed, Refused}
 use Rattle.ground.specs.declared.Refusal.{Refusal}
 use Rattle.theory.specs.LinkTables.{Row}
 use Rattle.theory.specs.Tables.{cost}
-use Rattle.tables.specs.InOrder.{costs-order, costsSteps, size-order, sizeSteps}
+use Rattle.tables.specs.Checks.{lengthCheck}
+use Rattle.tables.specs.InOrder.{costs-order, costsSteps, length-order, size-order, sizeSteps}
 use Rattle.wiring.specs.InOrder.{wiring-order, wiringSteps}
-use Rattle.tree.specs.Readings.{exactCheck, measuredCheck, outcome, roomCheck, short}
+use Rattle.tree.specs.Exact.{tableCheck, treeCheck}
+use Rattle.tree.specs.Readings.{exactCheck, measuredCheck, outcome, outputsRoomCheck, short}
 
 -- 1, 2, 3, 4, 5, 6, where f and v are the lengths of the outputs
 abbrev pub measuredSteps : ℕ → ℕ → List ℕ → ℕ → ℕ → List Step
-measuredSteps L n t f v = sizeSteps n t ++ (3 by roomCheck n f v ∷ costsSteps L (cost t n) n)
+measuredSteps L n t f v = sizeSteps n t ++ (3 by outputsRoomCheck (2 * n - 3) f v ∷ costsSteps L (cost t n) n)
 
 pub measured-order : (L n : ℕ) (t : List ℕ) (f v : ℕ) → InOrder (measuredSteps L n t f v) (measuredCheck L n t f v)
 measured-order L n t f v =
@@ -31,6 +33,14 @@ exactSteps L n t f v = measuredSteps L n t f v ++ wiringSteps (cost t n) n
 
 pub exact-order : (L n : ℕ) (t : List ℕ) (f v : ℕ) → InOrder (exactSteps L n t f v) (exactCheck L n t f v)
 exact-order L n t f v = join-order (measured-order L n t f v) (wiring-order (cost t n) n)
+
+-- 2, 4, 5, 6, 7 of one table
+abbrev pub tableSteps : ℕ → ℕ → List ℕ → List Step
+tableSteps L n t = 2 by lengthCheck n t ∷ (costsSteps L (cost t n) n ++ wiringSteps (cost t n) n)
+
+pub table-order : (L n : ℕ) (t : List ℕ) → InOrder (tableSteps L n t) (tableCheck L n t)
+unfolding tableCheck treeCheck
+table-order L n t = join-order (length-order n t) (join-order (costs-order L (cost t n) n) (wiring-order (cost t n) n))
 
 -- ## What a reading answers and leaves, by its check
 

@@ -1,3 +1,5 @@
+-- What the crates above cite of one table's exact reading.
+pub mod Exact
 -- Rows in local arrays, one image more, and the rows written.
 pub mod LocalRows
 pub mod Growing
@@ -6,3 +8,5 @@ pub mod Held
 pub mod Rowed
 pub mod Grown
 pub mod Writing
+-- Every link table is one tree.
+pub mod Connected

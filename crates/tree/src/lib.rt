@@ -2,7 +2,7 @@
 use ground::Check;
 use ground::Written;
 ghost use mathlib.Core.Path.{_≡_};
-ghost use Prim.Native.Nat.{_+_, _-_, _*_, _^_, _<_, _≤_, min};
+ghost use Prim.Native.Nat.{_+_, _-_, _*_, _<_, _≤_, min};
 ghost use lib.ListN.{length};
 ghost use Rattle.ground.specs.Buffers.{over};
 ghost use Rattle.ground.specs.Counts.{one-if};
@@ -11,10 +11,10 @@ ghost use Rattle.theory.specs.Outcomes.{LeftRows};
 ghost use Rattle.theory.specs.Readings.{measured};
 ghost use Rattle.theory.specs.Tables.{limit, cost, CostTable};
 ghost use Rattle.tree.specs.Growing.{Turned};
-ghost use Rattle.tree.specs.Held.{Held};
-ghost use Rattle.tree.specs.Putting.{loweredIn, Given, PutAll, Room};
-ghost use Rattle.tree.specs.Readings.{short, roomCheck, measuredCheck, exactCheck, measuredOutcome, exactOutcome};
-ghost use Rattle.tree.specs.Writing.{Wrote};
+ghost use Rattle.tree.specs.Held.{RowsHeld};
+ghost use Rattle.tree.specs.Putting.{loweredIn, Given, PutAll, PutRoom};
+ghost use Rattle.tree.specs.Readings.{short, outputsRoomCheck, measuredCheck, exactCheck, measuredOutcome, exactOutcome};
+ghost use Rattle.tree.specs.Writing.{RowsWritten};
 
 // The cost c, lowered by the value w, from which two limits are taken off.
 fn cost_more(c: u32, w: u32) -> u32
@@ -74,7 +74,7 @@ fn put_rows(
     fars: &mut [u64],
     costs: &mut [u32],
 ) -> usize
-    requires { ⌜ (k < 64) × Given add (now f) (now v) (now slots) (now best) count × Room k (loweredIn limit add (now f) (now v) (now slots) (now best) count) at (now fars) (now costs) ⌝ }
+    requires { ⌜ (k < 64) × Given add (now f) (now v) (now slots) (now best) count × PutRoom k (loweredIn limit add (now f) (now v) (now slots) (now best) count) at (now fars) (now costs) ⌝ }
     ensures { λ r. ⌜ PutAll k (loweredIn limit add (now (f .entry)) (now (v .entry)) (now (slots .entry)) (now (best .entry)) count) at (now (fars .entry)) (now (costs .entry)) r (now (fars .exit)) (now (costs .exit)) ⌝ }
 {
     let mut place = at;
@@ -102,8 +102,8 @@ fn grow(
     steps: &mut [u32],
     best: &mut [u32],
 ) -> usize
-    requires { ⌜ CostTable limit n (now t) × (1 ≤ k) × (k < n) × Held limit (cost (now t) n) k (now f) (now v) count × (length (now fars) ≡ 128) × (length (now costs) ≡ 128) × (length (now steps) ≡ 384) × (length (now best) ≡ 192) ⌝ }
-    ensures { λ r. ⌜ Held limit (cost (now (t .entry)) n) (k + 1) (now (fars .exit)) (now (costs .exit)) r ⌝ }
+    requires { ⌜ CostTable limit n (now t) × (1 ≤ k) × (k < n) × RowsHeld limit (cost (now t) n) k (now f) (now v) count × (length (now fars) ≡ 128) × (length (now costs) ≡ 128) × (length (now steps) ≡ 384) × (length (now best) ≡ 192) ⌝ }
+    ensures { λ r. ⌜ RowsHeld limit (cost (now (t .entry)) n) (k + 1) (now (fars .exit)) (now (costs .exit)) r ⌝ }
 {
     let mut outs = [0u8; 128];
     let mut ins = [0u8; 128];
@@ -131,7 +131,7 @@ fn write_rows(f: &[u64], v: &[u32], count: usize, fars: &mut [u64], costs: &mut 
 // The measured reading: from no row over one image, one image more at a time; the number of its rows.
 fn measured_rows(n: usize, t: &[u32], f: &mut [u64], v: &mut [u32]) -> usize
     requires { ⌜ CostTable limit n (now t) × (length (now f) ≡ 128) × (length (now v) ≡ 128) ⌝ }
-    ensures { λ r. ⌜ Held limit (cost (now (t .entry)) n) n (now (f .exit)) (now (v .exit)) r ⌝ }
+    ensures { λ r. ⌜ RowsHeld limit (cost (now (t .entry)) n) n (now (f .exit)) (now (v .exit)) r ⌝ }
 {
     let mut fars = [0u64; 128];
     let mut costs = [0u32; 128];
@@ -161,7 +161,7 @@ fn measured_rows(n: usize, t: &[u32], f: &mut [u64], v: &mut [u32]) -> usize
 // The measured reading of a cost table, written into slices that have room for it; the number of its rows.
 fn write_reading(n: usize, t: &[u32], fars: &mut [u64], costs: &mut [u32]) -> usize
     requires { ⌜ CostTable limit n (now t) × (2 * n - 3 ≤ length (now fars)) × (2 * n - 3 ≤ length (now costs)) ⌝ }
-    ensures { λ r. ⌜ Wrote (measured limit (cost (now (t .entry)) n) n) r (now (fars .entry)) (now (costs .entry)) (now (fars .exit)) (now (costs .exit)) ⌝ }
+    ensures { λ r. ⌜ RowsWritten (measured limit (cost (now (t .entry)) n) n) r (now (fars .entry)) (now (costs .entry)) (now (fars .exit)) (now (costs .exit)) ⌝ }
 {
     let mut f = [0u64; 128];
     let mut v = [0u32; 128];
@@ -183,7 +183,7 @@ fn is_short(need: usize, f: usize, v: usize) -> bool
 // Refusal 3.
 fn check_room(n: usize, f: usize, v: usize) -> Check
     requires { ⌜ (3 ≤ n) × (n ≤ 64) ⌝ }
-    ensures { λ r. ⌜ r ≡ roomCheck n f v ⌝ }
+    ensures { λ r. ⌜ r ≡ outputsRoomCheck (2 * n - 3) f v ⌝ }
 {
     ground::refuse_if(is_short(2 * n - 3, f, v), 3, 0, 0)
 }

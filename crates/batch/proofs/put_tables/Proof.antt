@@ -7,7 +7,7 @@ use Rattle.ground.specs.Buffers.{front}
 use Rattle.ground.specs.Laws.Buffers.{rest-part}
 use Rattle.stored_links.specs.Form.{linkUsed, oldLinks}
 use Rattle.batch.specs.Batch.{batchBytes}
-use Rattle.batch.specs.Fitting.{Fits, Next}
+use Rattle.batch.specs.Fitting.{BatchFits, Next}
 use Rattle.batch.specs.Laws.Joined.{joined-end, joined-more, joined-start, joinedAt}
 use Rattle.batch.specs.Laws.Next.{next-length}
 use Rattle.batch.specs.Laws.Steps.{fits-start, fits-step}
@@ -19,7 +19,7 @@ use Rattle.batch.proofs.put_tables.Tie as tie
 abbrev Inv-loop : tie.InvT-loop
 Inv-loop ns counts fars costs out₀ used₀ rows₀ i₀ out used rows i =
     (i ≤ length ns) × (length out ≡ length out₀) × (used ≤ length out₀) × (rows ≤ length fars)
-    × Fits oldLinks (drop i (tables ns counts)) (drop rows fars) (drop rows costs) (length out₀ - used)
+    × BatchFits oldLinks (drop i (tables ns counts)) (drop rows fars) (drop rows costs) (length out₀ - used)
     × (front (batchBytes oldLinks (tables ns counts) fars costs) out₀ ≡ joinedAt oldLinks ns counts fars costs out used rows i)
 
 abbrev μ-loop : tie.MeasureT-loop
@@ -40,7 +40,7 @@ count c = c .number-at2 .result
 -- the table of this turn, and the tables after it
 next : (c : tie.After-number-at2 Inv-loop μ-loop)
     → Next oldLinks (images c) (count c) (drop (turn c .before .loop .rows) (begun c .args .fars .now)) (drop (turn c .before .loop .rows) (begun c .args .costs .now)) (length (begun c .args .out .now) - turn c .before .loop .used)
-    × Fits oldLinks (drop (turn c .before .loop .table + 1) (tables (begun c .args .ns .now) (begun c .args .counts .now))) (drop (turn c .before .loop .rows + count c) (begun c .args .fars .now)) (drop (turn c .before .loop .rows + count c) (begun c .args .costs .now)) (length (begun c .args .out .now) - (turn c .before .loop .used + linkUsed oldLinks (images c) (count c)))
+    × BatchFits oldLinks (drop (turn c .before .loop .table + 1) (tables (begun c .args .ns .now) (begun c .args .counts .now))) (drop (turn c .before .loop .rows + count c) (begun c .args .fars .now)) (drop (turn c .before .loop .rows + count c) (begun c .args .costs .now)) (length (begun c .args .out .now) - (turn c .before .loop .used + linkUsed oldLinks (images c) (count c)))
 next c =
     let a = begun c .args in
     let l = turn c .before .loop in

@@ -20,7 +20,7 @@ use Rattle.ground.specs.declared.Refusal.{Refusal}
 use Rattle.ground.specs.Laws.Refusals.{if-accepted}
 use Rattle.stored_links.specs.Form.{linkBytes, linkUsed}
 use Rattle.batch.specs.Batch.{batchAnswer, batchBytes, batchFrom, batchOutcome, frontBy, numbered}
-use Rattle.batch.specs.Fitting.{Fits}
+use Rattle.batch.specs.Fitting.{BatchFits}
 use Rattle.batch.specs.Laws.Next.{left-over-passed, length-next, next-passed, passed-next}
 use Rattle.batch.specs.Tables.{Table, leftOverChecks, nextChecks, tables}
 use Rattle.batch.specs.declared.Batched.{Batched}
@@ -48,8 +48,8 @@ by-goes b m d e p q h = rw (← q, p) h
 
 module _ (form : Form) where
   pub from-fits : (k used : ℕ) (ts : List Table) (l v : List ℕ) (room u : ℕ) → batchFrom form k used ts l v room ≡ Bytes u
-      → Fits form ts l v room × (u ≡ used + length (batchBytes form ts l v))
-  unfolding batchFrom batchBytes Fits
+      → BatchFits form ts l v room × (u ≡ used + length (batchBytes form ts l v))
+  unfolding batchFrom batchBytes BatchFits
   from-fits k used [] l v room u e =
       let p = numbered-bytes k (leftOverChecks l v) (Bytes used) u e in
       (left-over-passed l v (p .0), omega (arith, bytes-same used u (p .1)))
@@ -61,9 +61,9 @@ module _ (form : Form) where
       let r = from-fits (k + 1) (used + x) ts (drop (t .1) l) (drop (t .1) v) (room - x) u (p .1) in
       ((s, r .0), omega (arith, r .1, length-next form (t .0) (t .1) l v room s, length-append m (batchBytes form ts (drop (t .1) l) (drop (t .1) v))))
 
-  pub fits-from : (k used : ℕ) (ts : List Table) (l v : List ℕ) (room : ℕ) → Fits form ts l v room
+  pub fits-from : (k used : ℕ) (ts : List Table) (l v : List ℕ) (room : ℕ) → BatchFits form ts l v room
       → batchFrom form k used ts l v room ≡ Bytes (used + length (batchBytes form ts l v))
-  unfolding batchFrom batchBytes Fits
+  unfolding batchFrom batchBytes BatchFits
   fits-from k used [] l v room f = rw (f .0, f .1) (ap Bytes (omega arith))
   fits-from k used (t ∷ ts) l v room f =
       let x = linkUsed form (t .0) (t .1) in
@@ -75,17 +75,17 @@ module _ (form : Form) where
   module _ (ns counts l v : List ℕ) where
     -- accepted, with these bytes: two lists of one length, every table a link table that has its rows and room, and nothing left over
     pub batch-accepted : (room u : ℕ) → (batchAnswer form ns counts l v room ≡ Bytes u)
-        ↔ ((length ns ≡ length counts) × Fits form (tables ns counts) l v room × (u ≡ length (batchBytes form (tables ns counts) l v)))
+        ↔ ((length ns ≡ length counts) × BatchFits form (tables ns counts) l v room × (u ≡ length (batchBytes form (tables ns counts) l v)))
     batch-accepted room u = (into, out)
       where
         into : batchAnswer form ns counts l v room ≡ Bytes u
-            → (length ns ≡ length counts) × Fits form (tables ns counts) l v room × (u ≡ length (batchBytes form (tables ns counts) l v))
+            → (length ns ≡ length counts) × BatchFits form (tables ns counts) l v room × (u ≡ length (batchBytes form (tables ns counts) l v))
         into e =
             let p = numbered-bytes 0 (refuseIf (not (eqb (length ns) (length counts))) (refusal 2 0 0 0 0)) (batchFrom form 0 0 (tables ns counts) l v room) u e in
             let q = from-fits 0 0 (tables ns counts) l v room u (p .1) in
             (eqb-true (length ns) (length counts) (not-false _ (refuseIf-passed (not (eqb (length ns) (length counts))) _ (p .0))), q .0, omega (arith, q .1))
 
-        out : (length ns ≡ length counts) × Fits form (tables ns counts) l v room × (u ≡ length (batchBytes form (tables ns counts) l v))
+        out : (length ns ≡ length counts) × BatchFits form (tables ns counts) l v room × (u ≡ length (batchBytes form (tables ns counts) l v))
             → batchAnswer form ns counts l v room ≡ Bytes u
         out t = rw (eq-eqb (length ns) (length counts) (t .0)) (fits-from 0 0 (tables ns counts) l v room (t .1) ∙ ap Bytes (omega (arith, t .2)))
 

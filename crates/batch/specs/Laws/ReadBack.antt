@@ -1,37 +1,28 @@
 -- What a batch wrote reads back as its tables in order, each from the byte where the one before ended. Assumes nothing.
 use mathlib.Core.List.{List, [], append-assoc, _++_, _∷_}
 use mathlib.Core.Path.{ap, ap₂, refl, subst, sym, _∙_, _≡_}
-use Prim.Native.Nat.{ℕ, _*_, _+_, _-_, _<_, _^_, _≤_}
+use Prim.Native.Nat.{ℕ, _*_, _+_, _-_, _<_, _^_}
 use native.Mathlib.Omega.{arith}
 use lib.ListN.{drop, length, length-append, take}
 use Rattle.ground.specs.Buffers.{front}
 use Rattle.ground.specs.Outcomes.{Outcome}
-use Rattle.theory.specs.Tables.{limit}
-use Rattle.stored_links.specs.Form.{linkBytes, linkUsed}
-use Rattle.stored_links.specs.Laws.ReadAt.{readInto, written-at}
+use Rattle.stored_links.specs.Form.{linkBytes, linkUsed, oldLinks}
+use Rattle.stored_links.specs.Laws.ReadAt.{written-at}
 use Rattle.stored_links.specs.Outcomes.{readOutcome}
 use Rattle.batch.specs.Batch.{batchAnswer, batchBytes, batchOutcome}
-use Rattle.batch.specs.Fitting.{Fits}
+use Rattle.batch.specs.Fitting.{BatchFits}
 use Rattle.batch.specs.Laws.Answers.{accepted-writes, batch-accepted}
 use Rattle.batch.specs.Laws.Next.{length-next}
 use Rattle.batch.specs.Tables.{Table, tables}
 use Rattle.batch.specs.declared.Batched.{Batched}
 use Rattle.batch.specs.declared.Batched.the-variants.{Bytes}
 use Rattle.bits.specs.declared.Form.{Form}
-
--- from byte k on the tables are read one after another, each from the byte where the one before ended, into any lent slices that have room;
--- the last ends at the byte `end`
-unfoldable pub ReadsBack : Form → List ℕ → ℕ → ℕ → List Table → List ℕ → List ℕ → Type 0
-ReadsBack form bytes end k [] l v = k ≡ end
-ReadsBack form bytes end k (t ∷ ts) l v =
-    ((f u : List ℕ) → 2 * t .0 - 3 ≤ length f → 2 * t .0 - 3 ≤ length u
-    → readOutcome form bytes (8 * k) f u ≡ readInto (t .0) (t .1) (linkUsed form (t .0) (t .1)) (take (t .1) l) (take (t .1) v) f u)
-    × ReadsBack form bytes end (k + linkUsed form (t .0) (t .1)) ts (drop (t .1) l) (drop (t .1) v)
+use Rattle.batch.specs.ReadBack.{ReadsBack}
 
 module _ (form : Form) (narrow : 2 * form .limit < 2 ^ form .width) (bytes behind : List ℕ) (end : ℕ) where
-  reads-from : (ahead : List ℕ) (k : ℕ) (ts : List Table) (l v : List ℕ) (room : ℕ) → Fits form ts l v room → k ≡ length ahead
+  reads-from : (ahead : List ℕ) (k : ℕ) (ts : List Table) (l v : List ℕ) (room : ℕ) → BatchFits form ts l v room → k ≡ length ahead
       → end ≡ length ahead + length (batchBytes form ts l v) → bytes ≡ ahead ++ (batchBytes form ts l v ++ behind) → ReadsBack form bytes end k ts l v
-  unfolding ReadsBack Fits batchBytes
+  unfolding ReadsBack BatchFits batchBytes
   reads-from ahead k [] l v room g p e q = omega arith
   reads-from ahead k (t ∷ ts) l v room g p e q =
       let x = linkUsed form (t .0) (t .1) in
@@ -46,15 +37,18 @@ module _ (form : Form) (narrow : 2 * form .limit < 2 ^ form .width) (bytes behin
             (b ∙ sym (append-assoc ahead m (r ++ behind))),
       )
 
--- the lent bytes, as an accepted batch leaves them, are read as its tables, and the last ends where the used bytes end
-pub batch-reads-back : (form : Form) (ns counts l v out : List ℕ) (used : ℕ) → 2 * form .limit < 2 ^ form .width → batchAnswer form ns counts l v (length out) ≡ Bytes used
+form-reads-back : (form : Form) (ns counts l v out : List ℕ) (used : ℕ) → 2 * form .limit < 2 ^ form .width → batchAnswer form ns counts l v (length out) ≡ Bytes used
     → ReadsBack form (batchOutcome form ns counts l v out .places) used 0 (tables ns counts) l v
-batch-reads-back form ns counts l v out used narrow e =
+form-reads-back form ns counts l v out used narrow e =
     let m = batchBytes form (tables ns counts) l v in
     let a = batch-accepted form ns counts l v (length out) used .0 e in
     subst (λ (o : Outcome Batched). ReadsBack form (o .places) used 0 (tables ns counts) l v) (sym (accepted-writes form ns counts l v out used e))
     (reads-from form narrow (front m out) (drop (length m) out) used [] 0 (tables ns counts) l v (length out) (a .1) refl (omega (arith, a .2)) refl)
 
--- in the form of document 01 every doubled cost fits
-pub costs-fit : 2 * limit < 2 ^ 21
-costs-fit = omega arith
+-- the lent bytes, as an accepted batch leaves them, are read as its tables, and the last ends where the used bytes end
+pub batch-reads-back : (ns counts l v out : List ℕ) (used : ℕ) → batchAnswer oldLinks ns counts l v (length out) ≡ Bytes used
+    → ReadsBack oldLinks (batchOutcome oldLinks ns counts l v out .places) used 0 (tables ns counts) l v
+batch-reads-back ns counts l v out used e = form-reads-back oldLinks ns counts l v out used costs-fit e
+  where
+    costs-fit : 2 * oldLinks .limit < 2 ^ oldLinks .width
+    costs-fit = omega arith

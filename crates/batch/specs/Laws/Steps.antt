@@ -12,7 +12,7 @@ use Rattle.ground.specs.declared.Refusal.{Refusal}
 use Rattle.ground.specs.Laws.Refusals.{if-goes, if-stops}
 use Rattle.stored_links.specs.Form.{linkBytes, linkUsed}
 use Rattle.batch.specs.Batch.{batchBytes, batchFrom, numbered}
-use Rattle.batch.specs.Fitting.{Fits, Next}
+use Rattle.batch.specs.Fitting.{BatchFits, Next}
 use Rattle.batch.specs.Tables.{Table, leftOverChecks, nextChecks, tables}
 use Rattle.batch.specs.declared.Batched.{Batched}
 use Rattle.batch.specs.declared.Batched.the-variants.{Bytes}
@@ -55,9 +55,9 @@ module _ (form : Form) (ns counts l v : List ℕ) (room used rows i : ℕ) where
 pub answer-start : (form : Form) (ns counts l v : List ℕ) (room : ℕ) → batchFrom form 0 0 (tables ns counts) l v room ≡ answerAt form ns counts l v room 0 0 0
 answer-start form ns counts l v room = ap (λ (x : ℕ). batchFrom form 0 0 (tables ns counts) l v x) (omega arith)
 
-pub fits-start : (form : Form) (ns counts l v : List ℕ) (room : ℕ) → Fits form (tables ns counts) l v room
-    → Fits form (drop 0 (tables ns counts)) (drop 0 l) (drop 0 v) (room - 0)
-fits-start form ns counts l v room f = subst (λ (x : ℕ). Fits form (tables ns counts) l v x) (omega arith) f
+pub fits-start : (form : Form) (ns counts l v : List ℕ) (room : ℕ) → BatchFits form (tables ns counts) l v room
+    → BatchFits form (drop 0 (tables ns counts)) (drop 0 l) (drop 0 v) (room - 0)
+fits-start form ns counts l v room f = subst (λ (x : ℕ). BatchFits form (tables ns counts) l v x) (omega arith) f
 
 module _ (form : Form) (ns counts l v : List ℕ) (room used rows i n N : ℕ) (e : length ns ≡ length counts) (h : i < length ns) (en : getD ns i 0 ≡ n) (eN : getD counts i 0 ≡ N) where
   table-is : drop i (tables ns counts) ≡ (n, N) ∷ drop (i + 1) (tables ns counts)
@@ -86,14 +86,14 @@ module _ (form : Form) (ns counts l v : List ℕ) (room used rows i n N : ℕ) (
       let b = answerAt form ns counts l v room (used + linkUsed form n N) (rows + N) (i + 1) in
       answer-step ∙ sym (if-goes (batched.Refused (i + 1)) {w = b} (nextChecks form n N (drop rows l) (drop rows v) (room - used)) b p q refl)
 
-  pub fits-step : Fits form (drop i (tables ns counts)) (drop rows l) (drop rows v) (room - used)
+  pub fits-step : BatchFits form (drop i (tables ns counts)) (drop rows l) (drop rows v) (room - used)
       → Next form n N (drop rows l) (drop rows v) (room - used)
-      × Fits form (drop (i + 1) (tables ns counts)) (drop (rows + N) l) (drop (rows + N) v) (room - (used + linkUsed form n N))
-  unfolding Fits
+      × BatchFits form (drop (i + 1) (tables ns counts)) (drop (rows + N) l) (drop (rows + N) v) (room - (used + linkUsed form n N))
+  unfolding BatchFits
   fits-step f =
       let x = linkUsed form n N in
       let q : room - used - x ≡ room - (used + x) = omega arith in
-      let g = subst (λ (ts : List Table). Fits form ts (drop rows l) (drop rows v) (room - used)) table-is f in
+      let g = subst (λ (ts : List Table). BatchFits form ts (drop rows l) (drop rows v) (room - used)) table-is f in
       (g .0, rw (← (drop-drop N rows l), ← (drop-drop N rows v), ← q) (g .1))
 
   pub bytes-step : batchBytes form (drop i (tables ns counts)) (drop rows l) (drop rows v)

@@ -1,6 +1,6 @@
 -- What the promise of the choice is worth: which pairs of stored tables are accepted, and which of the two is then taken. Assumes nothing.
 use mathlib.Core.Bool.{cond, false, false≢true, not, _||_}
-use mathlib.Core.List.{List, List·Memᴰ}
+use mathlib.Core.List.{List}
 use mathlib.Core.Logic.{inl, inr, _↔_, _⊎_}
 use mathlib.Core.Path.{sym, _∙_, _≡_}
 use Prim.Native.Nat.{ℕ}
@@ -8,7 +8,6 @@ use native.Mathlib.Omega.{arith}
 use lib.Dec.{eqb}
 use borrow.Author.Tests.{eq-eqb, eqb-true, not-false}
 use borrow.Table.Steps.{cases}
-use Rattle.ground.specs.Filters.{Each}
 use Rattle.ground.specs.Laws.Refusals.{refuseIf-passed}
 use Rattle.ground.specs.declared.Check.{Check}
 use Rattle.ground.specs.declared.Check.the-variants.{Passed}
@@ -20,18 +19,11 @@ use Rattle.choice.specs.Laws.Read.{table-stored}
 use Rattle.choice.specs.declared.Chosen.{Chosen}
 use Rattle.choice.specs.declared.Chosen.the-variants.{Table}
 use Rattle.choice.specs.declared.Chosen.the-variants as answer
-use Rattle.stored_links.specs.Laws.Passed.{Stored, passed-table}
+use Rattle.stored_links.specs.Laws.Passed.{passed-table}
 use Rattle.stored_links.specs.Reading.{tableChecks}
 use Rattle.stored_links.specs.Said.{countOf, imagesOf, usedOf}
 use Rattle.bits.specs.declared.Form.{Form}
-
--- the bytes s begin with a stored link table
-abbrev pub Begins : Form → List ℕ → Type 0
-Begins form s = Stored form (imagesOf form s) (countOf form s) s
-
--- the inner far sides of the table that s begins with include all of that of t
-abbrev pub Includes : Form → List ℕ → List ℕ → Type 0
-Includes form s t = Each (innersOf form t) (λ S. List·Memᴰ S (innersOf form s))
+use Rattle.choice.specs.Taken.{Begins, ChoiceMade, Includes, Taken, the-first, the-second}
 
 numbered-table : (m : ℕ) (c : Check) (y : Chosen) {k u : ℕ} → numbered m c y ≡ Table k u → (c ≡ Passed) × (y ≡ Table k u)
 numbered-table m c y = if-accepted (answer.Refused m) c y (λ r q. absurd (let o : _≡_ {A = ℕ} 0 1 = cc in omega arith))
@@ -44,19 +36,7 @@ pub not-includes : (form : Form) (s t : List ℕ) → includes (innersOf form s)
 not-includes form s t e h = false≢true (sym e ∙ each-includes (innersOf form s) (innersOf form t) h)
 
 module _ (form : Form) (s t : List ℕ) where
-  -- which table is taken: the first where its inner far sides include the second's, the second where only its do
-  pub data Taken (k u : ℕ) : Type 0 where
-    the-first : k ≡ 1 → u ≡ usedOf form s → Includes form s t → Taken k u
-    the-second : k ≡ 2 → u ≡ usedOf form t → Includes form t s → (Includes form s t → ⊥) → Taken k u
-
-  -- both are stored link tables over the same images, and one is taken
-  pub record Accepted (k u : ℕ) : Type 0 where
-    pub first : Begins form s
-    pub second : Begins form t
-    pub same : imagesOf form s ≡ imagesOf form t
-    pub chosen : Taken k u
-
-  taken-says : (k u : ℕ) → taken (innersOf form s) (usedOf form s) (innersOf form t) (usedOf form t) ≡ Table k u → Taken k u
+  taken-says : (k u : ℕ) → taken (innersOf form s) (usedOf form s) (innersOf form t) (usedOf form t) ≡ Table k u → Taken form s t k u
   taken-says k u e =
       let l = innersOf form s in
       let r = innersOf form t in
@@ -66,13 +46,13 @@ module _ (form : Form) (s t : List ℕ) where
       (λ p. first (rw p at (a .1)) (includes-each l r p))
       (λ p. second (rw p at (a .1)) (includes-each r l (rw p at b)) (not-includes form s t p))
     where
-      first : Table 1 (usedOf form s) ≡ Table k u → Includes form s t → Taken k u
+      first : Table 1 (usedOf form s) ≡ Table k u → Includes form s t → Taken form s t k u
       first q h = let a : k ≡ 1 = cc in let b : u ≡ usedOf form s = cc in the-first a b h
 
-      second : Table 2 (usedOf form t) ≡ Table k u → Includes form t s → (Includes form s t → ⊥) → Taken k u
+      second : Table 2 (usedOf form t) ≡ Table k u → Includes form t s → (Includes form s t → ⊥) → Taken form s t k u
       second q h n = let a : k ≡ 2 = cc in let b : u ≡ usedOf form t = cc in the-second a b h n
 
-  pub choice-accepted : (k u : ℕ) → choiceOf form s t ≡ Table k u → Accepted k u
+  pub choice-accepted : (k u : ℕ) → choiceOf form s t ≡ Table k u → ChoiceMade form s t k u
   choice-accepted k u e =
       let y = taken (innersOf form s) (usedOf form s) (innersOf form t) (usedOf form t) in
       let a = numbered-table 1 (tableChecks form s) (againstSecond form (imagesOf form s) (sidesOf form s) (usedOf form s) t) e in
@@ -117,7 +97,7 @@ module _ (form : Form) (s t : List ℕ) where
         (λ e. (2, usedOf form t, second-taken (p .0) (p .1) (p .2) (other e (p .3)) (not-includes form s t e))),
   )
     where
-      either : {k u : ℕ} → Taken k u → Includes form s t ⊎ Includes form t s
+      either : {k u : ℕ} → Taken form s t k u → Includes form s t ⊎ Includes form t s
       either (the-first a b h) = inl h
       either (the-second a b h n) = inr h
 

@@ -14,11 +14,12 @@ use Rattle.bits.specs.Bits.{AllBytes}
 use Rattle.stored_links.specs.Form.{linkBytes}
 use Rattle.stored_links.specs.Laws.WriteBack.{read-written}
 use Rattle.stored_links.specs.Said.{costsOf, countOf, imagesOf, Marked, usedOf}
-use Rattle.choice.specs.Laws.Accepted.{Begins, Taken, choice-accepted, the-first, the-second}
+use Rattle.choice.specs.Laws.Accepted.{choice-accepted}
 use Rattle.choice.specs.Call.{choiceOf, partOf, sidesOf}
 use Rattle.choice.specs.declared.Chosen.{Chosen}
 use Rattle.choice.specs.declared.Chosen.the-variants.{Table}
 use Rattle.bits.specs.declared.Form.{Form}
+use Rattle.choice.specs.Taken.{Begins, Taken, the-first, the-second}
 use Rattle.choice.specs.declared.Chosen.the-variants as answer
 
 module _ (form : Form) (s t : List ℕ) where
@@ -86,10 +87,3 @@ module _ (form : Form) (s t : List ℕ) where
       go : (c : Chosen) → choiceOf form s t ≡ c → partOf (choiceOf form s t) s t ≡ [] → (m : ℕ) × (r : Refusal) × (choiceOf form s t ≡ answer.Refused m r)
       go (Table k u) q e = let p = part-length k u q in absurd (let z : length (partOf (choiceOf form s t) s t) ≡ 0 = ap length e in omega (arith, p, z))
       go (answer.Refused m r) q e = (m, r, q)
-
--- no second answer meets the promise of the choice, and no second content that of its part
-pub choice-only : (form : Form) (s t : List ℕ) (r q : Chosen) → r ≡ choiceOf form s t → q ≡ choiceOf form s t → r ≡ q
-choice-only form s t r q e f = e ∙ sym f
-
-pub part-only : (form : Form) (s t p q : List ℕ) → p ≡ partOf (choiceOf form s t) s t → q ≡ partOf (choiceOf form s t) s t → p ≡ q
-part-only form s t p q e f = e ∙ sym f

@@ -15,7 +15,7 @@ use Rattle.theory.specs.Outcomes.{LeftRows, RowsOutcome}
 use Rattle.bits.specs.Laws.Listed.{length-listed}
 use Rattle.choice.specs.Call.{sidesOf}
 use Rattle.stored_links.specs.Laws.Outcomes.{front-taken, table-passed, table-refused}
-use Rattle.stored_links.specs.Laws.Passed.{Stored, head-passed, read-passed, room-goes}
+use Rattle.stored_links.specs.Laws.Passed.{head-passed, read-passed, room-goes}
 use Rattle.stored_links.specs.Laws.ReadAt.{read-enough}
 use Rattle.stored_links.specs.Outcomes.{readOutcome, rowsIf}
 use Rattle.stored_links.specs.Reading.{tableAtChecks, tableChecks}
@@ -25,6 +25,7 @@ use Rattle.stored_links.specs.declared.StoredLinks.the-variants.{Table}
 use Rattle.stored_links.specs.declared.StoredLinks.the-variants as stored
 use Rattle.choice.specs.Read.{Listed, Read}
 use Rattle.bits.specs.declared.Form.{Form}
+use Rattle.stored_links.specs.Stored.{Stored}
 
 module _ (form : Form) (s : List ℕ) where
   -- the first byte is inside, and at the start of a byte

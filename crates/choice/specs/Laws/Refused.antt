@@ -12,37 +12,31 @@ use Rattle.ground.specs.declared.Check.the-variants.{Passed, Refused}
 use Rattle.ground.specs.declared.Refusal.{Refusal}
 use Rattle.stored_links.specs.Reading.{tableChecks}
 use Rattle.stored_links.specs.Said.{imagesOf, usedOf}
-use Rattle.choice.specs.Laws.Accepted.{Begins, Includes, not-includes}
+use Rattle.choice.specs.Laws.Accepted.{not-includes}
 use Rattle.choice.specs.Call.{againstSecond, choiceOf, imagesAgree, innersOf, numbered, sidesOf, taken}
 use Rattle.choice.specs.Inclusion.{includes}
 use Rattle.choice.specs.Laws.Read.{table-stored}
 use Rattle.choice.specs.declared.Chosen.the-variants.{Table}
 use Rattle.bits.specs.declared.Form.{Form}
+use Rattle.choice.specs.Taken.{Begins, FirstRefusal, Includes, of-first, of-images, of-neither, of-second}
 use Rattle.choice.specs.declared.Chosen.the-variants as answer
 
 module _ (form : Form) (s t : List ℕ) where
-  pub data FirstRefusal (m : ℕ) (r : Refusal) : Type 0 where
-    of-first : m ≡ 1 → tableChecks form s ≡ Refused r → FirstRefusal m r
-    of-second : m ≡ 2 → Begins form s → tableChecks form t ≡ Refused r → FirstRefusal m r
-    of-images : m ≡ 0 → r ≡ refusal 15 0 0 0 0 → Begins form s → Begins form t → (imagesOf form s ≡ imagesOf form t → ⊥) → FirstRefusal m r
-    of-neither : m ≡ 0 → r ≡ refusal 14 0 0 0 0 → Begins form s → Begins form t → imagesOf form s ≡ imagesOf form t
-        → (Includes form s t → ⊥) → (Includes form t s → ⊥) → FirstRefusal m r
-
-  pub choice-refused : (m : ℕ) (r : Refusal) → choiceOf form s t ≡ answer.Refused m r → FirstRefusal m r
+  pub choice-refused : (m : ℕ) (r : Refusal) → choiceOf form s t ≡ answer.Refused m r → FirstRefusal form s t m r
   choice-refused m r e = first (tableChecks form s) refl e
     where
-      other : Begins form s → Begins form t → (imagesOf form s ≡ imagesOf form t → ⊥) → answer.Refused 0 (refusal 15 0 0 0 0) ≡ answer.Refused m r → FirstRefusal m r
+      other : Begins form s → Begins form t → (imagesOf form s ≡ imagesOf form t → ⊥) → answer.Refused 0 (refusal 15 0 0 0 0) ≡ answer.Refused m r → FirstRefusal form s t m r
       other a b n h = let k : m ≡ 0 = cc in let p : r ≡ refusal 15 0 0 0 0 = cc in of-images k p a b n
 
       none : Begins form s → Begins form t → imagesOf form s ≡ imagesOf form t → (Includes form s t → ⊥) → (Includes form t s → ⊥)
-          → answer.Refused 0 (refusal 14 0 0 0 0) ≡ answer.Refused m r → FirstRefusal m r
+          → answer.Refused 0 (refusal 14 0 0 0 0) ≡ answer.Refused m r → FirstRefusal form s t m r
       none a b n f g h = let k : m ≡ 0 = cc in let p : r ≡ refusal 14 0 0 0 0 = cc in of-neither k p a b n f g
 
-      table : (k u : ℕ) → Table k u ≡ answer.Refused m r → FirstRefusal m r
+      table : (k u : ℕ) → Table k u ≡ answer.Refused m r → FirstRefusal form s t m r
       table k u h = absurd (let o : _≡_ {A = ℕ} 0 1 = cc in omega arith)
 
       neither : Begins form s → Begins form t → imagesOf form s ≡ imagesOf form t
-          → taken (innersOf form s) (usedOf form s) (innersOf form t) (usedOf form t) ≡ answer.Refused m r → FirstRefusal m r
+          → taken (innersOf form s) (usedOf form s) (innersOf form t) (usedOf form t) ≡ answer.Refused m r → FirstRefusal form s t m r
       neither a b n h =
           cases (includes (innersOf form s) (innersOf form t))
           (λ x. table 1 (usedOf form s) (rw x at h))
@@ -52,7 +46,7 @@ module _ (form : Form) (s t : List ℕ) where
 
       second : (c : Check) → tableChecks form t ≡ c → Begins form s
           → numbered 2 c (numbered 0 (imagesAgree (imagesOf form s) (imagesOf form t)) (taken (innersOf form s) (usedOf form s) (innersOf form t) (usedOf form t))) ≡ answer.Refused m r
-          → FirstRefusal m r
+          → FirstRefusal form s t m r
       second Passed q a h =
           let b = table-stored form t q in
           cases (eqb (imagesOf form s) (imagesOf form t))
@@ -61,6 +55,6 @@ module _ (form : Form) (s t : List ℕ) where
       second (Refused p) q a h = let x : p ≡ r = cc in let k : m ≡ 2 = cc in of-second k a (q ∙ ap Refused x)
 
       first : (c : Check) → tableChecks form s ≡ c
-          → numbered 1 c (againstSecond form (imagesOf form s) (sidesOf form s) (usedOf form s) t) ≡ answer.Refused m r → FirstRefusal m r
+          → numbered 1 c (againstSecond form (imagesOf form s) (sidesOf form s) (usedOf form s) t) ≡ answer.Refused m r → FirstRefusal form s t m r
       first Passed q h = second (tableChecks form t) refl (table-stored form s q) h
       first (Refused p) q h = let x : p ≡ r = cc in let k : m ≡ 1 = cc in of-first k (q ∙ ap Refused x)

@@ -7,12 +7,15 @@ use lib.Seq.{length-take-le}
 use borrow.Author.Needs.{needs}
 use Rattle.theory.specs.Tables.{limit}
 use Rattle.compare.specs.Call.{againstSecond}
-use Rattle.compare.specs.Read.{Listed}
-use Rattle.compare.specs.Laws.Read.{read-listed, read-refused}
+use Rattle.tree.specs.Exact.{SidesStand}
+use Rattle.tree.specs.Laws.Exact.{read-accepted, read-refused}
 use Rattle.ground.specs.Laws.Refusals.{if-goes, if-stops}
 use Rattle.compare.specs.declared.Comparison.the-variants as answer
 use Rattle.compare.proofs.both_tables.Statement.{statement}
 use Rattle.compare.proofs.both_tables.Tie as tie
+
+abbrev begun : tie.After-rows2 → tie.Start
+begun c = c .before .before .before .before .before .before .before
 
 slice-aggregate-read : tie.Need-slice-aggregate-read
 slice-aggregate-read c = search needs
@@ -27,38 +30,40 @@ enum-known-rows-2 : tie.Need-enum-known-rows-2
 enum-known-rows-2 c = search needs
 
 -- the far sides of the first tree, where its table was accepted
-listed : (c : tie.After-rows2)
-    → Listed limit (c .before .before .before .before .before .before .before .args .n) (c .before .before .before .before .before .before .before .args .first .now) (c .rows2 .given .0 .0) (c .before .before .before .read .last .1 .1 .0)
-listed c =
-    let e = c .before .before .before in
-    let s = e .before .before .before .before in
-    read-listed limit (s .args .n) (s .args .first .now) (s .pre .0) (s .pre .1) (e .read .ensures) (c .rows2 .given .1)
+stand : (c : tie.After-rows2)
+    → SidesStand limit (begun c .args .n) (begun c .args .first .now) (c .rows2 .given .0 .0) (c .before .before .before .read .last .1 .1 .0)
+stand c =
+    let s = begun c in
+    read-accepted limit (s .args .n) (s .args .first .now) (s .pre .0) (s .pre .1) (c .before .before .before .read .ensures) (c .rows2 .given .1)
 
 array-share-prefix-fars : tie.Need-array-share-prefix-fars
-array-share-prefix-fars c = omega (arith, listed (c .before) .few, c .before .before .before .before .read .kept .1 .1 .0)
+array-share-prefix-fars c = let m = c .before in omega (arith, stand m .few, begun m .pre .1, m .before .before .before .read .kept .1 .1 .0)
 
 slice-aggregate-against-second : tie.Need-slice-aggregate-against-second
 slice-aggregate-against-second c =
-    sym (length-take-le _ _ (omega (arith, listed (c .before .before) .few, c .before .before .before .before .before .read .kept .1 .1 .0)))
+    let m = c .before .before in
+    sym (length-take-le _ _ (omega (arith, stand m .few, begun m .pre .1, m .before .before .before .read .kept .1 .1 .0)))
 
 against-second-requires : tie.Need-against-second-requires
 against-second-requires c κs =
-    let s = c .before .before .before .before .before .before .before .before .before in
-    let q = listed (c .before .before) in
-    (s .pre .0, s .pre .1, q .ascending, q .short)
+    let m = c .before .before in
+    let q = stand m in
+    (begun m .pre .0, begun m .pre .1, q .ascending, omega (arith, q .counted, q .few, begun m .pre .1))
 
 returns : tie.Need-returns
 returns c =
     let e = c .before .before .before .before in
     let s = e .before .before .before .before in
-    if-stops (answer.Refused 1) _ _ (read-refused limit (s .args .n) (s .args .first .now) (s .pre .0) (s .pre .1) (e .read .ensures) (c .before .rows .given .1)) refl
+    let r = read-refused limit (s .args .n) (s .args .first .now) (e .read .ensures) (c .before .rows .given .1) in
+    if-stops (answer.Refused 1) _ _ r refl
 
 returns-2 : tie.Need-returns-2
 returns-2 c =
-    let s = c .before .before .before .before .before .before .before .before .before .before in
-    let q = listed (c .before .before .before) in
+    let m = c .before .before .before in
+    let s = begun m in
+    let q = stand m in
     if-goes (answer.Refused 1) _ _ (q .passed) refl
-    (c .against-second .ensures ∙ ap (λ (l : List ℕ). againstSecond limit (s .args .n) l (s .args .second .now)) (q .front))
+    (c .against-second .ensures ∙ ap (λ (l : List ℕ). againstSecond limit (s .args .n) l (s .args .second .now)) (q .sides))
 
 pub both-tables-spec : {M : Type 1} → statement M
 both-tables-spec =

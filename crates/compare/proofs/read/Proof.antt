@@ -1,9 +1,9 @@
 -- `compare::read` meets its contract: what `tree::exact` promises, with 128 places. Assumes nothing.
-use mathlib.Core.Path.{refl}
+use native.Mathlib.Omega.{arith}
 use lib.ListN.{replicate}
 use borrow.Author.Needs.{needs}
 use Rattle.theory.specs.Tables.{limit}
-use Rattle.compare.specs.Laws.Read.{read-is}
+use Rattle.tree.specs.Laws.Exact.{sides-read}
 use Rattle.compare.proofs.read.Statement.{statement}
 use Rattle.compare.proofs.read.Tie as tie
 
@@ -20,7 +20,9 @@ returns : tie.Need-returns
 returns c =
     let e = c .before .before .before in
     let s = e .before .before .before .before .before in
-    read-is limit (s .args .n) (s .args .t .now) (s .pre .0) (s .pre .1) (s .args .fars .now) (replicate 128 0) _ _ (s .pre .2) refl (e .exact .ensures)
+    let p = s .pre in
+    sides-read limit (s .args .n) (s .args .t .now) (p .0) (p .1) (s .args .fars .now) (replicate 128 0) _ _
+    (omega (arith, p .1, p .2)) (omega (arith, p .1)) (e .exact .ensures)
 
 pub read-spec : {M : Type 1} → statement M
 read-spec = tie.close (tie.spec slice-aggregate-exact exact-requires same-length returns)

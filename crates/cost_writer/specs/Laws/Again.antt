@@ -3,10 +3,7 @@ use mathlib.Core.List.{List}
 use mathlib.Core.Path.{_≡_}
 use Prim.Native.Nat.{ℕ, _/_, _≤_}
 use lib.ListN.{drop, length, take}
-use Rattle.ground.specs.Buffers.{front}
-use Rattle.ground.specs.declared.Written.{Written}
-use Rattle.ground.specs.declared.Written.the-variants.{Places}
-use Rattle.ground.specs.Outcomes.{Outcome}
+use Rattle.ground.specs.Outcomes.{wroteInto}
 use Rattle.theory.specs.Tables.{CostTable}
 use Rattle.bits.specs.Bits.{AllBytes}
 use Rattle.cost_writer.specs.Laws.Accepted.{passed-write}
@@ -18,10 +15,6 @@ use Rattle.stored_costs.specs.Laws.WriteBack.{read-table}
 use Rattle.stored_costs.specs.Outcomes.{judged}
 use Rattle.stored_costs.specs.declared.StoredCosts.the-variants.{Table}
 use Rattle.bits.specs.declared.Form.{Form}
-
--- an accepted writing of the bytes m into the lent ones
-abbrev pub wroteInto : ℕ → List ℕ → List ℕ → Outcome Written
-wroteInto used m out = record { answer = Places used; places = front m out }
 
 module _ (form : Form) where
   -- writing what was read gives the same used bytes

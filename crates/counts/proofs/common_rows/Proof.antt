@@ -7,7 +7,7 @@ use borrow.Author.Needs.{needs}
 use borrow.Author.Tests.{ltb-false, ltb-true}
 use Rattle.theory.specs.Comparison.{common, inners}
 use Rattle.counts.specs.Merge.{shared}
-use Rattle.counts.specs.Laws.Merge.{first-ends, oneCommon-le, second-ends, shared-all, shared-turn, step-le, step-some}
+use Rattle.counts.specs.Laws.Merge.{first-ends, oneCommon-le, second-ends, shared-all, shared-turn, advance-le, advance-some}
 use Rattle.counts.proofs.common_rows.Statement.{statement}
 use Rattle.counts.proofs.common_rows.Tie as tie
 
@@ -48,28 +48,28 @@ add-count c =
     let a = e .before .before .before .args in
     let x = getD (a .first .now) (l .i) 0 in
     let y = getD (a .second .now) (l .j) 0 in
-    omega (arith, c .one-common .ensures, oneCommon-le (a .n) x y, step-le x y)
+    omega (arith, c .one-common .ensures, oneCommon-le (a .n) x y, advance-le x y)
 
-step-requires : tie.Need-step-requires Inv-loop μ-loop
-step-requires c κs = search needs
+advance-requires : tie.Need-advance-requires Inv-loop μ-loop
+advance-requires c κs = search needs
 
 add-i : tie.Need-add-i Inv-loop μ-loop
 add-i c =
-    let q : c .step .result ≤ 1 = rw (c .step .ensures) (step-le _ _) in omega (arith, q)
+    let q : c .advance .result ≤ 1 = rw (c .advance .ensures) (advance-le _ _) in omega (arith, q)
 
-step-requires-2 : tie.Need-step-requires-2 Inv-loop μ-loop
-step-requires-2 c κs = search needs
+advance-requires-2 : tie.Need-advance-requires-2 Inv-loop μ-loop
+advance-requires-2 c κs = search needs
 
 add-j : tie.Need-add-j Inv-loop μ-loop
 add-j c =
-    let q : c .step2 .result ≤ 1 = rw (c .step2 .ensures) (step-le _ _) in
+    let q : c .advance2 .result ≤ 1 = rw (c .advance2 .ensures) (advance-le _ _) in
     let h = second-left (c .before .before .before .before .before) in
     omega (arith, q, h)
 
 loop-less : tie.Need-loop-less Inv-loop μ-loop
 loop-less c =
     let e = c .before .before .before .before .before in
-    let q : 1 ≤ c .before .step .result + c .step2 .result = rw (c .before .step .ensures, c .step2 .ensures) (step-some _ _) in
+    let q : 1 ≤ c .before .advance .result + c .advance2 .result = rw (c .before .advance .ensures, c .advance2 .ensures) (advance-some _ _) in
     let h = second-left e in
     omega (arith, q, h)
 
@@ -78,15 +78,15 @@ loop-again c =
     let e = c .before .before .before .before .before in
     let l = e .before .before in
     let p = l .before .before .before .pre in
-    let q : c .before .step .result ≤ 1 = rw (c .before .step .ensures) (step-le _ _) in
-    let s : c .step2 .result ≤ 1 = rw (c .step2 .ensures) (step-le _ _) in
-    let u : c .before .before .one-common .result ≤ c .before .step .result = rw (c .before .step .ensures, c .before .before .one-common .ensures) (oneCommon-le _ _ _) in
+    let q : c .before .advance .result ≤ 1 = rw (c .before .advance .ensures) (advance-le _ _) in
+    let s : c .advance2 .result ≤ 1 = rw (c .advance2 .ensures) (advance-le _ _) in
+    let u : c .before .before .one-common .result ≤ c .before .advance .result = rw (c .before .advance .ensures, c .before .before .one-common .ensures) (oneCommon-le _ _ _) in
     let h = second-left e in (
       omega (arith, q),
       omega (arith, s, h),
       omega (arith, u),
       shared-turn _ _ _ _ _ _ _ _ (p .0) (p .1) (e .before .loop-test .taken) h (l .loop .inv .3)
-          (c .before .before .one-common .ensures) (c .before .step .ensures) (c .step2 .ensures),
+          (c .before .before .one-common .ensures) (c .before .advance .ensures) (c .advance2 .ensures),
     )
 
 returns : tie.Need-returns Inv-loop μ-loop
@@ -108,9 +108,9 @@ common-rows-spec =
     shared-slice-read-y
     one-common-requires
     add-count
-    step-requires
+    advance-requires
     add-i
-    step-requires-2
+    advance-requires-2
     add-j
     loop-less
     loop-again

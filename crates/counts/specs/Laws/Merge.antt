@@ -18,7 +18,7 @@ use Rattle.ground.specs.Members.{isIn}
 use Rattle.theory.specs.Comparison.{common, inners}
 use Rattle.theory.specs.FarSides.{inner}
 use Rattle.counts.specs.Laws.Tally.{one-if-le}
-use Rattle.counts.specs.Merge.{oneCommon, shared, step}
+use Rattle.counts.specs.Merge.{oneCommon, shared, advance}
 
 -- a number below an ascending list does not stand in it
 isIn-below : (m k x : ℕ) (l : List ℕ) → x < m → Between m l k → isIn x l ≡ false
@@ -81,8 +81,8 @@ shared-all n l r = omega (arith, ap length (common-filter (inner n) l r))
 
 shared-more : (n m k : ℕ) (l r : List ℕ) (i j : ℕ) → Between m l k → Between m r k → i < length l → j < length r
     → shared n l r i j
-    ≡ oneCommon n (getD l i 0) (getD r j 0) + shared n l r (i + step (getD l i 0) (getD r j 0)) (j + step (getD r j 0) (getD l i 0))
-unfolding shared step oneCommon
+    ≡ oneCommon n (getD l i 0) (getD r j 0) + shared n l r (i + advance (getD l i 0) (getD r j 0)) (j + advance (getD r j 0) (getD l i 0))
+unfolding shared advance oneCommon
 shared-more n m k l r i j a b hi hj =
     let x = getD l i 0 in
     let y = getD r j 0 in
@@ -93,7 +93,7 @@ shared-more n m k l r i j a b hi hj =
 
 -- one turn, what is counted and what is ahead being t
 pub shared-turn : (n m k : ℕ) (l r : List ℕ) (i j c : ℕ) {t o s u : ℕ} → Between m l k → Between m r k → i < length l → j < length r
-    → c + shared n l r i j ≡ t → o ≡ oneCommon n (getD l i 0) (getD r j 0) → s ≡ step (getD l i 0) (getD r j 0) → u ≡ step (getD r j 0) (getD l i 0)
+    → c + shared n l r i j ≡ t → o ≡ oneCommon n (getD l i 0) (getD r j 0) → s ≡ advance (getD l i 0) (getD r j 0) → u ≡ advance (getD r j 0) (getD l i 0)
     → c + o + shared n l r (i + s) (j + u) ≡ t
 shared-turn n m k l r i j c a b hi hj e f g h = rw (f, g, h) (omega (arith, shared-more n m k l r i j a b hi hj))
 
@@ -108,16 +108,16 @@ second-ends n l r i j h e =
     let z = rw (drop-of-length-le r {i = j} h, filter-none (λ x. isIn x []) (drop i l) (λ x t. refl)) at e in omega arith
 
 -- how far a turn goes: by one place at most, the count by no more than the first list, and at least one of the lists
-pub step-le : (x y : ℕ) → step x y ≤ 1
-unfolding step
-step-le x y = one-if-le (leb x y)
+pub advance-le : (x y : ℕ) → advance x y ≤ 1
+unfolding advance
+advance-le x y = one-if-le (leb x y)
 
-pub oneCommon-le : (n x y : ℕ) → oneCommon n x y ≤ step x y
-unfolding oneCommon step
+pub oneCommon-le : (n x y : ℕ) → oneCommon n x y ≤ advance x y
+unfolding oneCommon advance
 oneCommon-le n x y =
     cases (eqb x y) (λ e. rw (e, le-leb x y (omega (arith, eqb-true x y e))) (one-if-le (inner n x))) (λ e. rw e (omega arith))
 
-pub step-some : (x y : ℕ) → 1 ≤ step x y + step y x
-unfolding step
-step-some x y =
+pub advance-some : (x y : ℕ) → 1 ≤ advance x y + advance y x
+unfolding advance
+advance-some x y =
     cases (leb x y) (λ e. rw e (omega arith)) (λ e. rw (le-leb y x (omega (arith, leb-false x y e))) (omega arith))

@@ -27,6 +27,10 @@ pub written-goes : {x : Check} {k : ℕ} {d : List ℕ} (y : Check) (m o : List 
     → Left (writtenIf y m o) (Places k) d
 written-goes {d = d} y m o e f g h = record { answered = if-goes written.Refused y (Places (length m)) e f (ap Places g); left = front-goes y m o d (sym f ∙ e) h }
 
+-- no second answer meets a promise that is an equation
+pub answer-once : {A : Type 0} {o a b : A} → a ≡ o → b ≡ o → a ≡ b
+answer-once p q = p ∙ sym q
+
 -- no second answer, and no second content of the lent places, meets a promise
 pub left-once : {A : Type 0} {o : Outcome A} {a b : A} {l m : List ℕ} → Left o a l → Left o b m → (a ≡ b) × (l ≡ m)
-left-once p q = (p .answered ∙ sym (q .answered), p .left ∙ sym (q .left))
+left-once p q = (answer-once (p .answered) (q .answered), answer-once (p .left) (q .left))

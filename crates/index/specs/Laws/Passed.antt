@@ -14,10 +14,10 @@ use Rattle.ground.specs.Laws.Refusals.{refuseIf-passed, then-passed}
 use Rattle.ground.specs.Laws.Tests.{or-false}
 use Rattle.ground.specs.declared.Check.the-variants.{Passed}
 use Rattle.theory.specs.FarSides.{FarSide}
-use Rattle.theory.specs.Tables.{CostTable, cost}
+use Rattle.theory.specs.Tables.{cost}
 use Rattle.tables.specs.Checks.{costsCheck, sizeCheck}
 use Rattle.tables.specs.Laws.Formed.{cost-table}
-use Rattle.index.specs.Call.{badFarSide, farSideCheck, indexCheck}
+use Rattle.index.specs.Call.{IndexAsked, badFarSide, farSideCheck, indexCheck}
 
 pub far-side : (n S : ℕ) → (badFarSide n S ≡ false) ↔ FarSide n S
 far-side n S = (
@@ -32,12 +32,7 @@ far-side n S = (
   λ f. rw (ne-eqb S 0 (λ e. omega (arith, f .some)), ne-eqb (bit S 0) 1 (λ e. omega (arith, f .near)), lt-leb (2 ^ n) S (f .fits)),
 )
 
--- the call is accepted exactly for a cost table and a far side
-pub record Accepted (L n : ℕ) (t : List ℕ) (S : ℕ) : Type 0 where
-  pub table : CostTable L n t
-  pub side : FarSide n S
-
-pub index-passed : (L n : ℕ) (t : List ℕ) (S : ℕ) → (indexCheck L n t S ≡ Passed) ↔ Accepted L n t S
+pub index-passed : (L n : ℕ) (t : List ℕ) (S : ℕ) → (indexCheck L n t S ≡ Passed) ↔ IndexAsked L n t S
 index-passed L n t S = (
   λ e.
       let p = then-passed (sizeCheck n t) (costsCheck L (cost t n) n then farSideCheck n S) e in

@@ -4,24 +4,17 @@ use mathlib.Core.Path.{ap, ap₂, _∙_, _≡_}
 use Prim.Native.Nat.{ℕ, _/_, _≤_}
 use native.Mathlib.Omega.{arith}
 use lib.ListN.{drop, length, take}
-use Rattle.ground.specs.Buffers.{front}
-use Rattle.ground.specs.declared.Written.{Written}
-use Rattle.ground.specs.declared.Written.the-variants.{Places}
-use Rattle.ground.specs.Outcomes.{Outcome}
+use Rattle.ground.specs.Outcomes.{wroteInto}
 use Rattle.bits.specs.Bits.{AllBytes}
 use Rattle.link_writer.specs.Laws.Accepted.{passed-write}
 use Rattle.link_writer.specs.Writing.{writeOutcome}
 use Rattle.links.specs.Links.{Links}
 use Rattle.stored_links.specs.Form.{linkBytes, linkUsed}
-use Rattle.stored_links.specs.Laws.Positions.{TableAt}
 use Rattle.stored_links.specs.Laws.ReadAt.{used-bytes}
 use Rattle.stored_links.specs.Laws.WriteBack.{read-links}
 use Rattle.stored_links.specs.Said.{Marked, costsOf, farsOf}
 use Rattle.bits.specs.declared.Form.{Form}
-
--- an accepted writing of the bytes m into the lent ones
-abbrev pub wroteInto : ℕ → List ℕ → List ℕ → Outcome Written
-wroteInto used m out = record { answer = Places used; places = front m out }
+use Rattle.stored_links.specs.Stored.{TableAt}
 
 module _ (form : Form) where
   -- a link table is written where there is room for it

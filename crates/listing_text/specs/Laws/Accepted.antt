@@ -15,7 +15,6 @@ use Rattle.ground.specs.declared.Written.the-variants as written
 use Rattle.theory.specs.Laws.RowCount.{row-count}
 use Rattle.theory.specs.LinkTables.{costs, far, fars, rowsOf}
 use Rattle.theory.specs.Outcomes.{LeftRows}
-use Rattle.theory.specs.Readings.{measured}
 use Rattle.theory.specs.Routes.{uppers}
 use Rattle.theory.specs.Tables.{CostTable, cost, limit}
 use Rattle.wiring.specs.Check.{wiringCheck}
@@ -26,8 +25,10 @@ use Rattle.routes.specs.Promises.{upper-answer}
 use Rattle.routes.specs.Laws.UpperRows.{uppers-length}
 use Rattle.order.specs.Outcome.{OrderAsked, images, orderOutcome}
 use Rattle.order.specs.Promises.{order-accepted, order-wrote}
+use Rattle.tree.specs.Exact.{exactRows}
 use Rattle.tree.specs.Promises.{exact-answer}
 use Rattle.tree.specs.Readings.{exactCheck, exactOutcome, outcome}
+use Rattle.tree.specs.Laws.Exact.{readings-agree}
 use Rattle.tree.specs.Laws.Writing.{measured-passed}
 use Rattle.listing_text.specs.Lines.{refusedLine}
 use Rattle.listing_text.specs.Listing.{readingText, tableText, textIf}
@@ -77,7 +78,7 @@ pub table-refused : (n : ℕ) (t f v f′ v′ : List ℕ) (q : Refusal) → Cos
     → LeftRows (exactOutcome limit n t f v) (written.Refused q) f′ v′ → tableText n t ≡ refusedLine q
 table-refused n t f v f′ v′ q c a b l = go (wiringCheck (cost t n) n) _ (rw (exact-wiring n t f v c a b) at (l .answered))
   where
-    go : (k : Check) (m : List ℕ) → written.Refused q ≡ outcome k (measured limit (cost t n) n) f v .answer → textIf k m ≡ refusedLine q
+    go : (k : Check) (m : List ℕ) → written.Refused q ≡ outcome k (exactRows limit n t) f v .answer → textIf k m ≡ refusedLine q
     go Passed m e = absurd (let z : _≡_ {A = ℕ} 0 1 = cc in omega arith)
     go (Refused p) m e = let s : p ≡ q = cc in ap refusedLine s
 
@@ -91,18 +92,18 @@ pub record Read (n : ℕ) (t : List ℕ) (r : ℕ) (f v : List ℕ) : Type 0 whe
 
 pub table-read : (n : ℕ) (t f v f′ v′ : List ℕ) (r : ℕ) → CostTable limit n t → 125 ≤ length f → 125 ≤ length v → LeftRows (exactOutcome limit n t f v) (Places r) f′ v′ → Read n t r f′ v′
 table-read n t f v f′ v′ r c a b l =
-    let T = measured limit (cost t n) n in
+    let T = exactRows limit n t in
     let g = go (wiringCheck (cost t n) n) _ (rw (exact-wiring n t f v c a b) at (l .answered)) (rw (exact-wiring n t f v c a b) at (l .far-sides)) (rw (exact-wiring n t f v c a b) at (l .doubled)) in
     let x : length (take r f′) ≡ r = ap length (g .1) ∙ length-map T far ∙ sym (g .0) in
     let y : length (take r v′) ≡ r = ap length (g .2) ∙ length-map T (λ q. q .1) ∙ sym (g .0) in
     let k : Links limit n (length (take r f′)) (take r f′) (take r v′) =
     record { some = c .some; few = c .few; counted = refl; costed = y ∙ sym x; table = exact-answer limit n t f v r f′ v′ l .exact .tree } in
-    record { few = omega (arith, x, links-few n (take r f′) (take r v′) k); far-length = x; cost-length = y; links = k; text = g .3 ∙ rw (g .1, g .2) refl }
+    record { few = omega (arith, x, links-few n (take r f′) (take r v′) k); far-length = x; cost-length = y; links = k; text = g .3 ∙ rw (g .1, g .2, readings-agree limit n t) refl }
   where
-    go : (k : Check) (m : List ℕ) → Places r ≡ outcome k (measured limit (cost t n) n) f v .answer → f′ ≡ outcome k (measured limit (cost t n) n) f v .far-list → v′ ≡ outcome k (measured limit (cost t n) n) f v .cost-list
-        → (r ≡ length (measured limit (cost t n) n)) × (take r f′ ≡ fars (measured limit (cost t n) n)) × (take r v′ ≡ costs (measured limit (cost t n) n)) × (textIf k m ≡ m)
+    go : (k : Check) (m : List ℕ) → Places r ≡ outcome k (exactRows limit n t) f v .answer → f′ ≡ outcome k (exactRows limit n t) f v .far-list → v′ ≡ outcome k (exactRows limit n t) f v .cost-list
+        → (r ≡ length (exactRows limit n t)) × (take r f′ ≡ fars (exactRows limit n t)) × (take r v′ ≡ costs (exactRows limit n t)) × (textIf k m ≡ m)
     go Passed m e x y =
-        let T = measured limit (cost t n) n in
+        let T = exactRows limit n t in
         let s : r ≡ length T = cc in
         (s, ap (take r) x ∙ take-at (fars T) _ r (length-map T far ∙ sym s), ap (take r) y ∙ take-at (costs T) _ r (length-map T (λ q. q .1) ∙ sym s), refl)
     go (Refused p) m e x y = absurd (let z : _≡_ {A = ℕ} 0 1 = cc in omega arith)

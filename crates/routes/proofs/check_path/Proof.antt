@@ -28,8 +28,8 @@ enum-told-3 c = search needs
 enum-told-4 : tie.Need-enum-told-4
 enum-told-4 c = search needs
 
-check-images-requires : tie.Need-check-images-requires
-check-images-requires c κs = search needs
+check-both-requires : tie.Need-check-both-requires
+check-both-requires c κs = search needs
 
 returns : tie.Need-returns
 returns c = then-stops _ _ (c .enum-told .given .1) (c .before .before .check-rows-size .ensures)
@@ -45,7 +45,7 @@ returns-3 c =
     let b = c .before in
     let d = b .before .before .before in
     then-goes _ _ (d .enum-told2 .given .1) (d .before .before .check-rows-size .ensures)
-    (then-goes _ _ (b .enum-told4 .given .1) (b .before .before .check-rows .ensures) (c .check-images .ensures))
+    (then-goes _ _ (b .enum-told4 .given .1) (b .before .before .check-rows .ensures) (c .check-both .ensures))
 
 pub check-path-spec : {M : Type 1} → statement M
 check-path-spec =
@@ -57,7 +57,7 @@ check-path-spec =
     check-rows-requires
     enum-told-3
     enum-told-4
-    check-images-requires
+    check-both-requires
     returns
     returns-2
     returns-3)

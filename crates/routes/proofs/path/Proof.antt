@@ -5,15 +5,16 @@ use native.Mathlib.Omega.{arith}
 use borrow.Author.Needs.{needs}
 use Rattle.ground.specs.Laws.Refusals.{if-goes, if-stops}
 use Rattle.theory.specs.Tables.{limit}
-use Rattle.routes.specs.Laws.Accepted.{PathTaken, path-passed}
+use Rattle.routes.specs.Laws.Accepted.{path-passed}
 use Rattle.routes.specs.Laws.PathSums.{path-fits}
 use Rattle.ground.specs.declared.Answer.the-variants.{Value}
 use Rattle.ground.specs.declared.Answer.the-variants as answer
 use Rattle.routes.proofs.path.Statement.{statement}
+use Rattle.routes.specs.Asked.{PathAsked}
 use Rattle.routes.proofs.path.Tie as tie
 
 -- what the checks say once they have passed
-taken : (c : tie.After-enum-told) → let a = c .before .before .before .before .before .args in PathTaken limit (a .n) (a .count) (a .fars .now) (a .costs .now) (a .i) (a .j)
+taken : (c : tie.After-enum-told) → let a = c .before .before .before .before .before .args in PathAsked limit (a .n) (a .count) (a .fars .now) (a .costs .now) (a .i) (a .j)
 taken c = path-passed _ _ _ _ _ _ _ (rw (c .before .before .check-path .ensures) at (c .enum-told .given .1))
 
 check-path-requires : tie.Need-check-path-requires

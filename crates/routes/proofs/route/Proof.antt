@@ -9,14 +9,15 @@ use Rattle.ground.specs.Laws.Buffers.{sets-front}
 use Rattle.ground.specs.Laws.Outcomes.{written-goes, written-stops}
 use Rattle.theory.specs.FarSides.{own}
 use Rattle.theory.specs.Tables.{limit}
-use Rattle.routes.specs.Laws.Accepted.{RouteTaken, few-rows, own-place, route-passed}
+use Rattle.routes.specs.Laws.Accepted.{few-rows, own-place, route-passed}
 use Rattle.routes.specs.Climbs.{climbFrom}
 use Rattle.routes.specs.Laws.Climbs.{climb-most}
 use Rattle.routes.proofs.route.Statement.{statement}
+use Rattle.routes.specs.Asked.{RouteAsked}
 use Rattle.routes.proofs.route.Tie as tie
 
 -- what the checks say once they have passed
-taken : (c : tie.After-enum-told) → let a = c .before .before .before .before .before .before .args in RouteTaken limit (a .n) (a .count) (a .fars .now) (a .costs .now) (a .i) (length (a .out .now))
+taken : (c : tie.After-enum-told) → let a = c .before .before .before .before .before .before .args in RouteAsked limit (a .n) (a .count) (a .fars .now) (a .costs .now) (a .i) (length (a .out .now))
 taken c = route-passed _ _ _ _ _ _ _ (rw (c .before .before .check-route .ensures) at (c .enum-told .given .1))
 
 -- the climb starts at the own link, which is one of the rows

@@ -7,13 +7,14 @@ use Rattle.ground.specs.Laws.Buffers.{over-all}
 use Rattle.ground.specs.Laws.Outcomes.{written-goes, written-stops}
 use Rattle.theory.specs.Routes.{uppers}
 use Rattle.theory.specs.Tables.{limit}
-use Rattle.routes.specs.Laws.Accepted.{UppersTaken, few-rows, upper-passed}
+use Rattle.routes.specs.Laws.Accepted.{few-rows, upper-passed}
 use Rattle.routes.specs.Laws.UpperRows.{uppers-length}
 use Rattle.routes.proofs.upper_rows.Statement.{statement}
+use Rattle.routes.specs.Asked.{UppersAsked}
 use Rattle.routes.proofs.upper_rows.Tie as tie
 
 -- what the checks say once they have passed
-taken : (c : tie.After-enum-told) → let a = c .before .before .before .before .before .before .args in UppersTaken limit (a .n) (a .count) (a .fars .now) (a .costs .now) (length (a .out .now))
+taken : (c : tie.After-enum-told) → let a = c .before .before .before .before .before .before .args in UppersAsked limit (a .n) (a .count) (a .fars .now) (a .costs .now) (length (a .out .now))
 taken c = upper-passed _ _ _ _ _ _ (rw (c .before .before .check-uppers .ensures) at (c .enum-told .given .1))
 
 check-uppers-requires : tie.Need-check-uppers-requires

@@ -20,6 +20,7 @@ use Rattle.links.specs.Laws.LinkChecks.{link-checks, rows-length}
 use Rattle.links.specs.Laws.Searches.{place-in}
 use Rattle.theory.specs.Checks.{imageCheck}
 use Rattle.routes.specs.Orders.{pathChecks, routeChecks, upperChecks}
+use Rattle.routes.specs.Asked.{PathAsked, RouteAsked, UppersAsked}
 
 -- the size and row checks, whatever stands between them
 links-passed : (L n N : ℕ) (l v : List ℕ) → sizeChecks n N l v ≡ Passed → rowChecks L n l v ≡ Passed → Links L n N l v
@@ -36,14 +37,7 @@ passed-image n i a b = rw (le-ltb i 1 a, le-ltb n i b)
 
 -- ## path: a link table, and both images are 1 to n
 
-pub record PathTaken (L n N : ℕ) (l v : List ℕ) (i j : ℕ) : Type 0 where
-  pub table : Links L n N l v
-  pub low : 1 ≤ i
-  pub high : i ≤ n
-  pub low′ : 1 ≤ j
-  pub high′ : j ≤ n
-
-pub path-passed : (L n N : ℕ) (l v : List ℕ) (i j : ℕ) → pathChecks L n N l v i j ≡ Passed → PathTaken L n N l v i j
+pub path-passed : (L n N : ℕ) (l v : List ℕ) (i j : ℕ) → pathChecks L n N l v i j ≡ Passed → PathAsked L n N l v i j
 path-passed L n N l v i j e =
     let p = then-passed (sizeChecks n N l v) _ e in
     let q = then-passed (rowChecks L n l v) _ (p .1) in
@@ -52,40 +46,31 @@ path-passed L n N l v i j e =
     let b = image-passed n j (r .1) in
     record { table = links-passed L n N l v (p .0) (q .0); low = a .0; high = a .1; low′ = b .0; high′ = b .1 }
 
-pub passed-path : (L n N : ℕ) (l v : List ℕ) (i j : ℕ) → PathTaken L n N l v i j → pathChecks L n N l v i j ≡ Passed
+pub passed-path : (L n N : ℕ) (l v : List ℕ) (i j : ℕ) → PathAsked L n N l v i j → pathChecks L n N l v i j ≡ Passed
 passed-path L n N l v i j t =
     let p = passed-links L n N l v (t .table) in
     rw (p .0, p .1, passed-image n i (t .low) (t .high)) (passed-image n j (t .low′) (t .high′))
 
 -- ## upper rows: a link table, and room for 2 n - 3 places
 
-pub record UppersTaken (L n N : ℕ) (l v : List ℕ) (room : ℕ) : Type 0 where
-  pub table : Links L n N l v
-  pub spare : 2 * n - 3 ≤ room
-
-pub upper-passed : (L n N : ℕ) (l v : List ℕ) (room : ℕ) → upperChecks L n N l v room ≡ Passed → UppersTaken L n N l v room
+pub upper-passed : (L n N : ℕ) (l v : List ℕ) (room : ℕ) → upperChecks L n N l v room ≡ Passed → UppersAsked L n N l v room
 upper-passed L n N l v room e =
     let p = then-passed (sizeChecks n N l v) _ e in
     let q = then-passed (roomCheck (2 * n - 3) room) (rowChecks L n l v) (p .1) in
     record { table = links-passed L n N l v (p .0) (q .1); spare = ltb-false room (2 * n - 3) (refuseIf-passed (ltb room (2 * n - 3)) (refusal 3 0 0 0 0) (q .0)) }
 
-pub passed-upper : (L n N : ℕ) (l v : List ℕ) (room : ℕ) → UppersTaken L n N l v room → upperChecks L n N l v room ≡ Passed
+pub passed-upper : (L n N : ℕ) (l v : List ℕ) (room : ℕ) → UppersAsked L n N l v room → upperChecks L n N l v room ≡ Passed
 passed-upper L n N l v room t = let p = passed-links L n N l v (t .table) in rw (p .0, le-ltb room (2 * n - 3) (t .spare)) (p .1)
 
 -- ## routes: the same, and the image is 1 to n
 
-pub record RouteTaken (L n N : ℕ) (l v : List ℕ) (i room : ℕ) : Type 0 where
-  pub uppers : UppersTaken L n N l v room
-  pub low : 1 ≤ i
-  pub high : i ≤ n
-
-pub route-passed : (L n N : ℕ) (l v : List ℕ) (i room : ℕ) → routeChecks L n N l v i room ≡ Passed → RouteTaken L n N l v i room
+pub route-passed : (L n N : ℕ) (l v : List ℕ) (i room : ℕ) → routeChecks L n N l v i room ≡ Passed → RouteAsked L n N l v i room
 route-passed L n N l v i room e =
     let p = then-passed (upperChecks L n N l v room) (imageCheck n i) e in
     let a = image-passed n i (p .1) in
     record { uppers = upper-passed L n N l v room (p .0); low = a .0; high = a .1 }
 
-pub passed-route : (L n N : ℕ) (l v : List ℕ) (i room : ℕ) → RouteTaken L n N l v i room → routeChecks L n N l v i room ≡ Passed
+pub passed-route : (L n N : ℕ) (l v : List ℕ) (i room : ℕ) → RouteAsked L n N l v i room → routeChecks L n N l v i room ≡ Passed
 passed-route L n N l v i room t = rw (passed-upper L n N l v room (t .uppers)) (passed-image n i (t .low) (t .high))
 
 -- ## What private functions need of a table that was accepted

@@ -1,5 +1,5 @@
 -- A route ascends from the own link to the last row, and has exactly the rows that hold its image. Assumes nothing.
-use mathlib.Core.Bool.{Bool, true}
+use mathlib.Core.Bool.{true}
 use mathlib.Core.List.{List, List·Memᴰ, List·Memᴰ·head, List·Memᴰ·tail, [], _∷_}
 use mathlib.Core.Path.{ap, refl, subst, _≡_}
 use Prim.Native.Nat.{suc, zero, ℕ, _+_, _-_, _<_, _^_, _≤_}
@@ -24,12 +24,9 @@ use Rattle.routes.specs.Laws.Accepted.{few-rows, own-place}
 use Rattle.routes.specs.Laws.Climbs.{climb-between, climb-last, climb-next, climb-none, ends-with}
 use Rattle.routes.specs.Laws.Containing.{contains-holds, full-contains-all, last-place, last-row, later-contains, own-at, row-side, rows-ascend, upper-none}
 use Rattle.routes.specs.Laws.UpperRows.{upper-contains, upper-first, upper-later, upper-most}
+use Rattle.routes.specs.Climbs.{heldBy}
 
 -- ## The rows that hold an image
-
--- row r, numbered from 1, holds image i
-abbrev pub heldBy : List ℕ → ℕ → ℕ → Bool
-heldBy l i r = holds (getD l (r - 1) 0) i
 
 module _ (L n N : ℕ) (l v : List ℕ) (t : Links L n N l v) (i : ℕ) (hi : i < n) where
   -- from a row that holds i a climb has only such rows

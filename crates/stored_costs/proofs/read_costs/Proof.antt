@@ -4,11 +4,12 @@ use Prim.Native.Nat.{_/_}
 use native.Mathlib.Omega.{arith}
 use lib.ListN.{length}
 use Rattle.ground.specs.Laws.Buffers.{rest-part}
-use Rattle.stored_costs.specs.Laws.Passed.{TableAt, judged-refused, readable-held, table-at}
+use Rattle.stored_costs.specs.Laws.Passed.{judged-refused, readable-held, table-at}
 use borrow.Author.Needs.{needs}
 use Rattle.ground.specs.Laws.Outcomes.{front-goes, front-stops}
 use Rattle.stored_costs.proofs.read_costs.Statement.{statement}
 use Rattle.stored_costs.specs.Form.{oldCosts}
+use Rattle.stored_costs.specs.Stored.{TableAt}
 use Rattle.stored_costs.proofs.read_costs.Tie as tie
 
 told : (c : tie.After-n) → TableAt oldCosts (c .before .before .before .before .before .args .bytes .now) (c .before .before .before .before .before .args .position) (length (c .before .before .before .before .before .args .out .now)) (c .n .given .0 .0) (c .n .given .0 .1 .0)

@@ -27,6 +27,7 @@ use Rattle.stored_costs.specs.Reading.{bodyChecks, readAtChecks, readChe
 use Rattle.stored_costs.specs.Sizes.{Held}
 use Rattle.stored_costs.specs.declared.StoredCosts.the-variants.{Table}
 use Rattle.bits.specs.declared.Form.{Form}
+use Rattle.stored_costs.specs.Stored.{Readable, TableAt}
 use Rattle.stored_costs.specs.declared.StoredCosts.the-variants as stored
 
 -- ## Refusal 4
@@ -61,16 +62,6 @@ body-passed form n s e =
     (ltb-false _ _ (refuseIf-passed (ltb (length s) (costUsed form n)) _ (u .0)), omega (arith, z))
 
 -- ## All of them
-
--- the bytes s begin with a stored table, and there is room for it
-pub record Readable (form : Form) (s : List ℕ) (room : ℕ) : Type 0 where
-  pub begun : bytesFor (form .head + 7) ≤ length s
-  pub some : 3 ≤ imagesOf form s
-  pub few : imagesOf form s ≤ 64
-  pub roomy : imagesOf form s * imagesOf form s ≤ room
-  pub whole : costUsed form (imagesOf form s) ≤ length s
-  pub clear : fillOf form (imagesOf form s) s ≡ 0
-  pub fine : (i j : ℕ) → i < j → j < imagesOf form s → entryOf form s (entryNumber (imagesOf form s) i j) ≤ form .limit
 
 module _ (form : Form) (s : List ℕ) (room : ℕ) where
   pub read-passed : readChecks form s room ≡ Passed → Readable form s room
@@ -126,15 +117,6 @@ module _ (form : Form) (bytes : List ℕ) (position room : ℕ) where
       let q = or-false (ltb (length bytes) (position / 8)) (ltb 0 (position % 8)) (refuseIf-passed (misplaced (length bytes) position) _ (p .0)) in
       let z = ltb-false 0 (position % 8) (q .1) in
       (ltb-false (length bytes) (position / 8) (q .0), omega (arith, z), read-passed form (drop (position / 8) bytes) room (p .1))
-
--- the answer is this table: what it says of the bytes
-pub record TableAt (form : Form) (bytes : List ℕ) (position room n used : ℕ) : Type 0 where
-  pub passed : readAtChecks form bytes position room ≡ Passed
-  pub inside : position / 8 ≤ length bytes
-  pub aligned : position % 8 ≡ 0
-  pub number : imagesOf form (drop (position / 8) bytes) ≡ n
-  pub count : costUsed form n ≡ used
-  pub readable : Readable form (drop (position / 8) bytes) room
 
 pub table-at : (form : Form) (bytes : List ℕ) (position room n used : ℕ) → judged form bytes position room ≡ Table n used → TableAt form bytes position room n used
 table-at form bytes position room n used e =

@@ -6,13 +6,12 @@ use native.Mathlib.Omega.{arith}
 use lib.ListN.{drop, length, length-append, take}
 use lib.Seq.{drop-append-seam}
 use borrow.Author.Tests.{le-ltb}
-use Rattle.ground.specs.Buffers.{front}
 use Rattle.ground.specs.Outcomes.{Outcome, frontIf}
 use Rattle.theory.specs.Tables.{CostTable, cost}
 use Rattle.bits.specs.Bits.{AllBytes}
 use Rattle.bits.specs.Laws.Written.{all-bytes-drop}
 use Rattle.stored_costs.specs.Form.{costBytes, costUsed, storedTable, imagesOf, Marked}
-use Rattle.stored_costs.specs.Laws.Passed.{Readable, passed-read, table-at}
+use Rattle.stored_costs.specs.Laws.Passed.{passed-read, table-at}
 use Rattle.stored_costs.specs.Laws.ReadBack.{written-costs-of, written-images, written-readable}
 use Rattle.stored_costs.specs.Laws.WriteBack.{read-written}
 use Rattle.stored_costs.specs.Outcomes.{judged, readOutcome, tableIf}
@@ -20,10 +19,7 @@ use Rattle.stored_costs.specs.Reading.{readChecks}
 use Rattle.stored_costs.specs.declared.StoredCosts.{StoredCosts}
 use Rattle.stored_costs.specs.declared.StoredCosts.the-variants.{Table}
 use Rattle.bits.specs.declared.Form.{Form}
-
--- an accepted reading into the lent places
-abbrev pub readInto : ℕ → ℕ → List ℕ → List ℕ → Outcome StoredCosts
-readInto n used t out = record { answer = Table n used; places = front t out }
+use Rattle.stored_costs.specs.Stored.{Readable, readInto}
 
 module _ (form : Form) where
   -- what reading at the front of s gives

@@ -22,9 +22,9 @@ use Rattle.stored_costs.specs.Entries.{entries, entriesTo, entryCount, e
 use Rattle.stored_costs.specs.Form.{costBytes, costEnd, storedTable, entryOf, fillOf, imagesOf}
 use Rattle.stored_costs.specs.Laws.Entries.{entry-is, length-entries, length-row, number-lt}
 use Rattle.stored_costs.specs.Laws.Form.{all-bits-costs, cost-parts, costBits, entryBits, length-cost-bits, length-costs, length-entry-bits, length-front}
-use Rattle.stored_costs.specs.Laws.Passed.{Readable}
 use Rattle.stored_costs.specs.Laws.Tables.{table-is}
 use Rattle.bits.specs.declared.Form.{Form}
+use Rattle.stored_costs.specs.Stored.{Readable}
 
 -- no entry is above what the costs are not above
 entries-small : (d : ℕ → ℕ → ℕ) (n L : ℕ) → ((i j : ℕ) → i < j → j < n → d i j ≤ L) → (k : ℕ) → getD (entries d n) k 0 ≤ L

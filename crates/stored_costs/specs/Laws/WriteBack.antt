@@ -17,9 +17,9 @@ use Rattle.bits.specs.Laws.Written.{all-bytes-take, bits-take}
 use Rattle.stored_costs.specs.Entries.{entryCount}
 use Rattle.stored_costs.specs.Form.{costBytes, costEnd, costUsed, storedTable, entryOf, fillOf, imagesOf, Marked}
 use Rattle.stored_costs.specs.Laws.Form.{all-bits-costs, cost-parts, costBits, entryBits, length-cost-bits}
-use Rattle.stored_costs.specs.Laws.Passed.{Readable}
 use Rattle.stored_costs.specs.Laws.Tables.{table-entries, table-formed}
 use Rattle.bits.specs.declared.Form.{Form}
+use Rattle.stored_costs.specs.Stored.{Readable}
 
 -- bits read as a number are the bits of that number
 part-again : (l : List ℕ) (position w : ℕ) → AllBits l → position + w ≤ length l → bitsOf w (valueOf (part l position w)) ≡ part l position w

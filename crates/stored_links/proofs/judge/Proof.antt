@@ -8,9 +8,10 @@ use Rattle.ground.specs.Laws.Refusals.{if-goes, if-stops}
 use Rattle.stored_links.specs.Said.{countOf, imagesOf, usedOf}
 use Rattle.stored_links.specs.declared.StoredLinks.the-variants as stored
 use Rattle.stored_links.specs.Laws.Passed.{stored-held}
-use Rattle.stored_links.specs.Laws.Positions.{TableAt, read-at-passed}
+use Rattle.stored_links.specs.Laws.Positions.{read-at-passed}
 use borrow.Author.Needs.{needs}
 use Rattle.stored_links.proofs.judge.Statement.{statement}
+use Rattle.stored_links.specs.Stored.{TableAt}
 use Rattle.stored_links.proofs.judge.Tie as tie
 
 abbrev begun : tie.After-enum-told → tie.Start

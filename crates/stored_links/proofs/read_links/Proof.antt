@@ -8,11 +8,12 @@ use Rattle.ground.specs.declared.Check.the-variants.{Passed}
 use Rattle.stored_links.specs.Outcomes.{judged}
 use Rattle.stored_links.specs.Reading.{readAtChecks}
 use Rattle.stored_links.specs.Laws.Passed.{stored-held}
-use Rattle.stored_links.specs.Laws.Positions.{TableAt, refused-at, table-at}
+use Rattle.stored_links.specs.Laws.Positions.{refused-at, table-at}
 use borrow.Author.Needs.{needs}
 use Rattle.ground.specs.Laws.Outcomes.{front-goes, front-stops}
 use Rattle.stored_links.proofs.read_links.Statement.{statement}
 use Rattle.stored_links.specs.Form.{oldLinks}
+use Rattle.stored_links.specs.Stored.{TableAt}
 use Rattle.stored_links.proofs.read_links.Tie as tie
 
 abbrev begun : tie.After-judge-links → tie.Start

@@ -21,6 +21,7 @@ use Rattle.stored_links.specs.Reading.{bodyChecks, headChecks, readCheck
 use Rattle.stored_links.specs.Said.{costAt, costsOf, countOf, farAt, farsOf, fillOf, imagesOf}
 use Rattle.stored_links.specs.Sizes.{Held}
 use Rattle.bits.specs.declared.Form.{Form}
+use Rattle.stored_links.specs.Stored.{Stored}
 
 -- ## Refusals 9, 1, 10, and 9, 11, 12, 13
 
@@ -49,19 +50,6 @@ body-passed form n N s e =
     (end-passed s (linkUsed form n N) (p .0), fill-passed (fillOf form n N s) (q .0), q .1)
 
 -- ## All of them
-
--- the bytes s begin with a stored link table of N rows over n images
-pub record Stored (form : Form) (n N : ℕ) (s : List ℕ) : Type 0 where
-  pub begun : bytesFor (form .head + 14) ≤ length s
-  pub images : imagesOf form s ≡ n
-  pub counted : countOf form s ≡ N
-  pub some : 3 ≤ n
-  pub few : n ≤ 64
-  pub least : n ≤ N
-  pub most : N ≤ 2 * n - 3
-  pub whole : linkUsed form n N ≤ length s
-  pub clear : fillOf form n N s ≡ 0
-  pub rows : LinkTable (form .limit) n (rowsOf (farsOf form n N s) (costsOf form n N s))
 
 module _ (form : Form) (s : List ℕ) where
   same-length : (n N : ℕ) → length (farsOf form n N s) ≡ length (costsOf form n N s)

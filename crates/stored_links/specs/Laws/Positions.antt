@@ -13,22 +13,15 @@ use Rattle.ground.specs.declared.Check.{Check}
 use Rattle.ground.specs.declared.Check.the-variants.{Passed, Refused}
 use Rattle.ground.specs.declared.Refusal.{Refusal}
 use Rattle.bits.specs.Kinds.{misplaced, positionCheck}
-use Rattle.stored_links.specs.Form.{linkUsed}
 use Rattle.stored_links.specs.Laws.Outcomes.{table-passed, table-refused}
-use Rattle.stored_links.specs.Laws.Passed.{Stored, head-passed, passed-read, read-passed, room-goes}
+use Rattle.stored_links.specs.Laws.Passed.{head-passed, passed-read, read-passed, room-goes}
 use Rattle.stored_links.specs.Outcomes.{judged}
 use Rattle.stored_links.specs.Reading.{readAtChecks, readChecks, tableAtChecks}
 use Rattle.stored_links.specs.Said.{countOf, imagesOf, usedOf}
 use Rattle.stored_links.specs.declared.StoredLinks.the-variants.{Table}
 use Rattle.bits.specs.declared.Form.{Form}
+use Rattle.stored_links.specs.Stored.{TableAt}
 use Rattle.stored_links.specs.declared.StoredLinks.the-variants as stored
-
--- the answer is this table: what it says of the bytes from the position on
-pub record TableAt (form : Form) (bytes : List ℕ) (position n N used : ℕ) : Type 0 where
-  pub inside : position / 8 ≤ length bytes
-  pub aligned : position % 8 ≡ 0
-  pub stored : Stored form n N (drop (position / 8) bytes)
-  pub used-is : linkUsed form n N ≡ used
 
 module _ (form : Form) (bytes : List ℕ) (position : ℕ) where
   pub position-passed : positionCheck bytes position ≡ Passed → (position / 8 ≤ length bytes) × (position % 8 ≡ 0)

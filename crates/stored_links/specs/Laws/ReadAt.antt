@@ -6,27 +6,20 @@ use native.Mathlib.Omega.{arith}
 use lib.ListN.{drop, length, length-append, take}
 use lib.Seq.{drop-append-seam}
 use borrow.Author.Tests.{le-ltb}
-use Rattle.ground.specs.Buffers.{front}
 use Rattle.ground.specs.declared.Check.{Check}
-use Rattle.theory.specs.Outcomes.{RowsOutcome}
 use Rattle.bits.specs.Bits.{AllBytes}
 use Rattle.bits.specs.Laws.Written.{all-bytes-drop}
 use Rattle.links.specs.Links.{Links}
 use Rattle.stored_links.specs.Form.{linkBytes, linkUsed}
-use Rattle.stored_links.specs.Laws.Passed.{Stored, passed-read}
-use Rattle.stored_links.specs.Laws.Positions.{TableAt, enough-room}
+use Rattle.stored_links.specs.Laws.Passed.{passed-read}
+use Rattle.stored_links.specs.Laws.Positions.{enough-room}
 use Rattle.stored_links.specs.Laws.ReadBack.{written-costs, written-fars, written-stored}
 use Rattle.stored_links.specs.Laws.WriteBack.{read-written}
 use Rattle.stored_links.specs.Outcomes.{readOutcome, rowsIf}
 use Rattle.stored_links.specs.Reading.{readChecks, tableAtChecks}
 use Rattle.stored_links.specs.Said.{costsOf, farsOf, Marked}
-use Rattle.stored_links.specs.declared.StoredLinks.{StoredLinks}
-use Rattle.stored_links.specs.declared.StoredLinks.the-variants.{Table}
 use Rattle.bits.specs.declared.Form.{Form}
-
--- an accepted reading of the rows l and v into the lent slices f and u
-abbrev pub readInto : ℕ → ℕ → ℕ → List ℕ → List ℕ → List ℕ → List ℕ → RowsOutcome StoredLinks
-readInto n N used l v f u = record { answer = Table n N used; far-list = front l f; cost-list = front v u }
+use Rattle.stored_links.specs.Stored.{Stored, TableAt, readInto}
 
 module _ (form : Form) where
   read-front : (bytes s : List ℕ) (k : ℕ) (f u : List ℕ) → k ≤ length bytes → drop k bytes ≡ s

@@ -19,11 +19,11 @@ use Rattle.links.specs.Laws.LinkChecks.{link-rows, rows-length}
 use Rattle.links.specs.Laws.RowTests.{GoodRow}
 use Rattle.stored_links.specs.Form.{linkBytes, linkUsed, rowAt}
 use Rattle.stored_links.specs.Laws.Form.{allRows, bits-links-then, frontBits, length-all-rows, length-front, length-links}
-use Rattle.stored_links.specs.Laws.Passed.{Stored}
 use Rattle.stored_links.specs.Laws.Rows.{cost-found, far-found}
 use Rattle.stored_links.specs.Said.{costAt, costsOf, countOf, farAt, farsOf, fillOf, imagesOf}
 use types.Part.{whole}
 use Rattle.bits.specs.declared.Form.{Form}
+use Rattle.stored_links.specs.Stored.{Stored}
 
 -- a far side without image 0 is twice its half, and its half fits one bit less
 pub half-fits : (n S : ℕ) → 3 ≤ n → S < 2 ^ n → S / 2 < 2 ^ (n - 1)

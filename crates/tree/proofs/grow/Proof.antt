@@ -72,7 +72,7 @@ put-rows-requires : tie.Need-put-rows-requires
 put-rows-requires c κs =
     let h = c .before .before .before .before .before .before .before .before .before .before .before .before .before .before in let b = start h in let p = b .pre in (
       few b,
-      held-given limit _ _ _ _ _ _ _ _ (few b) (search needs) (p .3) (rowed b) (h .brought .kept .1 .1 .1 .1 .1 .0) (h .brought .ensures .room) (h .brought .ensures .outside),
+      held-given limit _ _ _ _ _ _ _ _ (few b) (search needs) (p .3) (rowed b) (search needs) (h .brought .ensures .room) (h .brought .ensures .outside),
       room-outside limit _ _ (p .1) (few b) (formed b) _ (outside h) _ _ (rooms h) (p .5),
     )
 

@@ -4,7 +4,7 @@ use Prim.Native.Nat.{_-_, _≤_}
 use native.Mathlib.Omega.{arith}
 use lib.ListN.{length}
 use Rattle.theory.specs.Tables.{cost, limit}
-use Rattle.tree.specs.Held.{Held}
+use Rattle.tree.specs.Held.{RowsHeld}
 use Rattle.tree.specs.Laws.Grown.{held-none}
 use Rattle.tree.specs.Laws.Held.{held-written}
 use borrow.Author.Needs.{needs}
@@ -13,7 +13,7 @@ use Rattle.tree.proofs.measured_rows.Tie as tie
 
 abbrev Inv-loop : tie.InvT-loop
 Inv-loop n t f₀ v₀ fars₀ costs₀ steps₀ best₀ count₀ k₀ f v fars costs steps best count k =
-    (1 ≤ k) × (k ≤ n) × Held limit (cost t n) k f v count × (length fars ≡ 128) × (length costs ≡ 128) × (length steps ≡ 384) × (length best ≡ 192)
+    (1 ≤ k) × (k ≤ n) × RowsHeld limit (cost t n) k f v count × (length fars ≡ 128) × (length costs ≡ 128) × (length steps ≡ 384) × (length best ≡ 192)
 
 abbrev μ-loop : tie.MeasureT-loop
 μ-loop n t f₀ v₀ fars₀ costs₀ steps₀ best₀ count₀ k₀ f v fars costs steps best count k = n - k

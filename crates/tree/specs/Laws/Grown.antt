@@ -21,12 +21,12 @@ use Rattle.tree.specs.Growing.{Turned, stayed}
 use Rattle.tree.specs.Laws.Growing.{step-stayed, turned}
 use Rattle.tree.specs.LocalRows.{rowsIn}
 use Rattle.tree.specs.Laws.LocalRows.{rowsIn-length, rowsIn-none}
-use Rattle.tree.specs.Putting.{PutAll, Room}
-use Rattle.tree.specs.Held.{Held}
+use Rattle.tree.specs.Putting.{PutAll, PutRoom}
+use Rattle.tree.specs.Held.{RowsHeld}
 
 module _ (L : ℕ) (d : ℕ → ℕ → ℕ) where
   -- over one image there is no row
-  pub held-none : (f v : List ℕ) → length f ≡ 128 → length v ≡ 128 → Held L d 1 f v 0
+  pub held-none : (f v : List ℕ) → length f ≡ 128 → length v ≡ 128 → RowsHeld L d 1 f v 0
   held-none f v h l = record { is = rowsIn-none f v; far-room = h; cost-room = l; few = omega arith }
 
   grown : (k : ℕ) → 1 ≤ k → WellFormed L d (suc k)
@@ -50,7 +50,7 @@ module _ (L : ℕ) (d : ℕ → ℕ → ℕ) where
   -- the rows with image k outside, each cost lowered, of which those stay that the theory names
   module _ (k : ℕ) (h : 1 ≤ k) (few : k < 64) (c : WellFormed L d (suc k)) (outs : List Row) (out : filter (stays (suc k)) outs ≡ stayed L d k 0 (measured L d k))
       (f₀ v₀ : List ℕ) (e : length f₀ ≡ 128) (g : length v₀ ≡ 128) where
-    pub room-outside : Room k outs 0 f₀ v₀
+    pub room-outside : PutRoom k outs 0 f₀ v₀
     room-outside = record { for-fars = rw out (omega (arith, grown-room k h c)); for-costs = rw out (omega (arith, grown-room k h c)) }
 
     module _ (a : ℕ) (f₁ v₁ : List ℕ) (q : PutAll k outs 0 f₀ v₀ a f₁ v₁) where
@@ -75,13 +75,13 @@ module _ (L : ℕ) (d : ℕ → ℕ → ℕ) where
         sizes = (rw (t .far-stored) (simp length-set (q .far-size ∙ e)), rw (t .cost-stored) (simp length-set (q .cost-size ∙ g)))
 
         -- the rows with image k inside, likewise
-        pub room-inside : (ins : List Row) → filter (stays (suc k)) ins ≡ stayed L d k (2 ^ k) (measured L d k) → Room k ins b f₂ v₂
+        pub room-inside : (ins : List Row) → filter (stays (suc k)) ins ≡ stayed L d k (2 ^ k) (measured L d k) → PutRoom k ins b f₂ v₂
         room-inside ins inn = record {
           for-fars = rw inn (omega (arith, own-count, outside-count, grown-room k h c, sizes));
           for-costs = rw inn (omega (arith, own-count, outside-count, grown-room k h c, sizes));
         }
 
-        pub held-more : (ins : List Row) → filter (stays (suc k)) ins ≡ stayed L d k (2 ^ k) (measured L d k) → (r : ℕ) (f₃ v₃ : List ℕ) → PutAll k ins b f₂ v₂ r f₃ v₃ → Held L d (k + 1) f₃ v₃ r
+        pub held-more : (ins : List Row) → filter (stays (suc k)) ins ≡ stayed L d k (2 ^ k) (measured L d k) → (r : ℕ) (f₃ v₃ : List ℕ) → PutAll k ins b f₂ v₂ r f₃ v₃ → RowsHeld L d (k + 1) f₃ v₃ r
         held-more ins inn r f₃ v₃ s =
             let all = s .put ∙ ap₂ _++_ own-rows inn
             ∙ append-assoc (stayed L d k 0 (measured L d k)) (more L d k (2 ^ k) (2 * L) ∷ []) (stayed L d k (2 ^ k) (measured L d k))

@@ -12,7 +12,7 @@ use borrow.Author.Tests.{eqb-false, eqb-true}
 use borrow.Table.Steps.{cases}
 use Rattle.ground.specs.Buffers.{over}
 use Rattle.tree.specs.LocalRows.{rowsIn}
-use Rattle.tree.specs.Held.{Held}
+use Rattle.tree.specs.Held.{RowsHeld}
 
 pub rowsIn-mem : (f v : List ℕ) (i n : ℕ) → i < n → List·Memᴰ (getD f i 0, getD v i 0) (rowsIn f v n)
 unfolding rowsIn
@@ -39,8 +39,8 @@ rowsIn-over zero n g w f v h a b = refl
 rowsIn-over (suc m) n g w f v h a b =
     ap₂ _++_ (rowsIn-over m n g w f v (omega arith) a b) (ap₂ (λ x y. (x, y) ∷ []) (over-at n m g f h a) (over-at n m w v h b))
 
-pub held-written : (L : ℕ) (d : ℕ → ℕ → ℕ) (k count : ℕ) (g w f v f′ v′ : List ℕ) → Held L d k g w count → f′ ≡ over count g f → v′ ≡ over count w v
-    → length f′ ≡ 128 → length v′ ≡ 128 → Held L d k f′ v′ count
+pub held-written : (L : ℕ) (d : ℕ → ℕ → ℕ) (k count : ℕ) (g w f v f′ v′ : List ℕ) → RowsHeld L d k g w count → f′ ≡ over count g f → v′ ≡ over count w v
+    → length f′ ≡ 128 → length v′ ≡ 128 → RowsHeld L d k f′ v′ count
 held-written L d k count g w f v f′ v′ h e q a b = record {
   is = rw (e, q) (rowsIn-over count count g w f v (omega arith) (omega (arith, h .few, h .far-room)) (omega (arith, h .few, h .cost-room)) ∙ h .is);
   far-room = a;

@@ -17,7 +17,7 @@ use Rattle.theory.specs.Readings.{drawn, row, rows}
 use Rattle.theory.specs.Tables.{WellFormed}
 use Rattle.brought.specs.Answers.{Valued}
 use Rattle.brought.specs.Chosen.{Rowed}
-use Rattle.tree.specs.Held.{Held}
+use Rattle.tree.specs.Held.{RowsHeld}
 use Rattle.tree.specs.Laws.Held.{rowsIn-mem, with-image}
 use Rattle.tree.specs.Laws.LocalRows.{rowsIn-fars, rowsIn-length}
 use Rattle.tree.specs.Putting.{Given}
@@ -34,7 +34,7 @@ between-up m k (x ∷ l) i zero b g h = absurd (omega arith)
 between-up m k (x ∷ l) zero (suc j) b g h = between-first (suc x) k l j (b .1) (omega arith)
 between-up m k (x ∷ l) (suc i) (suc j) b g h = between-up (suc x) k l i j (b .1) (omega arith) (omega arith)
 
-module _ (L : ℕ) (d : ℕ → ℕ → ℕ) (k : ℕ) (c : WellFormed L d k) (f v : List ℕ) (count : ℕ) (h : Held L d k f v count) where
+module _ (L : ℕ) (d : ℕ → ℕ → ℕ) (k : ℕ) (c : WellFormed L d k) (f v : List ℕ) (count : ℕ) (h : RowsHeld L d k f v count) where
   same : take count f ≡ rows L d k
   same = rowsIn-fars f v count (omega (arith, h .few, h .far-room)) ∙ ap fars (h .is) ∙ fars-measured L d k
 
@@ -64,12 +64,12 @@ module _ (L : ℕ) (d : ℕ → ℕ → ℕ) (k : ℕ) (c : WellFormed L d k) (f
   }
 
 -- there are few of them
-pub held-few : (L : ℕ) (d : ℕ → ℕ → ℕ) (k : ℕ) → 1 ≤ k → k < 64 → WellFormed L d k → (f v : List ℕ) (count : ℕ) → Held L d k f v count → count ≤ 123
+pub held-few : (L : ℕ) (d : ℕ → ℕ → ℕ) (k : ℕ) → 1 ≤ k → k < 64 → WellFormed L d k → (f v : List ℕ) (count : ℕ) → RowsHeld L d k f v count → count ≤ 123
 held-few L d zero g l c f v count h = absurd (omega arith)
 held-few L d (suc zero) g l c f v count h = omega (arith, sym (rowsIn-length f v count) ∙ ap length (h .is))
 held-few L d (suc (suc k)) g l c f v count h = omega (arith, counted L d (suc (suc k)) c f v count h, rows-most L d k c)
 
-pub held-given : (L : ℕ) (d : ℕ → ℕ → ℕ) (k add : ℕ) (f v slots best : List ℕ) (count : ℕ) → k < 64 → add ≤ 2 ^ k → Held L d k f v count → Rowed k f count
+pub held-given : (L : ℕ) (d : ℕ → ℕ → ℕ) (k add : ℕ) (f v slots best : List ℕ) (count : ℕ) → k < 64 → add ≤ 2 ^ k → RowsHeld L d k f v count → Rowed k f count
     → length slots ≡ 128 → length best ≡ 192 → Valued L d k add f count slots best → Given add f v slots best count
 held-given L d k add f v slots best count g a h r s b w = record {
   far-room = r .rising .room;

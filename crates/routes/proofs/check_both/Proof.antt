@@ -1,8 +1,8 @@
--- `routes::check_images` meets its contract: it stops at the first refusal, as the chain does. Assumes nothing.
+-- `routes::check_both` meets its contract: it stops at the first refusal, as the chain does. Assumes nothing.
 use borrow.Author.Needs.{needs}
 use Rattle.ground.specs.Laws.Refusals.{then-goes, then-stops}
-use Rattle.routes.proofs.check_images.Statement.{statement}
-use Rattle.routes.proofs.check_images.Tie as tie
+use Rattle.routes.proofs.check_both.Statement.{statement}
+use Rattle.routes.proofs.check_both.Tie as tie
 
 is-outside-requires : tie.Need-is-outside-requires
 is-outside-requires c κs = search needs
@@ -30,8 +30,8 @@ returns-2 c =
     let d = c .before .before in
     then-goes _ _ (d .enum-told2 .given .1) (rw (d .before .before .before .is-outside .ensures) at (d .before .before .refuse-if .ensures)) (rw (c .before .is-outside2 .ensures) at (c .refuse-if2 .ensures))
 
-pub check-images-spec : {M : Type 1} → statement M
-check-images-spec =
+pub check-both-spec : {M : Type 1} → statement M
+check-both-spec =
     tie.close
     (tie.spec
     is-outside-requires
