@@ -1,4 +1,5 @@
--- Demands 2 and 3 over what the calls answered and left in the lent slices, f′ and v′ after f and v. Assumes nothing.
+-- Demands 2 and 3 over what the calls answered and left in the lent slices, f′ and v′ after f and v. Demand 1, of every call, is in
+-- kemotuiki/specs/Demand1.antt. Assumes nothing.
 use mathlib.Core.List.{List}
 use mathlib.Core.Logic.{_↔_}
 use mathlib.Core.Path.{refl, subst, _∙_, _≡_}
