@@ -613,6 +613,14 @@ def two_costs(stored, first, second):
     return 0, n, n2, used + used2
 
 
+def first_two(stored, first, second):
+    """One reader takes two cost tables, from bit 0 on. Both answers, each with where
+    the reader then stands. After a refusal the second is read where the first was."""
+    reader = Reader(stored)
+    one = reader.take_costs(first) + (reader.position,)
+    return one + reader.take_costs(second) + (reader.position,)
+
+
 def one_of_batch(n, count, fars, costs, room):
     """The link writer's checks for the next table of a batch, its rows being the
     first of what is left of the joined slices. Answers its stored bytes."""

@@ -33,3 +33,5 @@ pub const TAKE_COSTS: u32 = 15;
 pub const TAKE_LINKS: u32 = 16;
 
 pub const TWO_COSTS: u32 = 17;
+
+pub const FIRST_TWO: u32 = 18;

@@ -74,4 +74,5 @@ fn main() {
     run(calls::TAKE_COSTS, b"take_costs", b"take_costs.txt");
     run(calls::TAKE_LINKS, b"take_links", b"take_links.txt");
     run(calls::TWO_COSTS, b"two_costs", b"two_costs.txt");
+    run(calls::FIRST_TWO, b"first_two", b"first_two.txt");
 }

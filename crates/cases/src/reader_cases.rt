@@ -1,8 +1,9 @@
-// Cases of the reader, by the functions that take its bytes and its position one by one, and of two cost tables that stand one
-// behind the other. Each function reads the outputs, makes its call, prints what the call answers and leaves, and gives the place
-// behind the case.
+// Cases of the reader: at any position by the functions that take its bytes and its position one by one, and from bit 0 on by the
+// reader itself, which takes two cost tables; and of two cost tables that are accepted together. Each function reads the outputs,
+// makes its call, prints what the call answers and leaves, and gives the place behind the case.
 use crate::byte_cases::show_stored_costs;
 use crate::byte_cases::show_stored_links;
+use crate::calls::FIRST_TWO;
 use crate::calls::TAKE_COSTS;
 use crate::calls::TWO_COSTS;
 use case_text::number_at;
@@ -15,6 +16,8 @@ use case_text::take8;
 use case_text::take32;
 use case_text::take64;
 use reader::TwoCosts;
+use reader::TwoTaken;
+use stored_costs::StoredCosts;
 
 // Where the reader stands is printed behind the answer.
 fn take_costs_case(bytes: &[u8], position: usize, text: &[u8], at: usize) -> usize {
@@ -89,12 +92,58 @@ fn two_costs_case(bytes: &[u8], text: &[u8], at: usize) -> usize {
     other_room.next
 }
 
+// Prints the answer for the second cost table, behind that for the first.
+fn show_second(answer: StoredCosts) {
+    match answer {
+        StoredCosts::Refused(r) => {
+            show_next(r.number as u64);
+            show_next(r.a as u64);
+            show_next(r.b as u64);
+            show_next(r.c as u64);
+            show_next(r.d as u64);
+        }
+        StoredCosts::Table { n, used } => {
+            show_next(0);
+            show_next(n as u64);
+            show_next(used as u64);
+        }
+    }
+}
+
+// Prints what a reader answers that takes two tables, each answer with where the reader then stands.
+fn show_two_taken(taken: TwoTaken) {
+    let first = taken.first;
+    show_stored_costs(first);
+    show_next(taken.between as u64);
+    let second = taken.second;
+    show_second(second);
+    show_next(taken.position as u64);
+}
+
+fn first_two_case(bytes: &[u8], text: &[u8], at: usize) -> usize {
+    let mut one = [0u32; 4200];
+    let one_room = take32(text, at, &mut one);
+    let one_count = one_room.count;
+    let first = &mut one[..one_count];
+    let mut other = [0u32; 4200];
+    let other_room = take32(text, one_room.next, &mut other);
+    let other_count = other_room.count;
+    let second = &mut other[..other_count];
+    show_two_taken(reader::first_two(bytes, first, second));
+    show32(first);
+    show32(second);
+    other_room.next
+}
+
 pub fn reader_case(call: u32, text: &[u8], at: usize) -> usize {
     let mut given = [0u8; 4200];
     let bytes = take8(text, at, &mut given);
     let count = bytes.count;
     if call == TWO_COSTS {
         return two_costs_case(&given[..count], text, bytes.next);
+    }
+    if call == FIRST_TWO {
+        return first_two_case(&given[..count], text, bytes.next);
     }
     take_case(call, &given[..count], text, bytes.next)
 }
