@@ -3,8 +3,8 @@ use mathlib.Core.List.{List}
 use Prim.Native.Nat.{ℕ}
 use Rattle.ground.specs.Outcomes.{Outcome}
 use Rattle.reader.specs.Fields.{fieldAt}
+use Rattle.reader.specs.Outcomes.{TwoOutcome}
 use Rattle.reader.specs.Stands.{costsAt}
-use Rattle.reader.specs.TwoTables.{TwoOutcome}
 use Rattle.reader.specs.declared.CostsTaken.{CostsTaken}
 use Rattle.reader.specs.declared.FieldTaken.{FieldTaken}
 use Rattle.reader.specs.declared.TwoFields.{TwoFields}
