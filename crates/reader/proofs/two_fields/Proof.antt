@@ -7,7 +7,7 @@ use Rattle.reader.proofs.Words.{forget, stop, addr, fld, from, load, of
 use Rattle.reader.proofs.Words.{pass1, pass0, free1, free0, FmC, fmOf, WpFn-mono, owns, Is, shows, uint-vals, uint-tells, uint-makes, u8, usize, RefT}
 use Rattle.reader.proofs.Words.{plain, ShrSlice, slice-vals, shr-slice-tells, shr-slice-lawful, only, owned, peeks, nothing, own-shut, Triple}
 use Rattle.reader.proofs.Words.{calls-at, Vals, onEntry, Meets, tripleOf, entered, cited, says, Stays, stay-none, stay-none-slice, walkOf, goes-none}
-use Rattle.reader.proofs.Words.{goes-none-slice, Walks, ends-at, walked, walk-meets, yes}
+use Rattle.reader.proofs.Words.{goes-none-slice, ends-at, walked, walk-meets, yes}
 use contract.Running.{givenOf, tables, tablesOf}
 use denote.Enum.Laws as EL
 use denote.Struct.Laws as LL
@@ -108,17 +108,12 @@ module _ {M : Type 1} (𝓤 : URA M) (H : Heap 𝓤) (A : Atoms 𝓤) (W : Given
         move ! (27 ∷ 28 ∷ []) $ free1 ! $ move ! (25 ∷ 26 ∷ []) $ free1 ! $ move ! (23 ∷ 24 ∷ []) $ free1 ! $ move ! (21 ∷ 22 ∷ []) $ free1 ! $ move ! (19 ∷ 20 ∷ []) $ free1 ! $ move ! (1 ∷ 18 ∷ []) $ free1 ! $ move ! (15 ∷ 16 ∷ []) $ free1 ! $ move ! (13 ∷ 14 ∷ []) $ free1 ! $ move ! (11 ∷ 12 ∷ []) $ free1 ! $ move ! (9 ∷ 10 ∷ []) $ free1 ! $ move ! (7 ∷ 8 ∷ []) $ free1 ! $ move ! (5 ∷ 6 ∷ []) $ free1 ! $ move ! (3 ∷ 4 ∷ []) $ free1 ! $ free0 ! $
         keep ! (1 ∷ 2 ∷ 0 ∷ []) $ by ! (exits r r′ d e m m′)))))))))))))))))))))))
 
-module _ {M : Type 1} (𝓤 : URA M) (H : Heap 𝓤) (A : Atoms 𝓤) (W : Given 𝓤 H A) (mem : Memory → SProp 𝓤) (run : Routine → Fun 𝓤) where
-  two-fields-walks : (C : Calls 𝓤 H) (Λ : Loops 𝓤 H) → FmC 𝓤 H (W .laws) C → Triple 𝓤 (C #reader·new) (New 𝓤 H A mem run) → Triple 𝓤 (C #reader·take-field) (TakeField 𝓤 H A mem run)
-      → Walks 𝓤 H A two.ended stayed (WpFn 𝓤 H C Λ code.function) (two.clauses 𝓤 H A mem run)
-  two-fields-walks C Λ fm known-new known-take = walked 𝓤 H A two.ended stayed (two.clauses 𝓤 H A mem run) (WpFn 𝓤 H C Λ code.function) (λ κs. (slice-vals, (uint-vals w64, (uint-vals w64, (uint-vals w64, tt))))) (λ κs. (shr-slice-tells (named 0) (κs .0) u8, (uint-tells w64, (uint-tells w64, (uint-tells w64, tt)))))
-      (λ κs qs bounds a g are. via 𝓤 _ (fst∗ 𝓤 _ (emp 𝓤)) (walk 𝓤 H A W mem run (κs .0) (qs .0) (a .0) (a .1 .0) (a .1 .1 .0) (a .1 .1 .1 .0) (are .1 .0 .1) (are .1 .1 .0 .1) (are .1 .1 .1 .0 .1) C Λ fm known-new known-take (are .0)))
-
 two-fields-meets : {M : Type 1} (𝓤 : URA M) (H : Heap 𝓤) (A : Atoms 𝓤) (W : Given 𝓤 H A) (mem : Memory → SProp 𝓤) (run : Routine → Fun 𝓤) (𝓣 : Tables 𝓤 H)
     → Triple 𝓤 (𝓣 .C #reader·new) (New 𝓤 H A mem run) → Triple 𝓤 (𝓣 .C #reader·take-field) (TakeField 𝓤 H A mem run)
     → Meets 𝓤 H A two.signature (WpFn 𝓤 H (𝓣 .C) (𝓣 .Λ) code.function) (two.spec 𝓤 H A mem run)
 two-fields-meets 𝓤 H A W mem run 𝓣 known-new known-take = walk-meets 𝓤 H A two.ended stayed W (goes-none-slice 𝓤 H A W 1 (0 ∷ []) tt (plain (λ _. u8)) yes, (goes-none 𝓤 H A W 1 (λ _. usize) yes (λ κs x f. refl), (goes-none 𝓤 H A W 1 (λ _. usize) yes (λ κs x f. refl), (goes-none 𝓤 H A W 1 (λ _. usize) yes (λ κs x f. refl), tt)))) (two.clauses 𝓤 H A mem run) (WpFn 𝓤 H (𝓣 .C) (𝓣 .Λ) code.function) (WpFn-mono 𝓤 H (W .laws) 𝓣 code.function)
-    (two-fields-walks 𝓤 H A W mem run (𝓣 .C) (𝓣 .Λ) (fmOf 𝓤 H (W .laws) 𝓣) known-new known-take)
+    (walked 𝓤 H A two.ended stayed (two.clauses 𝓤 H A mem run) (WpFn 𝓤 H (𝓣 .C) (𝓣 .Λ) code.function) (λ κs. (slice-vals, (uint-vals w64, (uint-vals w64, (uint-vals w64, tt))))) (λ κs. (shr-slice-tells (named 0) (κs .0) u8, (uint-tells w64, (uint-tells w64, (uint-tells w64, tt)))))
+    (λ κs qs bounds a g are. via 𝓤 _ (fst∗ 𝓤 _ (emp 𝓤)) (walk 𝓤 H A W mem run (κs .0) (qs .0) (a .0) (a .1 .0) (a .1 .1 .0) (a .1 .1 .1 .0) (are .1 .0 .1) (are .1 .1 .0 .1) (are .1 .1 .1 .0 .1) (𝓣 .C) (𝓣 .Λ) (fmOf 𝓤 H (W .laws) 𝓣) known-new known-take (are .0))))
 
 pub two-fields-spec : {M : Type 1} → stated.statement M
 unfolding code.routine tablesOf
