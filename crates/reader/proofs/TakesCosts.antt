@@ -37,9 +37,8 @@ use Rattle.reader.specs.Moves.{costsMoved}
 use Rattle.reader.specs.declared.Reader.{Reader}
 use Rattle.stored_costs.proofs.StoredCosts as E
 use Rattle.stored_costs.proofs.StoredCosts.Laws as E′
-use Rattle.reader.proofs.Held.{B, Cell, Own}
+use Rattle.reader.proofs.Held.{B, Cell, Own, slice}
 use Rattle.reader.proofs.Lent.{Kept, at, comes-back, spells}
-use Rattle.reader.proofs.Made.{slice}
 use Rattle.reader.proofs.Reader.Laws as T′
 use Rattle.reader.proofs.take_costs as take
 

@@ -1,15 +1,15 @@
 -- `reader::first_links` meets its contract: a walk of its MIR, by hand. A reader is made by `new` in a local and put at the position, lent by `&mut` to `take_links`, and its position is read after the call (Made.antt, Lent.antt, TakesLinks.antt). All that the proof knows of the callees is that they meet their contracts.
 -- The lent slices go to `take_links` at their own lifetimes, and are not needed after it.
 -- Assumes nothing.
-use Rattle.reader.proofs.Words.{_≡_, refl, ℕ, _<_, _^_, List, [], _∷_, length, URA, named, w64, Val, vint, SProp, ent, emp, via, fst∗, Lft, Share}
-use Rattle.reader.proofs.Words.{GName, ftrue, flft, Memory, Routine, Heap, Calls, Loops, WpFn, Tables, Atoms, Lfts, Fun, Given, ‵, raw, _⊛_, ⋆, _$_}
-use Rattle.reader.proofs.Words.{_∵_, !, qed, by, move, keep, drop, use1, use2, split, join, fsplit, fjoin, suffices, frame, done, agg, whole, sub}
-use Rattle.reader.proofs.Words.{look-in, store-in, look, init, forget, stop, hop, addr, fld, from, load, of-opd, and-then, no-more, assigns, land}
-use Rattle.reader.proofs.Words.{returns, enter, alloc1, alloc0, params1, pass1, pass0, free1, free0, FmC, fmOf, WpFn-mono, owns, Is, shows, uint-vals}
-use Rattle.reader.proofs.Words.{uint-tells, uint-makes, u8, u32, u64, usize, RefT, plain, ShrSlice, MutSlice, Room, finally, slice-vals}
-use Rattle.reader.proofs.Words.{mut-slice-tells, shr-slice-tells, shr-slice-lawful, only, owned, peeks, nothing, own-shut, Triple, calls-at, Vals}
-use Rattle.reader.proofs.Words.{onEntry, Meets, tripleOf, entered, cited, says, Stays, stay-none, stay-none-slice, gave-slice, walkOf, goes-none}
-use Rattle.reader.proofs.Words.{goes-none-slice, goes-gave-slice, ends-at, walked, walk-meets, yes}
+use Rattle.reader.proofs.Words.{_≡_, refl, ℕ, _<_, _^_, List, [], _∷_, length, URA, named, w64, Val, vint, SProp, ent, emp, via, fst∗, Lft, Share, GName}
+use Rattle.reader.proofs.Words.{ftrue, flft, Memory, Routine, Heap, Calls, Loops, WpFn, Tables, Atoms, Lfts, Fun, Given, ‵, raw, _⊛_, ⋆, _$_, _∵_, ! }
+use Rattle.reader.proofs.Words.{qed, by, move, keep, drop, use1, use2, split, join, fsplit, fjoin, suffices, frame, done, agg, whole, sub, look-in}
+use Rattle.reader.proofs.Words.{store-in, look, init, forget, stop, hop, addr, fld, from, load, of-opd, and-then, no-more, assigns, land, returns, enter}
+use Rattle.reader.proofs.Words.{alloc1, alloc0, params1, pass1, pass0, free1, free0, FmC, fmOf, WpFn-mono, owns, Is, shows, uint-vals, uint-tells}
+use Rattle.reader.proofs.Words.{uint-makes, u8, u32, u64, usize, RefT, plain, ShrSlice, MutSlice, Room, finally, slice-vals, mut-slice-tells}
+use Rattle.reader.proofs.Words.{shr-slice-tells, shr-slice-lawful, only, owned, peeks, nothing, own-shut, Triple, calls-at, Vals, onEntry, Meets}
+use Rattle.reader.proofs.Words.{tripleOf, entered, cited, says, Stays, stay-none, stay-none-slice, gave-slice, walkOf, goes-none, goes-none-slice}
+use Rattle.reader.proofs.Words.{goes-gave-slice, ends-at, walked, walk-meets, yes}
 use contract.Running.{givenOf, tables, tablesOf}
 use denote.Enum.Laws as EL
 use denote.Struct.Laws as LL
@@ -21,9 +21,9 @@ use Rattle.reader.specs.declared.LinksTaken.{LinksTaken}
 use Rattle.reader.specs.declared.Reader.{Reader}
 use Rattle.stored_links.proofs.StoredLinks as E
 use Rattle.stored_links.proofs.StoredLinks.Laws as E′
-use Rattle.reader.proofs.Held.{Own, again, typed}
+use Rattle.reader.proofs.Held.{Bytes, Own, again, slice, typed}
 use Rattle.reader.proofs.Lent.{lends}
-use Rattle.reader.proofs.Made.{Bytes, New, asks-new, makes, slice, to-new}
+use Rattle.reader.proofs.Made.{New, asks-new, makes, to-new}
 use Rattle.reader.proofs.TakesLinks.{TakeLinks, asks-links, to-links, took-links}
 use Rattle.reader.proofs.LinksTaken as S
 use Rattle.reader.proofs.LinksTaken.Laws as S′

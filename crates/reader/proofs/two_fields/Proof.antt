@@ -5,8 +5,8 @@ use Rattle.reader.proofs.Words.{Memory, Routine, Heap, Calls, Loops, Wp
 use Rattle.reader.proofs.Words.{drop, use1, use2, split, join, fsplit, fjoin, suffices, frame, done, agg, whole, sub, look-in, store-in, look, init}
 use Rattle.reader.proofs.Words.{forget, stop, addr, fld, from, load, of-opd, and-then, no-more, assigns, land, returns, enter, alloc1, alloc0, params1}
 use Rattle.reader.proofs.Words.{pass1, pass0, free1, free0, FmC, fmOf, WpFn-mono, owns, Is, shows, uint-vals, uint-tells, uint-makes, u8, usize, RefT}
-use Rattle.reader.proofs.Words.{plain, ShrSlice, slice-vals, shr-slice-tells, shr-slice-lawful, only, owned, peeks, nothing, own-shut, Triple}
-use Rattle.reader.proofs.Words.{calls-at, Vals, onEntry, Meets, tripleOf, entered, cited, says, Stays, stay-none, stay-none-slice, walkOf, goes-none}
+use Rattle.reader.proofs.Words.{plain, ShrSlice, slice-vals, shr-slice-tells, shr-slice-lawful, only, owned, peeks, nothing, own-shut, Triple, calls-at}
+use Rattle.reader.proofs.Words.{Vals, onEntry, Meets, tripleOf, entered, cited, says, Stays, stay-none, stay-none-slice, walkOf, goes-none}
 use Rattle.reader.proofs.Words.{goes-none-slice, ends-at, walked, walk-meets, yes}
 use contract.Running.{givenOf, tables, tablesOf}
 use denote.Enum.Laws as EL
@@ -18,9 +18,9 @@ use Rattle.reader.specs.declared.Reader.{Reader}
 use Rattle.reader.specs.declared.TwoFields.{TwoFields}
 use Rattle.reader.proofs.Field as E
 use Rattle.reader.proofs.Field.Laws as E′
-use Rattle.reader.proofs.Held.{Own, again, typed}
+use Rattle.reader.proofs.Held.{Bytes, Own, again, slice, typed}
 use Rattle.reader.proofs.Lent.{lends}
-use Rattle.reader.proofs.Made.{Bytes, New, asks-new, makes, slice, to-new}
+use Rattle.reader.proofs.Made.{New, asks-new, makes, to-new}
 use Rattle.reader.proofs.TakesField.{TakeField, asks-field, to-field, took-field}
 use Rattle.reader.proofs.TwoFields as S
 use Rattle.reader.proofs.TwoFields.Laws as S′
