@@ -1,6 +1,7 @@
--- That no second answer meets a promise over two lent tables, as of `first_two` and `two_costs`. The promises of `costs_at` and `take_costs` are `Left`, those of `links_at`,
--- `take_links` and `first_links` are `LeftRows`, of which `left-once` of ground and `left-rows-once` of theory say the same, where a reader moves also of
--- where it stands; those of `new`, `field_at`, `take_field` and `two_fields` are equations, which decide by themselves. Assumes nothing.
+-- That no second answer meets a promise over two lent tables, as that of `first_two` and that of `two_costs`. Of the other promises,
+-- that of `take_costs` is a `Left` and those of `take_links` and `first_links` are `LeftRows`, of which `left-once` of ground and
+-- `left-rows-once` of theory say the same, the answer being the reader that is left beside what it answers; those of `new`,
+-- `take_field` and `two_fields` are equations, which decide by themselves. Assumes nothing.
 use mathlib.Core.List.{List}
 use mathlib.Core.Path.{sym, _∙_, _≡_}
 use Prim.Native.Nat.{ℕ}
