@@ -1,6 +1,7 @@
 -- A walk calls `reader::take_costs` on a reader h that lies in the block c and is lent for a ∷ κ under the name γ, with places at the lifetime ρ.
 --     asks-costs    a step: the reference, the loan's token, half of κ's, the places and ρ's token become what the call asks
---     took-costs    a step: what the call answers, and what the lender keeps, become the table, the reader that was left, in its block, the tokens and the last list
+--     took-costs    a step: what the call answers, and what the lender keeps, become the table, the reader that was left, in its block, the tokens
+--                   and the last list
 -- Assumes `Given`.
 use Prim.Native.Nat.{ℕ}
 use mathlib.Core.List.{List, [], _∷_}

@@ -1,6 +1,8 @@
--- A walk calls `reader::take_links` on a reader h that lies in the block c and is lent for a ∷ κ under the name γ, with far sides at the lifetime ρ and costs at σ.
+-- A walk calls `reader::take_links` on a reader h that lies in the block c and is lent for a ∷ κ under the name γ, with far sides at the
+-- lifetime ρ and costs at σ.
 --     asks-links    a step: the reference, the loan's token, half of κ's, both lent slices and their tokens become what the call asks
---     took-links    a step: what the call answers, and what the lender keeps, become the table, the reader that was left, in its block, the tokens and both last lists
+--     took-links    a step: what the call answers, and what the lender keeps, become the table, the reader that was left, in its block, the tokens
+--                   and both last lists
 -- Assumes `Given`.
 use Prim.Native.Nat.{ℕ}
 use mathlib.Core.List.{List, [], _∷_}

@@ -1,5 +1,4 @@
--- `reader::first_links` meets its contract: a walk of its MIR, by hand. A reader is made by `new` in a local and put at the position, lent by `&mut` to `take_links`, and its position is read after the call (Made.antt, Lent.antt, TakesLinks.antt). All that the proof knows of the callees is that they meet their contracts.
--- The lent slices go to `take_links` at their own lifetimes, and are not needed after it.
+-- `reader::first_links` meets its contract: a walk of its MIR, by hand. It goes as that of `first_two`, with `take_links` once (TakesLinks.antt).
 -- Assumes nothing.
 use Rattle.reader.proofs.Words.{_≡_, refl, ℕ, _<_, _^_, List, [], _∷_, length, URA, named, w64, Val, vint, SProp, ent, emp, via, fst∗, Lft, Share, GName}
 use Rattle.reader.proofs.Words.{ftrue, flft, Memory, Routine, Heap, Calls, Loops, WpFn, Tables, Atoms, Lfts, Fun, Given, ‵, raw, _⊛_, ⋆, _$_, _∵_, ! }
@@ -102,7 +101,8 @@ module _ {M : Type 1} (𝓤 : URA M) (H : Heap 𝓤) (A : Atoms 𝓤) (W : Given
         assigns ! (agg ! (and-then ! (load ! (from ! (stop !)) (look ! 11 refl)) (and-then ! (load ! (from ! (fld ! refl (stop !))) (look-in ! 25 (sub ! 1 refl (whole !)))) (no-more !)))) (from ! (stop !)) (init ! 9 refl (tt, (tt, (record { fits = room′ .0 }, tt)))) $
         -- the reader in _5 is lent, and `take_links` is called
         use1 W (‵ (Own κ h)) (again 𝓤 H A W κ (readerAt s 0) n n-fits) $ move ! (23 ∷ 0 ∷ 1 ∷ []) $ lends ! tt κ q l₅ h (λ i δ.
-        -- [the reference; the loan's token; that of 'a, a half; what the lender keeps; bytes; the tokens of 'c and 'b; costs; fars; _13; …; _6; …; of _5; _4; …]
+        -- [the reference; the loan's token; that of 'a, a half; what the lender keeps; bytes; the tokens of 'c and 'b; costs; fars; _13; …;
+        -- _6; …; of _5; _4; …]
         move ! (0 ∷ 1 ∷ 2 ∷ 8 ∷ 6 ∷ 7 ∷ 5 ∷ []) $ asks-links ! mem run κ q l₅ i δ h κ′ κ″ q′ q″ x y $
         calls-at ! fm (TakeLinks 𝓤 H A mem run) known-take (to-links 𝓤 H A mem run κ q l₅ i δ h κ′ κ″ q′ q″ x y) (and-then ! (load ! (from ! (stop !)) (look ! 13 refl)) (and-then ! (load ! (from ! (stop !)) (look ! 9 refl)) (and-then ! (load ! (from ! (stop !)) (look ! 5 refl)) (no-more !)))) (λ u. took-links ! mem run κ q l₅ i δ h κ′ κ″ q′ q″ x y u (λ r d gs us m l l′ at is.
         -- [the table; what the reader owns; _5; the tokens of 'a, 'b and 'c; the last far sides; the last costs; bytes; _13; …]

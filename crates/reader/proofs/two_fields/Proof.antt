@@ -1,4 +1,4 @@
--- `reader::two_fields` meets its contract: a walk of its MIR, by hand. A reader is made by `new` in a local and put at the position, lent by `&mut` to `take_field` twice, and its position is read after each call (Made.antt, Lent.antt, TakesField.antt). All that the proof knows of the callees is that they meet their contracts.
+-- `reader::two_fields` meets its contract: a walk of its MIR, by hand. It goes as that of `first_two`, with `take_field` (TakesField.antt).
 -- Assumes nothing.
 use Rattle.reader.proofs.Words.{_≡_, refl, ℕ, _<_, _^_, List, [], _∷_, URA, named, w64, Val, vint, SProp, ent, emp, via, fst∗, Lft, Share, ftrue, flft}
 use Rattle.reader.proofs.Words.{Memory, Routine, Heap, Calls, Loops, WpFn, Tables, Atoms, Fun, Given, ‵, raw, _⊛_, ⋆, _$_, _∵_, !, qed, by, move, keep}
