@@ -25,6 +25,7 @@ ROOT = os.path.dirname(os.path.dirname(os.path.abspath(__file__)))
 
 LONGEST_LINE = 60000
 LONGEST_SLICE = 4200
+LONGEST_READ = 5200
 LARGEST_FILE = 400000
 LARGEST_TOTAL = 4000000
 FEWEST_CASES = 2500
@@ -981,7 +982,10 @@ def first_two_cases(dice):
     for n, n2 in ((9, 33), (33, 9), (33, 3)):
         stored = one + stored_costs(n, good_table(dice, n)) + stored_costs(n2, good_table(dice, n2))
         yield stored + [6, 0], 72, places(dice, n * n + 1), places(dice, n2 * n2)
-    # 64 images, of which few bytes stand there; the room is too little, and is there.
+    # 64 images: accepted, before and behind another table; with few bytes; with too little room.
+    stored = stored_costs(64, tree(dice, 64, 1, "star"))
+    yield one + stored, 0, places(dice, 9), places(dice, 4096)
+    yield stored + one, 0, places(dice, 4097), places(dice, 9)
     yield one + [128, 0], 0, places(dice, 9), places(dice, 4096)
     yield [128, 0], 0, places(dice, 4095), places(dice, 4096)
 
@@ -1144,7 +1148,8 @@ def check_arguments(name, arguments):
         if kind == "n":
             assert 0 <= argument < 2 ** 64, (name, argument)
         else:
-            assert len(argument) <= LONGEST_SLICE, (name, len(argument))
+            longest = LONGEST_READ if name in TWICE and kind == "8" else LONGEST_SLICE
+            assert len(argument) <= longest, (name, len(argument))
             most = 2 ** int(kind.rstrip("*"))
             assert all(0 <= element < most for element in argument), (name, argument)
 
