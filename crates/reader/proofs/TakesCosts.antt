@@ -52,19 +52,19 @@ module _ {M : Type 1} (𝓤 : URA M) (H : Heap 𝓤) (A : Atoms 𝓤) (mem : Mem
   TakeCosts = tripleOf 𝓤 H A take.signature (take.spec 𝓤 H A mem run)
 
   module _ (κ : Lft) (q : Share) (c a : ℕ) (γ : GName) (h : Reader) (ρ : Lft) (p : Share) (x : RefT (List ℕ)) where
-    abbrev pub κs : Lfts 3
+    abbrev κs : Lfts 3
     κs = (a ∷ κ, (κ, (ρ, tt)))
 
-    abbrev pub arg : RefT Reader × (RefT (List ℕ) × Unit {0})
+    abbrev arg : RefT Reader × (RefT (List ℕ) × Unit {0})
     arg = (at c γ h, (x, tt))
 
-    abbrev pub passed : Vals take.signature κs
+    abbrev passed : Vals take.signature κs
     passed = (vptr c 0 ∷ [], (slice x ∷ [], tt))
 
     abbrev pub to-costs : TakeCosts .Ghost
     to-costs = ((κs, (PosShare·left q, (PosShare·right q, (p, tt))), (meet-⊑-right (a ∷ []) κ, tt), arg, passed), tt)
 
-    pub goes-costs : (W : Given 𝓤 H A) → ent 𝓤 (⋆ 𝓤 H A ((‵ (flft (a ∷ κ) (PosShare·left q)) ⊛ ‵ (flft κ (PosShare·right q)) ⊛ ‵ (flft ρ p) ⊛ ‵ ftrue) ∷ ‵ (owns (MutRef (named 0) (a ∷ κ) (B κ) ∷ MutSlice (named 2) ρ u32 ∷ []) arg passed) ∷ [])) (TakeCosts .pre to-costs)
+    goes-costs : (W : Given 𝓤 H A) → ent 𝓤 (⋆ 𝓤 H A ((‵ (flft (a ∷ κ) (PosShare·left q)) ⊛ ‵ (flft κ (PosShare·right q)) ⊛ ‵ (flft ρ p) ⊛ ‵ ftrue) ∷ ‵ (owns (MutRef (named 0) (a ∷ κ) (B κ) ∷ MutSlice (named 2) ρ u32 ∷ []) arg passed) ∷ [])) (TakeCosts .pre to-costs)
     goes-costs W = qed W ((‵ (flft (a ∷ κ) (PosShare·left q)) ⊛ ‵ (flft κ (PosShare·right q)) ⊛ ‵ (flft ρ p) ⊛ ‵ ftrue) ∷ ‵ (owns (MutRef (named 0) (a ∷ κ) (B κ) ∷ MutSlice (named 2) ρ u32 ∷ []) arg passed) ∷ []) ∵ join ! $ frame ! $ done !
 
 module _ {M : Type 1} {𝓤 : URA M} {H : Heap 𝓤} {A : Atoms 𝓤} {K : Type 0} {W : Given 𝓤 H A} {Γ : List (Item 𝓤)} where

@@ -49,19 +49,19 @@ module _ {M : Type 1} (𝓤 : URA M) (H : Heap 𝓤) (A : Atoms 𝓤) (mem : Mem
   TakeField = tripleOf 𝓤 H A take.signature (take.spec 𝓤 H A mem run)
 
   module _ (κ : Lft) (q : Share) (c a : ℕ) (γ : GName) (h : Reader) (n : ℕ) where
-    abbrev pub κs : Lfts 2
+    abbrev κs : Lfts 2
     κs = (a ∷ κ, (κ, tt))
 
-    abbrev pub arg : RefT Reader × (ℕ × Unit {0})
+    abbrev arg : RefT Reader × (ℕ × Unit {0})
     arg = (at c γ h, (n, tt))
 
-    abbrev pub passed : Vals take.signature κs
+    abbrev passed : Vals take.signature κs
     passed = (vptr c 0 ∷ [], (vint w64 n ∷ [], tt))
 
     abbrev pub to-field : TakeField .Ghost
     to-field = ((κs, (PosShare·left q, (PosShare·right q, tt)), (meet-⊑-right (a ∷ []) κ, tt), arg, passed), tt)
 
-    pub goes-field : (W : Given 𝓤 H A) → ent 𝓤 (⋆ 𝓤 H A ((‵ (flft (a ∷ κ) (PosShare·left q)) ⊛ ‵ (flft κ (PosShare·right q)) ⊛ ‵ ftrue) ∷ ‵ (owns (MutRef (named 0) (a ∷ κ) (B κ) ∷ usize ∷ []) arg passed) ∷ [])) (TakeField .pre to-field)
+    goes-field : (W : Given 𝓤 H A) → ent 𝓤 (⋆ 𝓤 H A ((‵ (flft (a ∷ κ) (PosShare·left q)) ⊛ ‵ (flft κ (PosShare·right q)) ⊛ ‵ ftrue) ∷ ‵ (owns (MutRef (named 0) (a ∷ κ) (B κ) ∷ usize ∷ []) arg passed) ∷ [])) (TakeField .pre to-field)
     goes-field W = qed W ((‵ (flft (a ∷ κ) (PosShare·left q)) ⊛ ‵ (flft κ (PosShare·right q)) ⊛ ‵ ftrue) ∷ ‵ (owns (MutRef (named 0) (a ∷ κ) (B κ) ∷ usize ∷ []) arg passed) ∷ []) ∵ join ! $ frame ! $ done !
 
 module _ {M : Type 1} {𝓤 : URA M} {H : Heap 𝓤} {A : Atoms 𝓤} {K : Type 0} {W : Given 𝓤 H A} {Γ : List (Item 𝓤)} where

@@ -53,19 +53,19 @@ module _ {M : Type 1} (𝓤 : URA M) (H : Heap 𝓤) (A : Atoms 𝓤) (mem : Mem
   TakeLinks = tripleOf 𝓤 H A take.signature (take.spec 𝓤 H A mem run)
 
   module _ (κ : Lft) (q : Share) (c a : ℕ) (γ : GName) (h : Reader) (ρ σ : Lft) (p p′ : Share) (x y : RefT (List ℕ)) where
-    abbrev pub κs : Lfts 4
+    abbrev κs : Lfts 4
     κs = (a ∷ κ, (κ, (ρ, (σ, tt))))
 
-    abbrev pub arg : RefT Reader × (RefT (List ℕ) × (RefT (List ℕ) × Unit {0}))
+    abbrev arg : RefT Reader × (RefT (List ℕ) × (RefT (List ℕ) × Unit {0}))
     arg = (at c γ h, (x, (y, tt)))
 
-    abbrev pub passed : Vals take.signature κs
+    abbrev passed : Vals take.signature κs
     passed = (vptr c 0 ∷ [], (slice x ∷ [], (slice y ∷ [], tt)))
 
     abbrev pub to-links : TakeLinks .Ghost
     to-links = ((κs, (PosShare·left q, (PosShare·right q, (p, (p′, tt)))), (meet-⊑-right (a ∷ []) κ, tt), arg, passed), tt)
 
-    pub goes-links : (W : Given 𝓤 H A) → ent 𝓤 (⋆ 𝓤 H A ((‵ (flft (a ∷ κ) (PosShare·left q)) ⊛ ‵ (flft κ (PosShare·right q)) ⊛ ‵ (flft ρ p) ⊛ ‵ (flft σ p′) ⊛ ‵ ftrue) ∷ ‵ (owns (MutRef (named 0) (a ∷ κ) (B κ) ∷ MutSlice (named 2) ρ u64 ∷ MutSlice (named 3) σ u32 ∷ []) arg passed) ∷ [])) (TakeLinks .pre to-links)
+    goes-links : (W : Given 𝓤 H A) → ent 𝓤 (⋆ 𝓤 H A ((‵ (flft (a ∷ κ) (PosShare·left q)) ⊛ ‵ (flft κ (PosShare·right q)) ⊛ ‵ (flft ρ p) ⊛ ‵ (flft σ p′) ⊛ ‵ ftrue) ∷ ‵ (owns (MutRef (named 0) (a ∷ κ) (B κ) ∷ MutSlice (named 2) ρ u64 ∷ MutSlice (named 3) σ u32 ∷ []) arg passed) ∷ [])) (TakeLinks .pre to-links)
     goes-links W = qed W ((‵ (flft (a ∷ κ) (PosShare·left q)) ⊛ ‵ (flft κ (PosShare·right q)) ⊛ ‵ (flft ρ p) ⊛ ‵ (flft σ p′) ⊛ ‵ ftrue) ∷ ‵ (owns (MutRef (named 0) (a ∷ κ) (B κ) ∷ MutSlice (named 2) ρ u64 ∷ MutSlice (named 3) σ u32 ∷ []) arg passed) ∷ []) ∵ join ! $ frame ! $ done !
 
 module _ {M : Type 1} {𝓤 : URA M} {H : Heap 𝓤} {A : Atoms 𝓤} {K : Type 0} {W : Given 𝓤 H A} {Γ : List (Item 𝓤)} where
