@@ -150,7 +150,7 @@ KemotuikiAnswer kemotuiki_read_links(const uint8_t *bytes, size_t bytes_count, s
  * costs are the rows of all tables joined.
  * value: the bytes written to out. Room: the bytes of all tables. Refusals 2 with table 0 where ns and counts differ in
  * length; then table by table, with its number, those of kemotuiki_write_links, 2 where either joined slice runs out; 2 with
- * the last table's number where rows are left over.
+ * the last table's number, 0 in an empty batch, where rows are left over.
  */
 KemotuikiAnswer kemotuiki_write_batch(const uint32_t *ns, size_t ns_count, const uint32_t *counts, size_t counts_count,
                                       const uint64_t *fars, size_t fars_count, const uint32_t *costs, size_t costs_count,

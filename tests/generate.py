@@ -25,8 +25,9 @@ ROOT = os.path.dirname(os.path.dirname(os.path.abspath(__file__)))
 
 LONGEST_LINE = 60000
 LONGEST_SLICE = 4200
+LONGEST_READ = 5200
 LARGEST_FILE = 400000
-LARGEST_TOTAL = 990000
+LARGEST_TOTAL = 4000000
 FEWEST_CASES = 2500
 FEWEST_OF_EACH_REFUSAL = 8
 
@@ -48,13 +49,18 @@ CALLS = {
     "read_links": (law.read_links, "8 n 64* 32*", (1, 3, 9, 10, 11, 12, 13)),
     "write_batch": (law.write_batch, "32 32 64 32 8*", (1, 2, 3, 10, 12, 13)),
     "choice": (law.choice, "8 8", (1, 9, 10, 11, 12, 13, 14, 15)),
-    "take_costs": (law.take_costs, "8 n 32*", (1, 3, 4, 9, 11)),
-    "take_links": (law.take_links, "8 n 64* 32*", (1, 3, 9, 10, 11, 12, 13)),
+    "first_two": (law.first_two, "8 n 32* 32*", (1, 3, 4, 9, 11)),
+    "first_links": (law.first_links, "8 n 64* 32*", (1, 3, 9, 10, 11, 12, 13)),
     "two_costs": (law.two_costs, "8 32* 32*", (1, 3, 4, 9, 11)),
+    "two_fields": (law.two_fields, "8 n n n", (3, 9)),
 }
 
 # Those that put a table's number behind a refusal number.
 OVER_SEVERAL_TABLES = ("compare", "write_batch", "choice", "two_costs")
+
+# Those that answer twice, each answer with a position behind it, and how many numbers
+# an accepted answer has.
+TWICE = {"first_two": 3, "two_fields": 2}
 
 BAD_N = [0, 1, 2, 65, 66, 127, 2 ** 32 + 3, 2 ** 32 + 4, 2 ** 40, 2 ** 63, 2 ** 64 - 1]
 HUGE = [2 ** 32, 2 ** 32 + 1, 2 ** 40, 2 ** 63, 2 ** 64 - 8, 2 ** 64 - 1]
@@ -939,29 +945,52 @@ def tables_in_front(dice):
     return sum([any_stored(dice) for _ in range(dice.one_of([0, 1, 1, 2]))], [])
 
 
-def take_costs_cases(dice):
+def first_two_cases(dice):
     def output(n, short):
-        return (places(dice, room(dice, n * n, short)),)
+        return places(dice, room(dice, n * n, short))
 
+    one, other_kind = law.STORED_A_COSTS, law.STORED_A_LINKS
     for stored, position, n in reader_stops(dice):
-        yield (stored, position) + output(n, False)
+        yield stored, position, output(n, False), output(few_images(dice), False)
+    for stored in (one + one, one + other_kind, one + one[:-1], one + one + one):
+        yield stored, 0, places(dice, 9), places(dice, 9)
+    for n, t in example_tables():
+        n2 = few_images(dice)
+        yield (stored_costs(n, t) + stored_costs(n2, good_table(dice, n2)), 0, output(n, False),
+               output(n2, False))
+    # The first is damaged, so that the reader stays and the second take is of it too.
     kinds = ["position", "header", "n", "room", "body", "fill", "entry"]
     for faults in fault_sets(dice, kinds, 4, 24):
         n = few_images(dice)
         stored = damaged_stored_costs(dice, n, good_table(dice, n), faults)
-        yield placed(dice, tables_in_front(dice), stored, faults) + output(n, "room" in faults)
-    for stored in each_fill_bit(law.STORED_A_COSTS):
-        yield (law.STORED_A_COSTS + stored, 72) + output(3, False)
+        yield (placed(dice, tables_in_front(dice), stored, faults)
+               + (output(n, "room" in faults), output(n, dice.chance(1, 2))))
+    # The second is damaged, behind an accepted one.
+    for faults in fault_sets(dice, kinds[1:], 8, 24):
+        n, n2 = few_images(dice), few_images(dice)
+        stored = stored_costs(n, good_table(dice, n))
+        stored += damaged_stored_costs(dice, n2, good_table(dice, n2), faults)
+        yield (placed(dice, tables_in_front(dice), stored, faults)
+               + (output(n, False), output(n2, "room" in faults)))
+    for stored in each_fill_bit(one):
+        yield one + stored, 0, places(dice, 9), places(dice, 9)
+        yield stored + one, 0, places(dice, 9), places(dice, 9)
     for n in (3, 4, 8):
-        stored = law.STORED_A_LINKS + stored_costs(n, law.random_table(dice, n, 9)) + [7]
+        stored = other_kind + stored_costs(n, law.random_table(dice, n, 9)) + one
         for more in (-1, 0, 1):
-            yield stored, 88, places(dice, n * n + more)
-    n = 17
-    stored = stored_costs(n, tree(dice, n, 3, "uneven"))
-    yield law.STORED_A_COSTS + stored + [6, 0], 72, places(dice, n * n + 1)
+            yield stored, 88, places(dice, n * n + more), places(dice, n * n + more)
+    for n, n2 in ((9, 33), (33, 9), (33, 3)):
+        stored = one + stored_costs(n, good_table(dice, n)) + stored_costs(n2, good_table(dice, n2))
+        yield stored + [6, 0], 72, places(dice, n * n + 1), places(dice, n2 * n2)
+    # 64 images: accepted, before and behind another table; with few bytes; with too little room.
+    stored = stored_costs(64, tree(dice, 64, 1, "star"))
+    yield one + stored, 0, places(dice, 9), places(dice, 4096)
+    yield stored + one, 0, places(dice, 4097), places(dice, 9)
+    yield one + [128, 0], 0, places(dice, 9), places(dice, 4096)
+    yield [128, 0], 0, places(dice, 4095), places(dice, 4096)
 
 
-def take_links_cases(dice):
+def first_links_cases(dice):
     def outputs(n, short):
         room1, room2 = two_rooms(dice, 2 * n - 3, short)
         return far_places(dice, room1), places(dice, room2)
@@ -991,7 +1020,8 @@ def take_links_cases(dice):
         for more, more2 in ((0, 0), (-1, 0), (0, -1), (1, 2)):
             yield (stored, 72, far_places(dice, 2 * n - 3 + more),
                    places(dice, 2 * n - 3 + more2))
-    for n, shape in ((17, "uneven"), (64, "star")):
+    for n, shape in ((17, "uneven"), (64, "star"), (9, "uneven"), (33, "caterpillar"),
+                     (64, "uneven")):
         rows = tree_rows(dice, n, shape, 9, even=False)
         stored = law.STORED_A_COSTS + law.stored_links(n, *sides_and_costs(rows))
         yield stored + [6, 13], 72, far_places(dice, 2 * n), places(dice, 2 * n - 3)
@@ -1041,6 +1071,40 @@ def two_costs_cases(dice):
     yield one + stored, places(dice, 10), places(dice, n * n)
 
 
+def two_fields_cases(dice):
+    one, other_kind = law.STORED_A_COSTS, law.STORED_A_LINKS
+    # n and the first entry of a stored cost table, n and the row count of a link table,
+    # and a row: its far side and its doubled cost.
+    for n in (3, 9, 33, 64):
+        costs = stored_costs(n, good_table(dice, n))[:40]
+        links = law.stored_links(n, *sides_and_costs(good_links(dice, n)))
+        yield costs, 0, 7, 20
+        yield costs, 27, 20, 20
+        yield links, 0, 7, 7
+        yield links, 14, n - 1, 21
+    # Each width at each bit of a byte, with more bits than are needed, as many, one too few.
+    for width in (0, 1, 7, 8, 20, 31, 32, 33, 56, 57, 63, 64):
+        for start in range(0, 16, 3):
+            stored = [dice.below(256) for _ in range((start + width + 7) // 8 + 9)]
+            yield stored, start, width, dice.one_of([0, 1, 5, 8, 31, 64])
+            end = 8 * len(stored)
+            yield stored, end - width - start, start, width
+            yield stored, end - width - start, start + 1, width
+            yield stored, end - width - start, width, start + 1
+    # Too wide, alone and with too few bits; the second after a refusal is read where the first was.
+    stored = [dice.below(256) for _ in range(40)]
+    for width in (65, 66, 100, 127, 128, 255, 256, 320, 321, 2 ** 32, 2 ** 63, 2 ** 64 - 1):
+        for position in (0, 1, 64, 65, 319, 320, 321):
+            yield stored, position, width, dice.one_of([0, 1, 8, 64])
+            yield stored, position, dice.one_of([0, 1, 8, 64]), width
+        yield stored, dice.below(320), width, dice.one_of([65, 300, 2 ** 64 - 1])
+    for stored in ([], [255], one, other_kind, one + other_kind):
+        end = 8 * len(stored)
+        for position in (0, end, end + 1, end + 8, 2 ** 32, 2 ** 63, 2 ** 64 - 8, 2 ** 64 - 1):
+            for width in (0, 1, 8, 64):
+                yield stored, position, width, dice.one_of([0, 1, 8, 64, 65, 2 ** 64 - 1])
+
+
 CASES = {
     "index": index_cases,
     "order": order_cases,
@@ -1056,9 +1120,10 @@ CASES = {
     "read_links": read_links_cases,
     "write_batch": batch_cases,
     "choice": choice_cases,
-    "take_costs": take_costs_cases,
-    "take_links": take_links_cases,
+    "first_two": first_two_cases,
+    "first_links": first_links_cases,
     "two_costs": two_costs_cases,
+    "two_fields": two_fields_cases,
 }
 
 
@@ -1083,7 +1148,8 @@ def check_arguments(name, arguments):
         if kind == "n":
             assert 0 <= argument < 2 ** 64, (name, argument)
         else:
-            assert len(argument) <= LONGEST_SLICE, (name, len(argument))
+            longest = LONGEST_READ if name in TWICE and kind == "8" else LONGEST_SLICE
+            assert len(argument) <= longest, (name, len(argument))
             most = 2 ** int(kind.rstrip("*"))
             assert all(0 <= element < most for element in argument), (name, argument)
 
@@ -1095,7 +1161,8 @@ def answer_line(name, arguments):
     given = [list(a) if isinstance(a, list) else a for a in arguments]
     answer = function(*given)
     for at, (before, after) in enumerate(zip(arguments, given)):
-        assert before == after or (answer[0] == 0 and at in outputs), (name, arguments)
+        written = answer[0] == 0 or name in TWICE
+        assert before == after or (written and at in outputs), (name, arguments)
     left = [given[at] for at in outputs]
     if name == "choice":
         left.append(law.choose(*given))
@@ -1106,7 +1173,7 @@ def make():
     """All files by name, and what was made of each call."""
     files, report, answers = {}, [], []
     for seed, name in enumerate(CALLS, 1):
-        inputs, seen, refusals, by_table = [], set(), {}, set()
+        inputs, seen, refusals, behind, by_table = [], set(), {}, {}, set()
         answers.append(name)
         for arguments in CASES[name](Dice(1000 * seed)):
             arguments = list(arguments)
@@ -1120,10 +1187,15 @@ def make():
             answers.append(text)
             assert max(len(line), len(text)) <= LONGEST_LINE, (name, len(line), len(text))
             refusals[answer[0]] = refusals.get(answer[0], 0) + 1
+            if name in TWICE and answer[0] == 0:
+                second = answer[TWICE[name] + 1]
+                behind[second] = behind.get(second, 0) + 1
             if name in OVER_SEVERAL_TABLES and answer[0] != 0:
                 by_table.add(answer[:2])
         for number in CALLS[name][2]:
             assert refusals.get(number, 0) >= FEWEST_OF_EACH_REFUSAL, (name, number, refusals)
+            if name in TWICE:
+                assert behind.get(number, 0) >= FEWEST_OF_EACH_REFUSAL, (name, number, behind)
         assert set(refusals) == {0} | set(CALLS[name][2]), (name, refusals)
         for number, table in by_table:
             assert table == 0 or {(number, 1), (number, 2)} <= by_table, (name, number, table)

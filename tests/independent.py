@@ -564,6 +564,17 @@ def read_links(stored, position, fars, costs):
     return 0, n, len(found), used
 
 
+@call
+def read_field(stored, position, width):
+    """The number in the width bits from the position on: 9 where so many are not there,
+    3 where a number of 64 bits has no room for them."""
+    if 8 * len(stored) < position + width:
+        refuse(9)
+    if width > 64:
+        refuse(3)
+    return 0, int("0" + bits_of_bytes(stored)[position:position + width], 2)
+
+
 class Reader:
     """Holds the lent bytes and its bit position, at first bit 0."""
 
@@ -576,6 +587,12 @@ class Reader:
 
     def take_links(self, fars, costs):
         return self.moved_by(read_links(self.stored, self.position, fars, costs))
+
+    def take_field(self, width):
+        answer = read_field(self.stored, self.position, width)
+        if answer[0] == 0:
+            self.position += width
+        return answer
 
     def moved_by(self, answer):
         """The answer. After an accepted table, whose bytes used stand last in it,
@@ -592,14 +609,26 @@ def standing_at(stored, position):
     return reader
 
 
-def take_costs(stored, position, out):
+def first_two(stored, position, first, second):
+    """One reader takes two cost tables from the position on. Both answers, each with
+    where the reader then stands. After a refusal the second is read where the first was."""
     reader = standing_at(stored, position)
-    return reader.take_costs(out) + (reader.position,)
+    one = reader.take_costs(first) + (reader.position,)
+    return one + reader.take_costs(second) + (reader.position,)
 
 
-def take_links(stored, position, fars, costs):
+def first_links(stored, position, fars, costs):
+    """One reader takes a link table at the position."""
     reader = standing_at(stored, position)
     return reader.take_links(fars, costs) + (reader.position,)
+
+
+def two_fields(stored, position, first, second):
+    """One reader takes two fields from the position on, each answer with where it then
+    stands."""
+    reader = standing_at(stored, position)
+    one = reader.take_field(first) + (reader.position,)
+    return one + reader.take_field(second) + (reader.position,)
 
 
 @call
@@ -1115,8 +1144,15 @@ def test_reader_on_a():
     assert reader.take_links(fars, costs) == (0, 3, 3, 11) and reader.position == 160
     assert fars == [2, 4, 6, 8] and costs == [1, 1, 1]
     for position in (1, 71, 73, 145, 152, 2 ** 64 - 8, 2 ** 64 - 1):
-        assert take_costs(stored, position, out) == (9, 0, 0, 0, 0, position)
-        assert take_links(stored, position, fars, costs) == (9, 0, 0, 0, 0, position)
+        refused = (9, 0, 0, 0, 0, position)
+        assert first_two(stored, position, out, out) == refused + refused
+        assert first_links(stored, position, fars, costs) == refused
+    assert two_fields(STORED_A_COSTS, 0, 7, 20) == (0, 3, 7, 0, 1, 27)
+    assert two_fields(STORED_A_LINKS, 14, 2, 21) == (0, 1, 16, 0, 1, 37)
+    assert two_fields(STORED_A_COSTS, 8, 65, 64) == (9, 0, 0, 0, 0, 8, 0, 0x0000200002000020, 72)
+    assert two_fields(STORED_A_COSTS, 73, 0, 1) == (9, 0, 0, 0, 0, 73) * 2
+    assert two_fields(STORED_A_COSTS, 72, 0, 1) == (0, 0, 72, 9, 0, 0, 0, 0, 72)
+    assert two_fields(STORED_A_COSTS + [1], 8, 65, 80) == (3, 0, 0, 0, 0, 8, 9, 0, 0, 0, 0, 8)
 
 
 def test_reader(dice):
@@ -1135,6 +1171,10 @@ def test_reader(dice):
         out = [0] * 16
         assert reader.take_costs(out) == (0, 4, len(parts[2])) and out == t2
         assert reader.position == 8 * len(reader.stored)
+        reader = Reader(parts[0])
+        assert reader.take_field(7) == (0, n)
+        for i, j in pairs(n):
+            assert reader.take_field(20) == (0, t[(i - 1) * n + j - 1])
         both, out = parts[0] + parts[2], [0] * (n * n)
         assert two_costs(both, out, [0] * 16) == (0, n, 4, len(both)) and out == t
         for short, table in (([], 1), (parts[0], 2), (both[:-1], 2), (parts[0][:-1], 1)):

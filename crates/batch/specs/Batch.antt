@@ -1,5 +1,4 @@
--- What a batch answers and writes, by recursion over its tables. head and mark stand in front of each stored table, w is the width of a cost.
--- Assumes nothing.
+-- What a batch answers and writes, by recursion over its tables: each is stored in the form. Assumes nothing.
 use mathlib.Core.Bool.{not}
 use mathlib.Core.List.{List, [], _++_, _∷_}
 use Prim.Native.Nat.{ℕ, _+_, _-_}

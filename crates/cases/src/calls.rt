@@ -28,8 +28,10 @@ pub const WRITE_BATCH: u32 = 13;
 
 pub const CHOICE: u32 = 14;
 
-pub const TAKE_COSTS: u32 = 15;
+pub const FIRST_TWO: u32 = 15;
 
-pub const TAKE_LINKS: u32 = 16;
+pub const FIRST_LINKS: u32 = 16;
 
 pub const TWO_COSTS: u32 = 17;
+
+pub const TWO_FIELDS: u32 = 18;

@@ -71,7 +71,8 @@ fn main() {
     run(calls::READ_LINKS, b"read_links", b"read_links.txt");
     run(calls::WRITE_BATCH, b"write_batch", b"write_batch.txt");
     run(calls::CHOICE, b"choice", b"choice.txt");
-    run(calls::TAKE_COSTS, b"take_costs", b"take_costs.txt");
-    run(calls::TAKE_LINKS, b"take_links", b"take_links.txt");
+    run(calls::FIRST_TWO, b"first_two", b"first_two.txt");
+    run(calls::FIRST_LINKS, b"first_links", b"first_links.txt");
     run(calls::TWO_COSTS, b"two_costs", b"two_costs.txt");
+    run(calls::TWO_FIELDS, b"two_fields", b"two_fields.txt");
 }
