@@ -1,5 +1,5 @@
--- What the promise of the comparison is worth: what an accepted answer says of the two trees, that the count is a distance, and that
--- no second answer meets it. Assumes nothing.
+-- What the promise of the comparison is worth: what an accepted answer says of the two trees, and that the count is a distance. Assumes
+-- nothing.
 use mathlib.Core.List.{List, List·Memᴰ}
 use mathlib.Core.Logic.{_↔_}
 use mathlib.Core.Path.{ap, ap₂, refl, subst, sym, _∙_, _≡_}
@@ -30,7 +30,6 @@ use Rattle.counts.specs.Laws.InnerRows.{inner-most}
 use Rattle.counts.specs.declared.Difference.{Difference}
 use Rattle.compare.specs.Call.{comparison}
 use Rattle.compare.specs.Laws.Answers.{compare-accepted, compare-accepts}
-use Rattle.compare.specs.declared.Comparison.{Comparison}
 use Rattle.compare.specs.declared.Comparison.the-variants.{Compared}
 
 -- the inner far sides of a tree
@@ -137,7 +136,3 @@ module _ (L n : ℕ) where
           differing-over 1 (2 ^ n) l m r (ascends t (a .first)) (ascends u (a .second)) (ascends w (b .second)),
         ),
       )
-
--- no second answer meets the promise
-pub compare-only : (L n : ℕ) (t u : List ℕ) (r q : Comparison) → r ≡ comparison L n t u → q ≡ comparison L n t u → r ≡ q
-compare-only L n t u r q e f = e ∙ sym f

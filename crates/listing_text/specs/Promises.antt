@@ -52,5 +52,5 @@ module _ (s : List ℕ) where
   listed-within p = omega (arith, p .sized, ap length (p .listed), length-append (listingText s) (drop (length (listingText s)) (replicate room 0)))
 
   -- no second answer meets the promise
-  pub listed-only : {a b : ℕ} {t u : List ℕ} → Listed s a t → Listed s b u → (a ≡ b) × (t ≡ u)
-  listed-only p q = (p .sized ∙ sym (q .sized), p .listed ∙ sym (q .listed))
+  pub listed-once : {a b : ℕ} {t u : List ℕ} → Listed s a t → Listed s b u → (a ≡ b) × (t ≡ u)
+  listed-once p q = (p .sized ∙ sym (q .sized), p .listed ∙ sym (q .listed))
