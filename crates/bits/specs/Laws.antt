@@ -10,3 +10,5 @@ pub mod Forms
 pub mod OneWidth
 pub mod Places
 pub mod Listed
+-- What is read does not depend on the bytes behind it.
+pub mod Behind
