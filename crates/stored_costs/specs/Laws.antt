@@ -8,3 +8,5 @@ pub mod Form
 pub mod ReadBack
 pub mod WriteBack
 pub mod Positions
+-- Bytes behind the longest table.
+pub mod Behind
