@@ -80,7 +80,8 @@ module _ (form : Form) (s b : List ℕ) (long : costUsed form 64 ≤ length s) w
     entry-behind : (k : ℕ) → k < entryCount n → entryOf form (s ++ b) k ≡ entryOf form s k
     unfolding entryOf fieldValue
     entry-behind k h =
-        ap valueOf (part-behind s b (form .head + 7 + form .width * k) (form .width) (omega (arith, field-end (form .head + 7) (form .width) (entryCount n) k h, within)))
+        ap valueOf (part-behind s b (form .head + 7 + form .width * k) (form .width)
+        (omega (arith, field-end (form .head + 7) (form .width) (entryCount n) k h, within)))
 
     fill-behind : fillOf form n (s ++ b) ≡ fillOf form n s
     unfolding fillOf
