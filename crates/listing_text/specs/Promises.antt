@@ -9,35 +9,103 @@ use Rattle.ground.specs.Refusals.{_then_}
 use Rattle.ground.specs.declared.Check.{Check}
 use Rattle.ground.specs.declared.Check.the-variants.{Passed, Refused}
 use Rattle.ground.specs.declared.Refusal.{Refusal}
-use Rattle.theory.specs.Readings.{measured}
+use Rattle.ground.specs.Laws.Refusals.{then-passed}
+use Rattle.theory.specs.LinkTables.{Row}
+use Rattle.theory.specs.Readings.{Exact}
 use Rattle.theory.specs.Tables.{cost, limit}
 use Rattle.wiring.specs.Check.{wiringCheck}
+use Rattle.wiring.specs.Promises.{wiring-passed}
 use Rattle.order.specs.Outcome.{images}
-use Rattle.stored_costs.specs.Form.{storedTable, imagesOf, oldCosts}
+use Rattle.tree.specs.Exact.{Wired, exactRows}
+use Rattle.tree.specs.Laws.Exact.{exact-rows}
+use Rattle.stored_costs.specs.Entries.{rowStart}
+use Rattle.stored_costs.specs.Form.{costUsed, storedTable, imagesOf, oldCosts}
+use Rattle.stored_costs.specs.Laws.Behind.{checks-first, images-first, table-first}
+use Rattle.stored_costs.specs.Laws.Passed.{read-passed}
+use Rattle.stored_costs.specs.Laws.WriteBack.{read-table}
+use Rattle.stored_costs.specs.Stored.{Readable}
+use Rattle.listing_text.specs.Laws.Stored.{enough-room}
 use Rattle.listing_text.specs.Lines.{refusedLine}
-use Rattle.listing_text.specs.Listing.{Listed, linksText, listingText, room, storedChecks, textIf}
+use Rattle.listing_text.specs.Listing.{Listed, linksText, listingText, room, storedChecks, tableText, textIf}
+
+-- the images of the stored table that the bytes say, and the table
+abbrev pub imagesSaid : List ℕ → ℕ
+imagesSaid s = imagesOf oldCosts s
+
+abbrev pub tableSaid : List ℕ → List ℕ
+tableSaid s = storedTable oldCosts (imagesSaid s) s
 
 -- the checks of a listing in their order: 9, 1, 9, 11, 4, 7
 abbrev pub listingChecks : List ℕ → Check
-listingChecks s = storedChecks s then wiringCheck (cost (storedTable oldCosts (imagesOf oldCosts s) s) (imagesOf oldCosts s)) (imagesOf oldCosts s)
+listingChecks s = storedChecks s then wiringCheck (cost (tableSaid s) (imagesSaid s)) (imagesSaid s)
 
 -- the exact reading of the table that the bytes say, and the order from 1 with last n
 abbrev pub acceptedText : List ℕ → List ℕ
-acceptedText s = linksText (imagesOf oldCosts s) (measured limit (cost (storedTable oldCosts (imagesOf oldCosts s) s) (imagesOf oldCosts s)) (imagesOf oldCosts s)) (images (imagesOf oldCosts s) (storedTable oldCosts (imagesOf oldCosts s) s) 1 (imagesOf oldCosts s))
+acceptedText s = linksText (imagesSaid s) (exactRows limit (imagesSaid s) (tableSaid s)) (images (imagesSaid s) (tableSaid s) 1 (imagesSaid s))
+
+-- the listing shows the rows T: they are the one link table whose path costs are twice the entries of the table t over n images
+pub record ExactListed (s : List ℕ) (n : ℕ) (t : List ℕ) (T : List Row) : Type 0 where
+  pub exact : Exact limit (cost t n) n T
+  pub only : (U : List Row) → Exact limit (cost t n) n U → U ≡ T
+  pub shown : listingText s ≡ linksText n T (images n t 1 n)
+
+-- ## Bytes that cannot matter
+
+-- how many bytes the longest stored cost table has
+abbrev pub longestTable : ℕ
+longestTable = 5041
+
+pub longest-table : longestTable ≡ costUsed oldCosts 64
+unfolding rowStart
+longest-table = refl
+
+-- ## What is listed
 
 text-then : (c d : Check) (m : List ℕ) → textIf c (textIf d m) ≡ textIf (c then d) m
 text-then Passed d m = refl
 text-then (Refused q) d m = refl
 
 module _ (s : List ℕ) where
+  stored-readable : storedChecks s ≡ Passed → Readable oldCosts s 4096
+  stored-readable e = read-passed oldCosts s 4096 (enough-room s 4096 (omega arith) ∙ e)
+
   -- the listing by its checks
   pub listing-checks : listingText s ≡ textIf (listingChecks s) (acceptedText s)
   unfolding listingText
-  listing-checks = text-then (storedChecks s) (wiringCheck (cost (storedTable oldCosts (imagesOf oldCosts s) s) (imagesOf oldCosts s)) (imagesOf oldCosts s)) (acceptedText s)
+  listing-checks = text-then (storedChecks s) (wiringCheck (cost (tableSaid s) (imagesSaid s)) (imagesSaid s)) (acceptedText s)
 
   -- a table that passes them all is listed
   pub listing-accepted : listingChecks s ≡ Passed → listingText s ≡ acceptedText s
   listing-accepted e = listing-checks ∙ ap (λ (c : Check). textIf c (acceptedText s)) e
+
+  -- what it shows is the exact reading, of which there is no other
+  pub listing-exact : listingChecks s ≡ Passed → (T : List Row) × ExactListed s (imagesSaid s) (tableSaid s) T
+  listing-exact e =
+      let n = imagesSaid s in
+      let t = tableSaid s in
+      let T = exactRows limit n t in
+      let p = then-passed (storedChecks s) (wiringCheck (cost t n) n) e in
+      let c = read-table oldCosts s 4096 (stored-readable (p .0)) in
+      let w : Wired limit n t = record { table = c; condition = wiring-passed limit (cost t n) n (c .formed) .0 (p .1) } in
+      (T, record { exact = exact-rows limit n t w T .1 refl; only = λ U x. exact-rows limit n t w U .0 x; shown = listing-accepted e })
+
+  -- bytes behind the longest stored table cannot matter, so a program need not read them
+  pub listing-ignores : listingText s ≡ listingText (take longestTable s)
+  unfolding listingText
+  listing-ignores =
+      let r = take (costUsed oldCosts 64) s in
+      let k : storedChecks s ≡ storedChecks r = sym (enough-room s 4096 (omega arith)) ∙ checks-first oldCosts s 4096 ∙ enough-room r 4096 (omega arith) in
+      go (storedChecks s) refl
+      ∙ ap (λ (c : Check). textIf c (tableText (imagesSaid r) (tableSaid r))) k
+      ∙ ap (λ (m : ℕ). listingText (take m s)) (sym longest-table)
+    where
+      go : (c : Check) → storedChecks s ≡ c
+          → textIf c (tableText (imagesSaid s) (tableSaid s))
+          ≡ textIf c (tableText (imagesSaid (take (costUsed oldCosts 64) s)) (tableSaid (take (costUsed oldCosts 64) s)))
+      go Passed e =
+          ap (tableText (imagesSaid s)) (table-first oldCosts s (imagesSaid s) (stored-readable e .few))
+          ∙ ap (λ (n : ℕ). tableText n (storedTable oldCosts n (take (costUsed oldCosts 64) s))) (images-first oldCosts s)
+      go (Refused q) e = refl
 
   -- the first refusal prints one line and no other
   pub listing-refused : (q : Refusal) → listingChecks s ≡ Refused q → listingText s ≡ refusedLine q

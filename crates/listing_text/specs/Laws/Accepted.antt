@@ -28,7 +28,6 @@ use Rattle.order.specs.Promises.{order-accepted, order-wrote}
 use Rattle.tree.specs.Exact.{exactRows}
 use Rattle.tree.specs.Promises.{exact-answer}
 use Rattle.tree.specs.Readings.{exactCheck, exactOutcome, outcome}
-use Rattle.tree.specs.Laws.Exact.{readings-agree}
 use Rattle.tree.specs.Laws.Writing.{measured-passed}
 use Rattle.listing_text.specs.Lines.{refusedLine}
 use Rattle.listing_text.specs.Listing.{readingText, tableText, textIf}
@@ -98,7 +97,7 @@ table-read n t f v f′ v′ r c a b l =
     let y : length (take r v′) ≡ r = ap length (g .2) ∙ length-map T (λ q. q .1) ∙ sym (g .0) in
     let k : Links limit n (length (take r f′)) (take r f′) (take r v′) =
     record { some = c .some; few = c .few; counted = refl; costed = y ∙ sym x; table = exact-answer limit n t f v r f′ v′ l .exact .tree } in
-    record { few = omega (arith, x, links-few n (take r f′) (take r v′) k); far-length = x; cost-length = y; links = k; text = g .3 ∙ rw (g .1, g .2, readings-agree limit n t) refl }
+    record { few = omega (arith, x, links-few n (take r f′) (take r v′) k); far-length = x; cost-length = y; links = k; text = g .3 ∙ rw (g .1, g .2) refl }
   where
     go : (k : Check) (m : List ℕ) → Places r ≡ outcome k (exactRows limit n t) f v .answer → f′ ≡ outcome k (exactRows limit n t) f v .far-list → v′ ≡ outcome k (exactRows limit n t) f v .cost-list
         → (r ≡ length (exactRows limit n t)) × (take r f′ ≡ fars (exactRows limit n t)) × (take r v′ ≡ costs (exactRows limit n t)) × (textIf k m ≡ m)
