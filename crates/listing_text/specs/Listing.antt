@@ -45,7 +45,8 @@ tableText n t = textIf (wiringCheck (cost t n) n) (linksText n (exactRows limit 
 -- 9, 1, 9, 11, 4: the checks of a stored cost table, where there is room for every table
 abbrev pub storedChecks : List ℕ → Check
 storedChecks s =
-    endCheck s (bytesFor 7) then imagesCheck (imagesOf oldCosts s) then bodyChecks oldCosts (imagesOf oldCosts s) s then storedCheck limit (entryCost (entryOf oldCosts s) (imagesOf oldCosts s)) (imagesOf oldCosts s)
+    endCheck s (bytesFor 7) then imagesCheck (imagesOf oldCosts s) then bodyChecks oldCosts (imagesOf oldCosts s) s
+    then storedCheck limit (entryCost (entryOf oldCosts s) (imagesOf oldCosts s)) (imagesOf oldCosts s)
 
 -- the listing: what the stored table's checks refuse, or that of the table that the bytes say
 unfoldable pub listingText : List ℕ → List ℕ

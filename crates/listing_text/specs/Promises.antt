@@ -1,5 +1,6 @@
--- What the promise of a listing says: which tables are listed, what a refusal prints, and that there is no other text. Assumes nothing.
-use mathlib.Core.List.{List}
+-- What the promise of a listing says: which tables are listed and as what, what a refusal prints, that there is no other text, and which bytes
+-- cannot matter. Assumes nothing.
+use mathlib.Core.List.{List, _++_}
 use mathlib.Core.Path.{ap, refl, sym, _∙_, _≡_}
 use Prim.Native.Nat.{ℕ, _≤_}
 use native.Mathlib.Omega.{arith}
@@ -18,9 +19,10 @@ use Rattle.wiring.specs.Promises.{wiring-passed}
 use Rattle.order.specs.Outcome.{images}
 use Rattle.tree.specs.Exact.{Wired, exactRows}
 use Rattle.tree.specs.Laws.Exact.{exact-rows}
+use Rattle.bits.specs.Laws.Behind.{first-bytes}
 use Rattle.stored_costs.specs.Entries.{rowStart}
 use Rattle.stored_costs.specs.Form.{costUsed, storedTable, imagesOf, oldCosts}
-use Rattle.stored_costs.specs.Laws.Behind.{checks-first, images-first, table-first}
+use Rattle.stored_costs.specs.Laws.Behind.{Reaching, checks-behind, images-behind, longest-reaches, table-behind, whole-reaches}
 use Rattle.stored_costs.specs.Laws.Passed.{read-passed}
 use Rattle.stored_costs.specs.Laws.WriteBack.{read-table}
 use Rattle.stored_costs.specs.Stored.{Readable}
@@ -48,18 +50,6 @@ pub record ExactListed (s : List ℕ) (n : ℕ) (t : List ℕ) (T : List Row) : 
   pub exact : Exact limit (cost t n) n T
   pub only : (U : List Row) → Exact limit (cost t n) n U → U ≡ T
   pub shown : listingText s ≡ linksText n T (images n t 1 n)
-
--- ## Bytes that cannot matter
-
--- how many bytes the longest stored cost table has
-abbrev pub longestTable : ℕ
-longestTable = 5041
-
-pub longest-table : longestTable ≡ costUsed oldCosts 64
-unfolding rowStart
-longest-table = refl
-
--- ## What is listed
 
 text-then : (c d : Check) (m : List ℕ) → textIf c (textIf d m) ≡ textIf (c then d) m
 text-then Passed d m = refl
@@ -89,24 +79,6 @@ module _ (s : List ℕ) where
       let w : Wired limit n t = record { table = c; condition = wiring-passed limit (cost t n) n (c .formed) .0 (p .1) } in
       (T, record { exact = exact-rows limit n t w T .1 refl; only = λ U x. exact-rows limit n t w U .0 x; shown = listing-accepted e })
 
-  -- bytes behind the longest stored table cannot matter, so a program need not read them
-  pub listing-ignores : listingText s ≡ listingText (take longestTable s)
-  unfolding listingText
-  listing-ignores =
-      let r = take (costUsed oldCosts 64) s in
-      let k : storedChecks s ≡ storedChecks r = sym (enough-room s 4096 (omega arith)) ∙ checks-first oldCosts s 4096 ∙ enough-room r 4096 (omega arith) in
-      go (storedChecks s) refl
-      ∙ ap (λ (c : Check). textIf c (tableText (imagesSaid r) (tableSaid r))) k
-      ∙ ap (λ (m : ℕ). listingText (take m s)) (sym longest-table)
-    where
-      go : (c : Check) → storedChecks s ≡ c
-          → textIf c (tableText (imagesSaid s) (tableSaid s))
-          ≡ textIf c (tableText (imagesSaid (take (costUsed oldCosts 64) s)) (tableSaid (take (costUsed oldCosts 64) s)))
-      go Passed e =
-          ap (tableText (imagesSaid s)) (table-first oldCosts s (imagesSaid s) (stored-readable e .few))
-          ∙ ap (λ (n : ℕ). tableText n (storedTable oldCosts n (take (costUsed oldCosts 64) s))) (images-first oldCosts s)
-      go (Refused q) e = refl
-
   -- the first refusal prints one line and no other
   pub listing-refused : (q : Refusal) → listingChecks s ≡ Refused q → listingText s ≡ refusedLine q
   listing-refused q e = listing-checks ∙ ap (λ (c : Check). textIf c (acceptedText s)) e
@@ -122,3 +94,36 @@ module _ (s : List ℕ) where
   -- no second answer meets the promise
   pub listed-only : {a b : ℕ} {t u : List ℕ} → Listed s a t → Listed s b u → (a ≡ b) × (t ≡ u)
   listed-only p q = (p .sized ∙ sym (q .sized), p .listed ∙ sym (q .listed))
+
+-- ## Bytes that cannot matter
+
+-- how many bytes the longest stored cost table has
+abbrev pub longestTable : ℕ
+longestTable = 5041
+
+pub longest-table : longestTable ≡ costUsed oldCosts 64
+unfolding rowStart
+longest-table = refl
+
+module _ (s b : List ℕ) where
+  reached : Reaching oldCosts s → listingText (s ++ b) ≡ listingText s
+  unfolding listingText
+  reached r =
+      let k : storedChecks (s ++ b) ≡ storedChecks s =
+      sym (enough-room (s ++ b) 4096 (omega arith)) ∙ checks-behind oldCosts s b r 4096 ∙ enough-room s 4096 (omega arith) in
+      ap (λ (c : Check). textIf c (tableText (imagesSaid (s ++ b)) (tableSaid (s ++ b)))) k ∙ go (storedChecks s) refl
+    where
+      go : (c : Check) → storedChecks s ≡ c
+          → textIf c (tableText (imagesSaid (s ++ b)) (tableSaid (s ++ b))) ≡ textIf c (tableText (imagesSaid s) (tableSaid s))
+      go Passed e =
+          ap (λ (n : ℕ). tableText n (storedTable oldCosts n (s ++ b))) (images-behind oldCosts s b r)
+          ∙ ap (tableText (imagesSaid s)) (table-behind oldCosts s b r (stored-readable s e .few))
+      go (Refused q) e = refl
+
+  -- bytes behind the stored table are ignored
+  pub listing-behind : costUsed oldCosts (imagesSaid s) ≤ length s → listingText (s ++ b) ≡ listingText s
+  listing-behind h = reached (whole-reaches oldCosts s h)
+
+-- so a program need not read more than the longest one has
+pub listing-ignores : (s : List ℕ) → listingText s ≡ listingText (take longestTable s)
+listing-ignores s = first-bytes listingText longestTable (λ x b h. reached x b (longest-reaches oldCosts x (rw (← longest-table) h))) s

@@ -8,5 +8,6 @@ pub mod Form
 pub mod ReadBack
 pub mod WriteBack
 pub mod Positions
--- Bytes behind the longest table.
+-- Bytes behind a table.
+pub mod Agreeing
 pub mod Behind

@@ -8,5 +8,5 @@ pub mod Positions
 pub mod ReadBack
 pub mod WriteBack
 pub mod ReadAt
--- Bytes behind the longest table.
+-- Bytes behind a table.
 pub mod Behind
