@@ -2,7 +2,7 @@
 -- cannot matter. Assumes nothing.
 use mathlib.Core.List.{List, _++_}
 use mathlib.Core.Path.{ap, refl, sym, _∙_, _≡_}
-use Prim.Native.Nat.{ℕ, _≤_}
+use Prim.Native.Nat.{ℕ, _<_, _^_, _≤_}
 use native.Mathlib.Omega.{arith}
 use lib.ListN.{drop, length, length-append, replicate, take}
 use lib.Seq.{take-at}
@@ -13,7 +13,7 @@ use Rattle.ground.specs.declared.Refusal.{Refusal}
 use Rattle.ground.specs.Laws.Refusals.{then-passed}
 use Rattle.theory.specs.LinkTables.{Row}
 use Rattle.theory.specs.Readings.{Exact}
-use Rattle.theory.specs.Tables.{cost, limit}
+use Rattle.theory.specs.Tables.{CostTable, cost, limit}
 use Rattle.wiring.specs.Check.{wiringCheck}
 use Rattle.wiring.specs.Promises.{wiring-passed}
 use Rattle.order.specs.Outcome.{images}
@@ -21,9 +21,11 @@ use Rattle.tree.specs.Exact.{Wired, exactRows}
 use Rattle.tree.specs.Laws.Exact.{exact-rows}
 use Rattle.bits.specs.Laws.Behind.{first-bytes}
 use Rattle.stored_costs.specs.Entries.{rowStart}
-use Rattle.stored_costs.specs.Form.{costUsed, storedTable, imagesOf, oldCosts}
+use Rattle.stored_costs.specs.Form.{costBytes, costUsed, storedTable, imagesOf, oldCosts}
 use Rattle.stored_costs.specs.Laws.Behind.{Reaching, checks-behind, images-behind, longest-reaches, table-behind, whole-reaches}
-use Rattle.stored_costs.specs.Laws.Passed.{read-passed}
+use Rattle.stored_costs.specs.Laws.Passed.{passed-read, read-passed}
+use Rattle.stored_costs.specs.Laws.ReadBack.{written-costs-of, written-images, written-readable}
+use Rattle.stored_costs.specs.Laws.Sizes.{square-le}
 use Rattle.stored_costs.specs.Laws.WriteBack.{read-table}
 use Rattle.stored_costs.specs.Stored.{Readable}
 use Rattle.listing_text.specs.Laws.Stored.{enough-room}
@@ -94,6 +96,18 @@ module _ (s : List ℕ) where
   -- no second answer meets the promise
   pub listed-only : {a b : ℕ} {t u : List ℕ} → Listed s a t → Listed s b u → (a ≡ b) × (t ≡ u)
   listed-only p q = (p .sized ∙ sym (q .sized), p .listed ∙ sym (q .listed))
+
+-- the listing of a table as it is stored, whatever follows it, is that of the table
+pub listing-stored : (n : ℕ) (t b : List ℕ) → CostTable limit n t → listingText (costBytes oldCosts n (cost t n) ++ b) ≡ tableText n t
+unfolding listingText
+listing-stored n t b c =
+    let s = costBytes oldCosts n (cost t n) ++ b in
+    let fits : limit < 2 ^ 20 = omega arith in
+    let k : storedChecks s ≡ Passed =
+    sym (enough-room s 4096 (omega arith)) ∙ passed-read oldCosts s 4096 (written-readable oldCosts n t b c fits 4096 (square-le (c .few))) in
+    ap (λ (x : Check). textIf x (tableText (imagesSaid s) (tableSaid s))) k
+    ∙ ap (λ (m : ℕ). tableText m (storedTable oldCosts m s)) (written-images oldCosts n t b c fits)
+    ∙ ap (tableText n) (written-costs-of oldCosts n t b c fits)
 
 -- ## Bytes that cannot matter
 
