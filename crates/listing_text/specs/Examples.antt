@@ -11,7 +11,7 @@ use Rattle.bits.specs.Forms.{fieldValue}
 use Rattle.bits.specs.Listed.{listed}
 use Rattle.stored_costs.specs.Entries.{entryCost, rowStart, tableOf}
 use Rattle.stored_costs.specs.Form.{entryOf, fillOf, imagesOf}
-use Rattle.tree.specs.Exact.{exactRows}
+use Rattle.tree.specs.Exact.{exactRows, treeCheck}
 use Rattle.listing_text.specs.Decimal.{decimal, digits}
 use Rattle.listing_text.specs.Lines.{field, fields, header, imagesWord, orderLine, orderWord, refusedLine, refusedWord, rowLine, rowLines, rowsWord}
 use Rattle.listing_text.specs.Listing.{listingText, readingText}
@@ -21,14 +21,14 @@ pub example-A : listingText (0x06 ∷ 0x00 ∷ 0x00 ∷ 0x20 ∷ 0x00 ∷ 0x02 �
     ≡ (105 ∷ 109 ∷ 97 ∷ 103 ∷ 101 ∷ 115 ∷ 32 ∷ 51 ∷ 32 ∷ 114 ∷ 111 ∷ 119 ∷ 115 ∷ 32 ∷ 51 ∷ 10 ∷ [])
     ++ (50 ∷ 32 ∷ 49 ∷ 32 ∷ 51 ∷ 10 ∷ 52 ∷ 32 ∷ 49 ∷ 32 ∷ 51 ∷ 10 ∷ 54 ∷ 32 ∷ 49 ∷ 32 ∷ 48 ∷ 10 ∷ [])
     ++ (111 ∷ 114 ∷ 100 ∷ 101 ∷ 114 ∷ 32 ∷ 49 ∷ 32 ∷ 50 ∷ 32 ∷ 51 ∷ 10 ∷ [])
-unfolding listingText bits bitsOf valueOf part fieldValue listed rowStart entryCost tableOf imagesOf entryOf fillOf checkAll
+unfolding listingText bits bitsOf valueOf part fieldValue listed rowStart entryCost tableOf imagesOf entryOf fillOf checkAll treeCheck
     leastOn ones onesIn shifted exactRows grow next readingText header rowLines rowLine orderLine fields field decimal digits imagesWord rowsWord orderWord
 example-A = refl
 
 -- example C from its stored bytes: refused 7 1 1 2 3
 pub example-C : listingText (0x06 ∷ 0x00 ∷ 0x00 ∷ 0x20 ∷ 0x00 ∷ 0x02 ∷ 0x00 ∷ 0x00 ∷ 0x60 ∷ [])
     ≡ 114 ∷ 101 ∷ 102 ∷ 117 ∷ 115 ∷ 101 ∷ 100 ∷ 32 ∷ 55 ∷ 32 ∷ 49 ∷ 32 ∷ 49 ∷ 32 ∷ 50 ∷ 32 ∷ 51 ∷ 10 ∷ []
-unfolding listingText bits bitsOf valueOf part fieldValue listed rowStart entryCost tableOf imagesOf entryOf fillOf checkAll
+unfolding listingText bits bitsOf valueOf part fieldValue listed rowStart entryCost tableOf imagesOf entryOf fillOf checkAll treeCheck
     refusedLine refusedWord field decimal digits
 example-C = refl
 

@@ -15,10 +15,9 @@ use Rattle.theory.specs.LinkTables.{Row}
 use Rattle.theory.specs.Readings.{Exact}
 use Rattle.theory.specs.Tables.{CostTable, cost, limit}
 use Rattle.wiring.specs.Check.{wiringCheck}
-use Rattle.wiring.specs.Promises.{wiring-passed}
 use Rattle.order.specs.Outcome.{images}
-use Rattle.tree.specs.Exact.{Wired, exactRows}
-use Rattle.tree.specs.Laws.Exact.{exact-rows}
+use Rattle.tree.specs.Exact.{exactRows, treeCheck}
+use Rattle.tree.specs.Laws.Exact.{exact-rows, table-passed, table-sized, tree-wiring}
 use Rattle.bits.specs.Laws.Behind.{first-bytes}
 use Rattle.stored_costs.specs.Entries.{rowStart}
 use Rattle.stored_costs.specs.Form.{costBytes, costUsed, storedTable, imagesOf, oldCosts}
@@ -39,9 +38,9 @@ imagesSaid s = imagesOf oldCosts s
 abbrev pub tableSaid : List ℕ → List ℕ
 tableSaid s = storedTable oldCosts (imagesSaid s) s
 
--- the checks of a listing in their order: 9, 1, 9, 11, 4, 7
+-- the checks of a listing in their order: 9, 1, 9, 11, 4, and those of the exact reading
 abbrev pub listingChecks : List ℕ → Check
-listingChecks s = storedChecks s then wiringCheck (cost (tableSaid s) (imagesSaid s)) (imagesSaid s)
+listingChecks s = storedChecks s then treeCheck limit (imagesSaid s) (tableSaid s)
 
 -- the exact reading of the table that the bytes say, and the order from 1 with last n
 abbrev pub acceptedText : List ℕ → List ℕ
@@ -64,7 +63,13 @@ module _ (s : List ℕ) where
   -- the listing by its checks
   pub listing-checks : listingText s ≡ textIf (listingChecks s) (acceptedText s)
   unfolding listingText
-  listing-checks = text-then (storedChecks s) (wiringCheck (cost (tableSaid s) (imagesSaid s)) (imagesSaid s)) (acceptedText s)
+  listing-checks = text-then (storedChecks s) (treeCheck limit (imagesSaid s) (tableSaid s)) (acceptedText s)
+
+  -- of the exact reading only 7 is left
+  pub listing-wiring : storedChecks s ≡ Passed → listingChecks s ≡ wiringCheck (cost (tableSaid s) (imagesSaid s)) (imagesSaid s)
+  listing-wiring e =
+      ap (λ (c : Check). c then treeCheck limit (imagesSaid s) (tableSaid s)) e
+      ∙ tree-wiring limit (imagesSaid s) (tableSaid s) (read-table oldCosts s 4096 (stored-readable e))
 
   -- a table that passes them all is listed
   pub listing-accepted : listingChecks s ≡ Passed → listingText s ≡ acceptedText s
@@ -76,9 +81,9 @@ module _ (s : List ℕ) where
       let n = imagesSaid s in
       let t = tableSaid s in
       let T = exactRows limit n t in
-      let p = then-passed (storedChecks s) (wiringCheck (cost t n) n) e in
+      let p = then-passed (storedChecks s) (treeCheck limit n t) e in
       let c = read-table oldCosts s 4096 (stored-readable (p .0)) in
-      let w : Wired limit n t = record { table = c; condition = wiring-passed limit (cost t n) n (c .formed) .0 (p .1) } in
+      let w = table-passed limit n t (c .some) (c .few) .0 (table-sized limit n t (c .sized) ∙ p .1) in
       (T, record { exact = exact-rows limit n t w T .1 refl; only = λ U x. exact-rows limit n t w U .0 x; shown = listing-accepted e })
 
   -- the first refusal prints one line and no other
