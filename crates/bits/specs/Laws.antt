@@ -12,3 +12,5 @@ pub mod Places
 pub mod Listed
 -- The checks of stored bytes by their numbers.
 pub mod InOrder
+-- What is read does not depend on the bytes behind it.
+pub mod Behind

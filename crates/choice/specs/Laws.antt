@@ -6,3 +6,4 @@ pub mod Chain
 pub mod Accepted
 pub mod Refused
 pub mod Parts
+pub mod Behind

@@ -3,7 +3,7 @@
 use libc::STDIN_FILENO;
 use libc::STDOUT_FILENO;
 
-// No stored cost table is longer than this array, so nothing behind it can matter.
+// No stored cost table is longer than this array, so nothing behind it can matter: `listing-ignores` in listing_text/specs/Promises.antt.
 fn main() {
     let mut input = [0u8; 5041];
     let count = io::read_full(STDIN_FILENO, &mut input);

@@ -9,12 +9,11 @@ use Rattle.ground.specs.declared.Check.{Check}
 use Rattle.ground.specs.declared.Check.the-variants.{Passed, Refused}
 use Rattle.bits.specs.Kinds.{endCheck}
 use Rattle.theory.specs.LinkTables.{Row, costs, fars}
-use Rattle.theory.specs.Readings.{measured}
 use Rattle.theory.specs.Routes.{uppers}
-use Rattle.theory.specs.Tables.{cost, limit}
+use Rattle.theory.specs.Tables.{limit}
 use Rattle.theory.specs.Checks.{imagesCheck}
-use Rattle.wiring.specs.Check.{wiringCheck}
 use Rattle.order.specs.Outcome.{images}
+use Rattle.tree.specs.Exact.{exactRows, treeCheck}
 use Rattle.bits.specs.Forms.{bytesFor}
 use Rattle.stored_costs.specs.Entries.{entryCost}
 use Rattle.stored_costs.specs.Form.{storedTable, entryOf, imagesOf, oldCosts}
@@ -38,14 +37,15 @@ readingText n l v u o = header n (length l) ++ (rowLines l v u ++ orderLine o)
 abbrev pub linksText : ℕ → List Row → List ℕ → List ℕ
 linksText n T o = readingText n (fars T) (costs T) (uppers (fars T)) o
 
--- the exact reading of the cost table t, and the order from 1 with last n; or 7
+-- the exact reading of the cost table t, and the order from 1 with last n; or its refusal
 abbrev pub tableText : ℕ → List ℕ → List ℕ
-tableText n t = textIf (wiringCheck (cost t n) n) (linksText n (measured limit (cost t n) n) (images n t 1 n))
+tableText n t = textIf (treeCheck limit n t) (linksText n (exactRows limit n t) (images n t 1 n))
 
 -- 9, 1, 9, 11, 4: the checks of a stored cost table, where there is room for every table
 abbrev pub storedChecks : List ℕ → Check
 storedChecks s =
-    endCheck s (bytesFor 7) then imagesCheck (imagesOf oldCosts s) then bodyChecks oldCosts (imagesOf oldCosts s) s then storedCheck limit (entryCost (entryOf oldCosts s) (imagesOf oldCosts s)) (imagesOf oldCosts s)
+    endCheck s (bytesFor 7) then imagesCheck (imagesOf oldCosts s) then bodyChecks oldCosts (imagesOf oldCosts s) s
+    then storedCheck limit (entryCost (entryOf oldCosts s) (imagesOf oldCosts s)) (imagesOf oldCosts s)
 
 -- the listing: what the stored table's checks refuse, or that of the table that the bytes say
 unfoldable pub listingText : List ℕ → List ℕ

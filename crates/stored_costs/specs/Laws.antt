@@ -8,3 +8,6 @@ pub mod Form
 pub mod ReadBack
 pub mod WriteBack
 pub mod Positions
+-- Bytes behind a table.
+pub mod Agreeing
+pub mod Behind

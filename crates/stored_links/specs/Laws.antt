@@ -8,3 +8,5 @@ pub mod Positions
 pub mod ReadBack
 pub mod WriteBack
 pub mod ReadAt
+-- Bytes behind a table.
+pub mod Behind

@@ -16,8 +16,7 @@ use Rattle.theory.specs.Laws.RowCount.{row-count}
 use Rattle.theory.specs.LinkTables.{costs, far, fars, rowsOf}
 use Rattle.theory.specs.Outcomes.{LeftRows}
 use Rattle.theory.specs.Routes.{uppers}
-use Rattle.theory.specs.Tables.{CostTable, cost, limit}
-use Rattle.wiring.specs.Check.{wiringCheck}
+use Rattle.theory.specs.Tables.{CostTable, limit}
 use Rattle.links.specs.Links.{Links}
 use Rattle.links.specs.Laws.LinkChecks.{rows-length}
 use Rattle.routes.specs.Outcomes.{upperOutcome}
@@ -25,11 +24,10 @@ use Rattle.routes.specs.Promises.{upper-answer}
 use Rattle.routes.specs.Laws.UpperRows.{uppers-length}
 use Rattle.order.specs.Outcome.{OrderAsked, images, orderOutcome}
 use Rattle.order.specs.Promises.{order-accepted, order-wrote}
-use Rattle.tree.specs.Exact.{exactRows}
+use Rattle.tree.specs.Exact.{exactRows, treeCheck}
 use Rattle.tree.specs.Promises.{exact-answer}
 use Rattle.tree.specs.Readings.{exactCheck, exactOutcome, outcome}
-use Rattle.tree.specs.Laws.Exact.{readings-agree}
-use Rattle.tree.specs.Laws.Writing.{measured-passed}
+use Rattle.tree.specs.Laws.Exact.{exact-check, table-sized}
 use Rattle.listing_text.specs.Lines.{refusedLine}
 use Rattle.listing_text.specs.Listing.{readingText, tableText, textIf}
 
@@ -69,14 +67,14 @@ order-left n t o e r c h p =
 
 -- ## The exact reading of a cost table
 
--- only 7 is left to refuse
-exact-wiring : (n : ℕ) (t f v : List ℕ) → CostTable limit n t → 125 ≤ length f → 125 ≤ length v → exactCheck limit n t (length f) (length v) ≡ wiringCheck (cost t n) n
-exact-wiring n t f v c a b =
-    rw (measured-passed limit n t (length f) (length v) .1 (record { table = c; far-room = omega (arith, c .few); cost-room = omega (arith, c .few) })) refl
+-- 1, 2 and 3 are not given
+only-tree : (n : ℕ) (t f v : List ℕ) → CostTable limit n t → 125 ≤ length f → 125 ≤ length v → exactCheck limit n t (length f) (length v) ≡ treeCheck limit n t
+only-tree n t f v c a b =
+    exact-check limit n t (c .some) (c .few) (length f) (length v) (omega (arith, c .few)) (omega (arith, c .few)) ∙ table-sized limit n t (c .sized)
 
 pub table-refused : (n : ℕ) (t f v f′ v′ : List ℕ) (q : Refusal) → CostTable limit n t → 125 ≤ length f → 125 ≤ length v
     → LeftRows (exactOutcome limit n t f v) (written.Refused q) f′ v′ → tableText n t ≡ refusedLine q
-table-refused n t f v f′ v′ q c a b l = go (wiringCheck (cost t n) n) _ (rw (exact-wiring n t f v c a b) at (l .answered))
+table-refused n t f v f′ v′ q c a b l = go (treeCheck limit n t) _ (rw (only-tree n t f v c a b) at (l .answered))
   where
     go : (k : Check) (m : List ℕ) → written.Refused q ≡ outcome k (exactRows limit n t) f v .answer → textIf k m ≡ refusedLine q
     go Passed m e = absurd (let z : _≡_ {A = ℕ} 0 1 = cc in omega arith)
@@ -93,12 +91,12 @@ pub record Read (n : ℕ) (t : List ℕ) (r : ℕ) (f v : List ℕ) : Type 0 whe
 pub table-read : (n : ℕ) (t f v f′ v′ : List ℕ) (r : ℕ) → CostTable limit n t → 125 ≤ length f → 125 ≤ length v → LeftRows (exactOutcome limit n t f v) (Places r) f′ v′ → Read n t r f′ v′
 table-read n t f v f′ v′ r c a b l =
     let T = exactRows limit n t in
-    let g = go (wiringCheck (cost t n) n) _ (rw (exact-wiring n t f v c a b) at (l .answered)) (rw (exact-wiring n t f v c a b) at (l .far-sides)) (rw (exact-wiring n t f v c a b) at (l .doubled)) in
+    let g = go (treeCheck limit n t) _ (rw (only-tree n t f v c a b) at (l .answered)) (rw (only-tree n t f v c a b) at (l .far-sides)) (rw (only-tree n t f v c a b) at (l .doubled)) in
     let x : length (take r f′) ≡ r = ap length (g .1) ∙ length-map T far ∙ sym (g .0) in
     let y : length (take r v′) ≡ r = ap length (g .2) ∙ length-map T (λ q. q .1) ∙ sym (g .0) in
     let k : Links limit n (length (take r f′)) (take r f′) (take r v′) =
     record { some = c .some; few = c .few; counted = refl; costed = y ∙ sym x; table = exact-answer limit n t f v r f′ v′ l .exact .tree } in
-    record { few = omega (arith, x, links-few n (take r f′) (take r v′) k); far-length = x; cost-length = y; links = k; text = g .3 ∙ rw (g .1, g .2, readings-agree limit n t) refl }
+    record { few = omega (arith, x, links-few n (take r f′) (take r v′) k); far-length = x; cost-length = y; links = k; text = g .3 ∙ rw (g .1, g .2) refl }
   where
     go : (k : Check) (m : List ℕ) → Places r ≡ outcome k (exactRows limit n t) f v .answer → f′ ≡ outcome k (exactRows limit n t) f v .far-list → v′ ≡ outcome k (exactRows limit n t) f v .cost-list
         → (r ≡ length (exactRows limit n t)) × (take r f′ ≡ fars (exactRows limit n t)) × (take r v′ ≡ costs (exactRows limit n t)) × (textIf k m ≡ m)

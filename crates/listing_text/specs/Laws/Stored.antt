@@ -22,7 +22,7 @@ use Rattle.stored_costs.specs.Laws.Passed.{judged-refused, table-at}
 use Rattle.stored_costs.specs.Laws.Sizes.{square-le}
 use Rattle.stored_costs.specs.Laws.Tables.{length-table, table-formed}
 use Rattle.stored_costs.specs.Outcomes.{readOutcome}
-use Rattle.stored_costs.specs.Reading.{bodyChecks, readAtChecks, storedCheck}
+use Rattle.stored_costs.specs.Reading.{bodyChecks, readAtChecks, readChecks, storedCheck}
 use Rattle.stored_costs.specs.declared.StoredCosts.the-variants.{Table}
 use Rattle.stored_costs.specs.declared.StoredCosts.the-variants as stored
 use Rattle.listing_text.specs.Lines.{refusedLine}
@@ -35,11 +35,16 @@ without Passed (Refused q) r b h = refl
 without Passed Passed r b h = rw (h refl) refl
 
 -- 3 cannot occur
-pub stored-checks : (s : List ℕ) (places : ℕ) → 4096 ≤ places → readAtChecks oldCosts s 0 places ≡ storedChecks s
-stored-checks s places h =
+pub enough-room : (s : List ℕ) (places : ℕ) → 4096 ≤ places → readChecks oldCosts s places ≡ storedChecks s
+enough-room s places h =
     let n = imagesOf oldCosts s in
-    rw (le-ltb (length s) 0 (omega arith)) (without (endCheck s (bytesFor 7)) (imagesCheck n) (roomCheck (n * n) places) (bodyChecks oldCosts n s then storedCheck limit (entryCost (entryOf oldCosts s) n) n)
-    (λ e. rw (le-ltb places (n * n) (omega (arith, square-le (outside-false 3 64 n (refuseIf-passed (outside 3 64 n) _ e) .1)))) refl))
+    without (endCheck s (bytesFor 7)) (imagesCheck n) (roomCheck (n * n) places)
+    (bodyChecks oldCosts n s then storedCheck limit (entryCost (entryOf oldCosts s) n) n)
+    (λ e. rw (le-ltb places (n * n) (omega (arith, square-le (outside-false 3 64 n (refuseIf-passed (outside 3 64 n) _ e) .1)))) refl)
+
+-- and the first byte is inside
+stored-checks : (s : List ℕ) (places : ℕ) → 4096 ≤ places → readAtChecks oldCosts s 0 places ≡ storedChecks s
+stored-checks s places h = rw (le-ltb (length s) 0 (omega arith)) (enough-room s places h)
 
 module _ (s o e : List ℕ) (h : 4096 ≤ length o) where
   pub stored-refused : (q : Refusal) → Left (readOutcome oldCosts s 0 o) (stored.Refused q) e → listingText s ≡ refusedLine q

@@ -39,6 +39,11 @@ passed-between : (x y z w : Check) → y ≡ Passed → ((x then (y then z)) the
 passed-between x y z w e = rw e (then-assoc x z w)
 
 module _ (L n : ℕ) (t : List ℕ) where
+  -- a cost table has only 7 left
+  pub tree-wiring : CostTable L n t → treeCheck L n t ≡ wiringCheck (cost t n) n
+  unfolding treeCheck
+  tree-wiring c = rw (passed-costs L (cost t n) n (c .formed)) refl
+
   -- ## The tree of a wired table
 
   -- some link table has path costs equal to twice the entries exactly when the table is wired
@@ -84,11 +89,11 @@ module _ (L n : ℕ) (t : List ℕ) where
           record { table = c; condition = wiring-passed L (cost t n) n (c .formed) .0 (q .1) },
       λ w.
           let c = w .table in
-          table-sized L n t (c .sized) ∙ rw (passed-costs L (cost t n) n (c .formed)) (wiring-passed L (cost t n) n (c .formed) .1 (w .condition)),
+          table-sized L n t (c .sized) ∙ tree-wiring c ∙ wiring-passed L (cost t n) n (c .formed) .1 (w .condition),
     )
 
     -- 1 and 3 are never given where there is room enough
-    exact-check : (f v : ℕ) → 2 * n - 3 ≤ f → 2 * n - 3 ≤ v → exactCheck L n t f v ≡ tableCheck L n t
+    pub exact-check : (f v : ℕ) → 2 * n - 3 ≤ f → 2 * n - 3 ≤ v → exactCheck L n t f v ≡ tableCheck L n t
     unfolding tableCheck treeCheck
     exact-check f v a b =
         let r = room-passed (2 * n - 3) f v a b in
