@@ -5,10 +5,10 @@ use lib.Count.{ones, onesIn}
 use Rattle.ground.specs.First.{first}
 use Rattle.ground.specs.Refusals.{refusal}
 use Rattle.bits.specs.Bits.{bitsOf, part, valueOf}
-use Rattle.bits.specs.Forms.{bytesOf, filled, formBits, formBytes, packed}
+use Rattle.bits.specs.Forms.{bytesOf, filled, fieldBits, fieldBytes, packed}
 use Rattle.links.specs.BadRows.{badRow, missing}
 use Rattle.stored_links.specs.Examples.{costsA, farsA, storedA}
-use Rattle.stored_links.specs.Form.{linkBytes, linkForm, oldLinks, rowsTo}
+use Rattle.stored_links.specs.Form.{linkBytes, linkFields, oldLinks, rowsTo}
 use Rattle.batch.specs.Batch.{batchAnswer, batchBytes, batchFrom}
 use Rattle.batch.specs.Tables.{tables}
 use Rattle.batch.specs.declared.Batched.the-variants.{Bytes}
@@ -25,7 +25,7 @@ empty-batches = (refl, refl, refl, refl)
 -- example A twice: it needs 22 bytes, which are document 01's 11 bytes twice
 pub batch-A : (batchAnswer oldLinks (3 ∷ 3 ∷ []) (3 ∷ 3 ∷ []) (farsA ++ farsA) (costsA ++ costsA) 22 ≡ Bytes 22)
     × (batchBytes oldLinks (tables (3 ∷ 3 ∷ []) (3 ∷ 3 ∷ [])) (farsA ++ farsA) (costsA ++ costsA) ≡ storedA ++ storedA)
-unfolding tables batchFrom batchBytes farsA costsA storedA linkBytes linkForm rowsTo formBytes formBits packed filled bytesOf bitsOf valueOf part first badRow missing ones onesIn
+unfolding tables batchFrom batchBytes farsA costsA storedA linkBytes linkFields rowsTo fieldBytes fieldBits packed filled bytesOf bitsOf valueOf part first badRow missing ones onesIn
 batch-A = (refl, refl)
 
 -- in 21 bytes the second table gets 3, before a row left over gets 2; a cost too few gets 2 at the second table; its n of 2 gets 1

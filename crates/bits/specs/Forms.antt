@@ -1,4 +1,4 @@
--- A form is a list of fields: its bits are the fields' bits, its bytes are those, filled with bits 0 to a whole byte. Assumes nothing.
+-- Lists of fields, as which tables are stored: their bits, and their bytes, which are those bits filled with bits 0 to a whole byte. Assumes nothing.
 use mathlib.Core.List.{List, [], map, _++_, _∷_}
 use Prim.Native.Nat.{suc, zero, ℕ, _*_, _+_, _-_, _/_, _<_, _^_}
 use lib.ListN.{drop, length, take}
@@ -18,9 +18,9 @@ abbrev pub fieldsOf : ℕ → List ℕ → List Field
 fieldsOf w vs = map (field w) vs
 
 -- the fields' bits, one field after another
-unfoldable pub formBits : List Field → List ℕ
-formBits [] = []
-formBits (f ∷ fs) = bitsOf (f .width) (f .value) ++ formBits fs
+unfoldable pub fieldBits : List Field → List ℕ
+fieldBits [] = []
+fieldBits (f ∷ fs) = bitsOf (f .width) (f .value) ++ fieldBits fs
 
 -- whole bytes for b bits
 abbrev pub bytesFor : ℕ → ℕ
@@ -43,9 +43,9 @@ bytesOf (suc n) l = valueOf (take 8 l) ∷ bytesOf n (drop 8 l)
 unfoldable pub packed : List ℕ → List ℕ
 packed l = bytesOf (bytesFor (length l)) (filled l)
 
--- the bytes of a form
-unfoldable pub formBytes : List Field → List ℕ
-formBytes fs = packed (formBits fs)
+-- the fields' bytes
+unfoldable pub fieldBytes : List Field → List ℕ
+fieldBytes fs = packed (fieldBits fs)
 
 -- the value in field k of those of width w that begin at the position
 unfoldable pub fieldValue : List ℕ → ℕ → ℕ → ℕ → ℕ

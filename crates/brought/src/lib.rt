@@ -1,10 +1,8 @@
 // What image k brings to the rows over the first k images: which of them can stay, the sides that are asked for these, and the values.
 ghost use mathlib.Core.Path.{_≡_};
-ghost use Prim.Native.Nat.{_+_, _-_, _*_, _^_, _<_, _≤_};
-ghost use lib.Count.{trailingZeros};
+ghost use Prim.Native.Nat.{_+_, _-_, _<_, _≤_};
 ghost use lib.Dec.{ltb};
-ghost use lib.ListN.{getD, length};
-ghost use Rattle.ground.specs.Bits.{bit};
+ghost use lib.ListN.{length};
 ghost use Rattle.ground.specs.Counts.{one-if};
 ghost use Rattle.theory.specs.Tables.{limit, cost, CostTable};
 ghost use Rattle.chains.specs.Chains.{pick};

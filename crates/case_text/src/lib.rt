@@ -5,7 +5,6 @@ use ground::Refusal;
 use ground::Written;
 use libc::STDOUT_FILENO;
 ghost use Prim.Native.Nat.{_≤_};
-ghost use lib.ListN.{length};
 ghost use Rattle.io.specs.Counts.{Counts};
 
 // A number, and where the next one begins.

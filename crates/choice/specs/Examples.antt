@@ -6,11 +6,11 @@ use lib.Count.{ones, onesIn}
 use Rattle.ground.specs.First.{first}
 use Rattle.ground.specs.Refusals.{refusal}
 use Rattle.bits.specs.Bits.{bits, bitsOf, part, valueOf}
-use Rattle.bits.specs.Forms.{bytesOf, filled, formBits, formBytes, packed}
+use Rattle.bits.specs.Forms.{bytesOf, filled, fieldBits, fieldBytes, packed}
 use Rattle.bits.specs.Listed.{listed}
 use Rattle.links.specs.BadRows.{badRow, missing}
 use Rattle.stored_links.specs.Examples.{storedA}
-use Rattle.stored_links.specs.Form.{linkBytes, linkForm, oldLinks, rowsTo}
+use Rattle.stored_links.specs.Form.{linkBytes, linkFields, oldLinks, rowsTo}
 use Rattle.stored_links.specs.Said.{costAt, countOf, farAt, fillOf, imagesOf}
 use Rattle.choice.specs.Call.{choiceOf, partOf}
 use Rattle.choice.specs.declared.Chosen.the-variants.{Refused, Table}
@@ -33,5 +33,5 @@ pub chosen-examples : (choiceOf oldLinks storedE storedG ≡ Table 1 17)
     × (choiceOf oldLinks storedA storedE ≡ Refused 0 (refusal 15 0 0 0 0))
     × (choiceOf oldLinks storedA (130 ∷ []) ≡ Refused 2 (refusal 9 0 0 0 0))
     × (partOf (choiceOf oldLinks (storedG ++ storedA) storedE) (storedG ++ storedA) storedE ≡ storedE)
-unfolding storedA storedE storedG exchangedE linkBytes linkForm rowsTo formBytes formBits packed filled bytesOf bits bitsOf valueOf part listed imagesOf countOf farAt costAt fillOf first badRow missing ones onesIn
+unfolding storedA storedE storedG exchangedE linkBytes linkFields rowsTo fieldBytes fieldBits packed filled bytesOf bits bitsOf valueOf part listed imagesOf countOf farAt costAt fillOf first badRow missing ones onesIn
 chosen-examples = (refl, refl, refl, refl, refl, refl, refl)

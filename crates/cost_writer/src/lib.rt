@@ -9,7 +9,7 @@ ghost use Rattle.ground.specs.Buffers.{front};
 ghost use Rattle.ground.specs.Outcomes.{Left};
 ghost use Rattle.theory.specs.Tables.{cost, CostTable, limit};
 ghost use Rattle.bits.specs.Bits.{bits, overAt};
-ghost use Rattle.bits.specs.Forms.{fieldsOf, formBits};
+ghost use Rattle.bits.specs.Forms.{fieldsOf, fieldBits};
 ghost use Rattle.stored_costs.specs.Entries.{entries, entryCount, rowEntries};
 ghost use Rattle.stored_costs.specs.Form.{costBytes, costUsed, oldCosts};
 ghost use Rattle.stored_costs.specs.Sizes.{Small, Span};
@@ -18,7 +18,7 @@ ghost use Rattle.cost_writer.specs.Writing.{writeChecks, writeOutcome};
 // The entries of row i right of the diagonal, from the position on.
 fn put_row(position: usize, w: usize, n: usize, t: &[u32], i: usize, out: &mut [u8])
     requires { ⌜ CostTable limit n (now t) × (i < n) × Span position w (n - (i + 1)) (length (now out)) ⌝ }
-    ensures { λ r. ⌜ bits (now (out .exit)) ≡ overAt (bits (now (out .entry))) position (formBits (fieldsOf w (rowEntries (cost (now (t .entry)) n) n i))) ⌝ }
+    ensures { λ r. ⌜ bits (now (out .exit)) ≡ overAt (bits (now (out .entry))) position (fieldBits (fieldsOf w (rowEntries (cost (now (t .entry)) n) n i))) ⌝ }
 {
     let count = n - (i + 1);
     let mut p = position;
@@ -33,7 +33,7 @@ fn put_row(position: usize, w: usize, n: usize, t: &[u32], i: usize, out: &mut [
 // All entries, row by row, from the position on.
 fn put_entries(position: usize, w: usize, n: usize, t: &[u32], out: &mut [u8])
     requires { ⌜ CostTable limit n (now t) × Span position w (entryCount n) (length (now out)) ⌝ }
-    ensures { λ r. ⌜ bits (now (out .exit)) ≡ overAt (bits (now (out .entry))) position (formBits (fieldsOf w (entries (cost (now (t .entry)) n) n))) ⌝ }
+    ensures { λ r. ⌜ bits (now (out .exit)) ≡ overAt (bits (now (out .entry))) position (fieldBits (fieldsOf w (entries (cost (now (t .entry)) n) n))) ⌝ }
 {
     let mut p = position;
     let mut i = 0;

@@ -9,7 +9,7 @@ ghost use Rattle.ground.specs.Buffers.{front};
 ghost use Rattle.ground.specs.Outcomes.{Left};
 ghost use Rattle.theory.specs.Tables.{limit};
 ghost use Rattle.bits.specs.Bits.{bits, overAt};
-ghost use Rattle.bits.specs.Forms.{formBits};
+ghost use Rattle.bits.specs.Forms.{fieldBits};
 ghost use Rattle.stored_links.specs.Form.{linkBytes, linkUsed, oldLinks, rowFields, rowWidth, rowsTo};
 ghost use Rattle.stored_links.specs.Sizes.{Held, Small, lastRowEnd};
 ghost use Rattle.link_writer.specs.Writing.{RoomFor, fitChecks, writeChecks, writeOutcome};
@@ -17,7 +17,7 @@ ghost use Rattle.link_writer.specs.Writing.{RoomFor, fitChecks, writeChe
 // One row from the position on: images n down to 2 are half the far side, and the cost stands behind them.
 fn put_row(position: usize, w: usize, n: usize, s: u64, c: u32, out: &mut [u8])
     requires { ⌜ (1 ≤ n) × (n ≤ 64) × (w ≤ 32) × (position + rowWidth w n ≤ 8 * length (now out)) × (position + rowWidth w n ≤ lastRowEnd) ⌝ }
-    ensures { λ r. ⌜ bits (now (out .exit)) ≡ overAt (bits (now (out .entry))) position (formBits (rowFields w n s c)) ⌝ }
+    ensures { λ r. ⌜ bits (now (out .exit)) ≡ overAt (bits (now (out .entry))) position (fieldBits (rowFields w n s c)) ⌝ }
 {
     bits::put(out, position, n - 1, s / 2);
     bits::put(out, position + (n - 1), w, c as u64);
@@ -26,7 +26,7 @@ fn put_row(position: usize, w: usize, n: usize, s: u64, c: u32, out: &mut [u8])
 // All rows, one behind the other.
 fn put_rows(form: Form, n: usize, fars: &[u64], costs: &[u32], out: &mut [u8])
     requires { ⌜ Held form n (length (now fars)) (length (now out)) × (length (now costs) ≡ length (now fars)) ⌝ }
-    ensures { λ r. ⌜ bits (now (out .exit)) ≡ overAt (bits (now (out .entry))) (form .head + 14) (formBits (rowsTo (form .width) n (λ k. getD (now (fars .entry)) k 0) (λ k. getD (now (costs .entry)) k 0) (length (now (fars .entry))))) ⌝ }
+    ensures { λ r. ⌜ bits (now (out .exit)) ≡ overAt (bits (now (out .entry))) (form .head + 14) (fieldBits (rowsTo (form .width) n (λ k. getD (now (fars .entry)) k 0) (λ k. getD (now (costs .entry)) k 0) (length (now (fars .entry))))) ⌝ }
 {
     let mut k = 0;
     while k < fars.len() {

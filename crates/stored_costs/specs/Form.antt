@@ -5,7 +5,7 @@ use mathlib.Core.Path.{_≡_}
 use Prim.Native.Nat.{ℕ, _*_, _+_}
 use Rattle.theory.specs.Tables.{limit}
 use Rattle.bits.specs.Bits.{bits, part, valueOf}
-use Rattle.bits.specs.Forms.{Field, bytesFor, field, fieldValue, fieldsOf, fillWidth, formBytes}
+use Rattle.bits.specs.Forms.{Field, bytesFor, field, fieldValue, fieldsOf, fillWidth, fieldBytes}
 use Rattle.stored_costs.specs.Entries.{entries, rowStart, tableOf}
 use Rattle.bits.specs.declared.Form.{Form}
 
@@ -14,12 +14,12 @@ abbrev pub oldCosts : Form
 oldCosts = record { head = 0; mark = 0; width = 20; limit = limit }
 
 -- the fields
-unfoldable pub costForm : Form → ℕ → (ℕ → ℕ → ℕ) → List Field
-costForm form n d = field (form .head) (form .mark) ∷ field 7 n ∷ fieldsOf (form .width) (entries d n)
+unfoldable pub costFields : Form → ℕ → (ℕ → ℕ → ℕ) → List Field
+costFields form n d = field (form .head) (form .mark) ∷ field 7 n ∷ fieldsOf (form .width) (entries d n)
 
 -- the bytes
 unfoldable pub costBytes : Form → ℕ → (ℕ → ℕ → ℕ) → List ℕ
-costBytes form n d = formBytes (costForm form n d)
+costBytes form n d = fieldBytes (costFields form n d)
 
 -- where row i begins, which is where the rows before it end
 abbrev pub rowAt : Form → ℕ → ℕ → ℕ

@@ -4,7 +4,7 @@ use mathlib.Core.List.{List, [], _++_, _∷_}
 use Prim.Native.Nat.{suc, zero, ℕ, _*_, _+_, _-_, _/_}
 use lib.ListN.{getD, length}
 use Rattle.theory.specs.Tables.{limit}
-use Rattle.bits.specs.Forms.{Field, bytesFor, field, formBytes}
+use Rattle.bits.specs.Forms.{Field, bytesFor, field, fieldBytes}
 use Rattle.bits.specs.declared.Form.{Form}
 
 -- document 01's form: no mark, 21 bits for a doubled cost, which is at most twice the limit
@@ -21,12 +21,12 @@ rowsTo w n f g zero = []
 rowsTo w n f g (suc k) = rowsTo w n f g k ++ rowFields w n (f k) (g k)
 
 -- the fields of the table with the far sides l and the doubled costs v
-unfoldable pub linkForm : Form → ℕ → List ℕ → List ℕ → List Field
-linkForm form n l v = field (form .head) (form .mark) ∷ field 7 n ∷ field 7 (length l) ∷ rowsTo (form .width) n (λ k. getD l k 0) (λ k. getD v k 0) (length l)
+unfoldable pub linkFields : Form → ℕ → List ℕ → List ℕ → List Field
+linkFields form n l v = field (form .head) (form .mark) ∷ field 7 n ∷ field 7 (length l) ∷ rowsTo (form .width) n (λ k. getD l k 0) (λ k. getD v k 0) (length l)
 
 -- its bytes
 unfoldable pub linkBytes : Form → ℕ → List ℕ → List ℕ → List ℕ
-linkBytes form n l v = formBytes (linkForm form n l v)
+linkBytes form n l v = fieldBytes (linkFields form n l v)
 
 -- how many bits a row has
 abbrev pub rowWidth : ℕ → ℕ → ℕ

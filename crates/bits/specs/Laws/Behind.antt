@@ -8,9 +8,6 @@ use lib.ListN.{drop, length, length-append, take, take-append-drop}
 use lib.Seq.{length-take-le, take-all}
 use borrow.Author.Tests.{le-ltb, ltb-false, ltb-true}
 use borrow.Table.Steps.{cases}
-use Rattle.ground.specs.Refusals.{_then_}
-use Rattle.ground.specs.declared.Check.{Check}
-use Rattle.ground.specs.declared.Check.the-variants.{Passed, Refused}
 use Rattle.bits.specs.Bits.{bits, part}
 use Rattle.bits.specs.Kinds.{endCheck, positionCheck}
 use Rattle.bits.specs.Laws.Bytes.{bits-append, length-bits}
@@ -36,8 +33,3 @@ first-bytes f k h s =
     cases (ltb k (length s))
     (λ e. ap f (sym (take-append-drop k s)) ∙ h (take k s) (drop k s) (omega (arith, length-take-le k s (omega (arith, ltb-true k (length s) e)))))
     (λ e. ap f (sym (take-all k s (ltb-false k (length s) e))))
-
--- two chains whose first checks are the same, and whose second checks are where those pass
-pub then-same : {x : Check} (x′ : Check) {y y′ : Check} → x ≡ x′ → (x′ ≡ Passed → y ≡ y′) → (x then y) ≡ (x′ then y′)
-then-same Passed e h = rw e (h refl)
-then-same (Refused r) e h = rw e refl

@@ -7,16 +7,16 @@ use lib.ListN.{drop, length, length-drop, take}
 use lib.Seq.{drop-at, length-take-le, take-add, take-at}
 use Rattle.ground.specs.Sums.{sum}
 use Rattle.bits.specs.Bits.{AllBits, bitsOf, none, valueOf}
-use Rattle.bits.specs.Forms.{AllFit, Field, also, field, formBits, nothing}
+use Rattle.bits.specs.Forms.{AllFit, Field, also, field, fieldBits, nothing}
 use Rattle.bits.specs.Laws.Numbers.{all-bits-append, all-bits-drop, all-bits-of, all-bits-take, bits-value, length-bitsOf, value-bits}
 
-pub form-append : (a b : List Field) → formBits (a ++ b) ≡ formBits a ++ formBits b
-unfolding formBits
+pub form-append : (a b : List Field) → fieldBits (a ++ b) ≡ fieldBits a ++ fieldBits b
+unfolding fieldBits
 form-append [] b = refl
-form-append (f ∷ a) b = ap (λ (x : List ℕ). bitsOf (f .width) (f .value) ++ x) (form-append a b) ∙ sym (append-assoc (bitsOf (f .width) (f .value)) (formBits a) (formBits b))
+form-append (f ∷ a) b = ap (λ (x : List ℕ). bitsOf (f .width) (f .value) ++ x) (form-append a b) ∙ sym (append-assoc (bitsOf (f .width) (f .value)) (fieldBits a) (fieldBits b))
 
-pub all-bits-form : (fs : List Field) → AllBits (formBits fs)
-unfolding formBits
+pub all-bits-form : (fs : List Field) → AllBits (fieldBits fs)
+unfolding fieldBits
 all-bits-form [] = none
 all-bits-form (f ∷ fs) = all-bits-append (all-bits-of (f .width) (f .value)) (all-bits-form fs)
 
@@ -32,19 +32,19 @@ formOf (w ∷ ws) [] = []
 formOf (w ∷ ws) (v ∷ vs) = field w v ∷ formOf ws vs
 
 -- reading undoes writing, whatever follows
-pub read-back : {fs : List Field} → AllFit fs → (r : List ℕ) → readValues (map (λ f. f .width) fs) (formBits fs ++ r) ≡ map (λ f. f .value) fs
-unfolding formBits readValues
+pub read-back : {fs : List Field} → AllFit fs → (r : List ℕ) → readValues (map (λ f. f .width) fs) (fieldBits fs ++ r) ≡ map (λ f. f .value) fs
+unfolding fieldBits readValues
 read-back nothing r = refl
 read-back (also {f = f} {fs = fs} h t) r =
     let x = bitsOf (f .width) (f .value) in
-    let e : (x ++ formBits fs) ++ r ≡ x ++ (formBits fs ++ r) = append-assoc x (formBits fs) r in
+    let e : (x ++ fieldBits fs) ++ r ≡ x ++ (fieldBits fs ++ r) = append-assoc x (fieldBits fs) r in
     rw e (ap₂ {C = List ℕ} (λ (v : ℕ) (vs : List ℕ). v ∷ vs)
-    (ap valueOf (take-at x (formBits fs ++ r) (f .width) (length-bitsOf (f .width) (f .value))) ∙ value-bits (f .width) (f .value) h)
-    (ap (readValues (map (λ g. g .width) fs)) (drop-at x (formBits fs ++ r) (f .width) (length-bitsOf (f .width) (f .value))) ∙ read-back t r))
+    (ap valueOf (take-at x (fieldBits fs ++ r) (f .width) (length-bitsOf (f .width) (f .value))) ∙ value-bits (f .width) (f .value) h)
+    (ap (readValues (map (λ g. g .width) fs)) (drop-at x (fieldBits fs ++ r) (f .width) (length-bitsOf (f .width) (f .value))) ∙ read-back t r))
 
 -- writing what was read gives the same bits
-pub write-back : (ws l : List ℕ) → AllBits l → sum ws (λ w. w) ≤ length l → formBits (formOf ws (readValues ws l)) ≡ take (sum ws (λ w. w)) l
-unfolding formBits readValues formOf
+pub write-back : (ws l : List ℕ) → AllBits l → sum ws (λ w. w) ≤ length l → fieldBits (formOf ws (readValues ws l)) ≡ take (sum ws (λ w. w)) l
+unfolding fieldBits readValues formOf
 write-back [] l b h = refl
 write-back (w ∷ ws) l b h =
     ap₂ (λ (x y : List ℕ). x ++ y)

@@ -6,74 +6,73 @@ use native.Mathlib.Nat.{add-zero, mul-le-mul-left, mul-suc, mul-zero}
 use native.Mathlib.Numerals.{add-one}
 use native.Mathlib.Omega.{arith}
 use lib.ListN.{getD, length, length-append}
-use Rattle.bits.specs.Bits.{AllBits, bits, bitsOf, overAt, part, valueOf}
-use Rattle.bits.specs.Forms.{fieldValue, fieldsOf, formBits}
+use Rattle.bits.specs.Bits.{AllBits, bitsOf, overAt, part, valueOf}
+use Rattle.bits.specs.Forms.{fieldValue, fieldsOf, fieldBits}
 use Rattle.bits.specs.Laws.Numbers.{all-bits-part, bits-value, length-bitsOf, value-bits}
 use Rattle.bits.specs.Laws.Parts.{length-part, over-at-none, over-at-twice, part-cut, part-more}
-use Rattle.bits.specs.Laws.Turns.{value-part-lt}
 use Rattle.bits.specs.Listed.{listed}
 use Rattle.bits.specs.Laws.Listed.{length-listed, listed-more}
 
-pub length-fields : (w : ℕ) (vs : List ℕ) → length (formBits (fieldsOf w vs)) ≡ w * length vs
-unfolding formBits
+pub length-fields : (w : ℕ) (vs : List ℕ) → length (fieldBits (fieldsOf w vs)) ≡ w * length vs
+unfolding fieldBits
 length-fields w [] = sym (mul-zero w)
-length-fields w (v ∷ vs) = omega (arith, length-append (bitsOf w v) (formBits (fieldsOf w vs)), length-bitsOf w v, length-fields w vs, mul-suc w (length vs))
+length-fields w (v ∷ vs) = omega (arith, length-append (bitsOf w v) (fieldBits (fieldsOf w vs)), length-bitsOf w v, length-fields w vs, mul-suc w (length vs))
 
 -- field k of them
-pub field-at : (w : ℕ) (a vs r : List ℕ) (position k : ℕ) → length a ≡ position → k < length vs → part (a ++ (formBits (fieldsOf w vs) ++ r)) (position + w * k) w ≡ bitsOf w (getD vs k 0)
-unfolding formBits
+pub field-at : (w : ℕ) (a vs r : List ℕ) (position k : ℕ) → length a ≡ position → k < length vs → part (a ++ (fieldBits (fieldsOf w vs) ++ r)) (position + w * k) w ≡ bitsOf w (getD vs k 0)
+unfolding fieldBits
 field-at w a [] r position k e h = absurd (omega arith)
 field-at w a (v ∷ vs) r position zero e h =
-    rw (mul-zero, add-zero, append-assoc (bitsOf w v) (formBits (fieldsOf w vs)) r) (part-cut a (bitsOf w v) (formBits (fieldsOf w vs) ++ r) position w e (length-bitsOf w v))
+    rw (mul-zero, add-zero, append-assoc (bitsOf w v) (fieldBits (fieldsOf w vs)) r) (part-cut a (bitsOf w v) (fieldBits (fieldsOf w vs) ++ r) position w e (length-bitsOf w v))
 field-at w a (v ∷ vs) r position (suc k) e h =
     let x = bitsOf w v in
     ap₂ (λ (l : List ℕ) (p : ℕ). part l p w)
-    (ap (λ (l : List ℕ). a ++ l) (append-assoc x (formBits (fieldsOf w vs)) r) ∙ sym (append-assoc a x (formBits (fieldsOf w vs) ++ r)))
+    (ap (λ (l : List ℕ). a ++ l) (append-assoc x (fieldBits (fieldsOf w vs)) r) ∙ sym (append-assoc a x (fieldBits (fieldsOf w vs) ++ r)))
     (omega (arith, mul-suc w k))
     ∙ field-at w (a ++ x) vs r (position + w) k (omega (arith, length-append a x, length-bitsOf w v)) (omega arith)
 
 -- its value, where it fits the width
-pub field-value : (w : ℕ) (a vs r : List ℕ) (position k : ℕ) → length a ≡ position → k < length vs → getD vs k 0 < 2 ^ w → fieldValue (a ++ (formBits (fieldsOf w vs) ++ r)) position w k ≡ getD vs k 0
+pub field-value : (w : ℕ) (a vs r : List ℕ) (position k : ℕ) → length a ≡ position → k < length vs → getD vs k 0 < 2 ^ w → fieldValue (a ++ (fieldBits (fieldsOf w vs) ++ r)) position w k ≡ getD vs k 0
 unfolding fieldValue
 field-value w a vs r position k e h l = ap valueOf (field-at w a vs r position k e h) ∙ value-bits w (getD vs k 0) l
 
 -- one field more
-pub fields-more : (w : ℕ) (vs : List ℕ) (v : ℕ) → formBits (fieldsOf w (vs ++ (v ∷ []))) ≡ formBits (fieldsOf w vs) ++ bitsOf w v
-unfolding formBits
+pub fields-more : (w : ℕ) (vs : List ℕ) (v : ℕ) → fieldBits (fieldsOf w (vs ++ (v ∷ []))) ≡ fieldBits (fieldsOf w vs) ++ bitsOf w v
+unfolding fieldBits
 fields-more w [] v = append-nil (bitsOf w v)
 fields-more w (x ∷ vs) v =
-    ap (λ (l : List ℕ). bitsOf w x ++ l) (fields-more w vs v) ∙ sym (append-assoc (bitsOf w x) (formBits (fieldsOf w vs)) (bitsOf w v))
+    ap (λ (l : List ℕ). bitsOf w x ++ l) (fields-more w vs v) ∙ sym (append-assoc (bitsOf w x) (fieldBits (fieldsOf w vs)) (bitsOf w v))
 
 -- more fields of the same width
-pub fields-append : (w : ℕ) (vs us : List ℕ) → formBits (fieldsOf w (vs ++ us)) ≡ formBits (fieldsOf w vs) ++ formBits (fieldsOf w us)
-unfolding formBits
+pub fields-append : (w : ℕ) (vs us : List ℕ) → fieldBits (fieldsOf w (vs ++ us)) ≡ fieldBits (fieldsOf w vs) ++ fieldBits (fieldsOf w us)
+unfolding fieldBits
 fields-append w [] us = refl
 fields-append w (v ∷ vs) us =
-    ap (λ (l : List ℕ). bitsOf w v ++ l) (fields-append w vs us) ∙ sym (append-assoc (bitsOf w v) (formBits (fieldsOf w vs)) (formBits (fieldsOf w us)))
+    ap (λ (l : List ℕ). bitsOf w v ++ l) (fields-append w vs us) ∙ sym (append-assoc (bitsOf w v) (fieldBits (fieldsOf w vs)) (fieldBits (fieldsOf w us)))
 
 -- no field yet, and one field more, written over directly behind those before it
-pub over-at-fields-none : (l : List ℕ) (position w : ℕ) → l ≡ overAt l position (formBits (fieldsOf w []))
-unfolding formBits
+pub over-at-fields-none : (l : List ℕ) (position w : ℕ) → l ≡ overAt l position (fieldBits (fieldsOf w []))
+unfolding fieldBits
 over-at-fields-none l position w = sym (over-at-none l position)
 
 pub over-at-fields : (l : List ℕ) (position w p v : ℕ) (vs : List ℕ) → p ≡ position + w * length vs → p + w ≤ length l
-    → overAt (overAt l position (formBits (fieldsOf w vs))) p (bitsOf w v) ≡ overAt l position (formBits (fieldsOf w (vs ++ (v ∷ []))))
+    → overAt (overAt l position (fieldBits (fieldsOf w vs))) p (bitsOf w v) ≡ overAt l position (fieldBits (fieldsOf w (vs ++ (v ∷ []))))
 over-at-fields l position w p v vs e h =
-    over-at-twice l position (formBits (fieldsOf w vs)) (bitsOf w v) p (omega (arith, length-fields w vs)) (omega (arith, length-bitsOf w v))
+    over-at-twice l position (fieldBits (fieldsOf w vs)) (bitsOf w v) p (omega (arith, length-fields w vs)) (omega (arith, length-bitsOf w v))
     ∙ ap (overAt l position) (sym (fields-more w vs v))
 
 pub over-at-append : (l : List ℕ) (position w p : ℕ) (vs us : List ℕ) → p ≡ position + w * length vs → p + w * length us ≤ length l
-    → overAt (overAt l position (formBits (fieldsOf w vs))) p (formBits (fieldsOf w us)) ≡ overAt l position (formBits (fieldsOf w (vs ++ us)))
+    → overAt (overAt l position (fieldBits (fieldsOf w vs))) p (fieldBits (fieldsOf w us)) ≡ overAt l position (fieldBits (fieldsOf w (vs ++ us)))
 over-at-append l position w p vs us e h =
-    over-at-twice l position (formBits (fieldsOf w vs)) (formBits (fieldsOf w us)) p (omega (arith, length-fields w vs)) (omega (arith, length-fields w us))
+    over-at-twice l position (fieldBits (fieldsOf w vs)) (fieldBits (fieldsOf w us)) p (omega (arith, length-fields w vs)) (omega (arith, length-fields w us))
     ∙ ap (overAt l position) (sym (fields-append w vs us))
 
 pub over-at-listed : (l : List ℕ) (position w k p v : ℕ) (f : ℕ → ℕ) → p ≡ position + w * k → p + w ≤ length l → v ≡ f k
-    → overAt (overAt l position (formBits (fieldsOf w (listed f k)))) p (bitsOf w v) ≡ overAt l position (formBits (fieldsOf w (listed f (k + 1))))
+    → overAt (overAt l position (fieldBits (fieldsOf w (listed f k)))) p (bitsOf w v) ≡ overAt l position (fieldBits (fieldsOf w (listed f (k + 1))))
 over-at-listed l position w k p v f e h q =
-    ap (λ (x : ℕ). overAt (overAt l position (formBits (fieldsOf w (listed f k)))) p (bitsOf w x)) q
+    ap (λ (x : ℕ). overAt (overAt l position (fieldBits (fieldsOf w (listed f k)))) p (bitsOf w x)) q
     ∙ over-at-fields l position w p (f k) (listed f k) (e ∙ ap (λ (x : ℕ). position + w * x) (sym (length-listed f k))) h
-    ∙ ap (λ (vs : List ℕ). overAt l position (formBits (fieldsOf w vs))) (sym (listed-more f k))
+    ∙ ap (λ (vs : List ℕ). overAt l position (fieldBits (fieldsOf w vs))) (sym (listed-more f k))
 
 -- field k read is the bits it stands in
 field-part : (l : List ℕ) (position w k : ℕ) → AllBits l → position + w * k + w ≤ length l → bitsOf w (fieldValue l position w k) ≡ part l (position + w * k) w
@@ -84,8 +83,8 @@ field-part l position w k b h =
 
 -- m fields read are the bits they stand in
 pub fields-part : (l : List ℕ) (position w m : ℕ) → AllBits l → position + w * m ≤ length l
-    → formBits (fieldsOf w (listed (fieldValue l position w) m)) ≡ part l position (w * m)
-unfolding part listed formBits
+    → fieldBits (fieldsOf w (listed (fieldValue l position w) m)) ≡ part l position (w * m)
+unfolding part listed fieldBits
 fields-part l position w zero b h = rw mul-zero
 fields-part l position w (suc m) b h =
     let f = fieldValue l position w in
@@ -99,8 +98,3 @@ times-more w k = ap (λ (x : ℕ). w * x) (add-one k) ∙ mul-suc w k
 -- field k ends before the end of the m
 pub field-end : (position w m k : ℕ) → k < m → position + w * k + w ≤ position + w * m
 field-end position w m k h = omega (arith, mul-suc w k, mul-le-mul-left w h)
-
--- a field read fits its width
-pub field-lt : (bs : List ℕ) (position w m k : ℕ) → position + w * m ≤ 8 * length bs → k < m → fieldValue (bits bs) position w k < 2 ^ w
-unfolding fieldValue
-field-lt bs position w m k h l = value-part-lt bs (position + w * k) w w (omega (arith, field-end position w m k l)) (omega arith)

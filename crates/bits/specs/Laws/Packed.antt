@@ -4,7 +4,7 @@ use mathlib.Core.Path.{ap, ap₂, refl, subst, sym, _∙_, _≡_}
 use Prim.Native.Nat.{suc, zero, ℕ, _*_, _<_, _^_}
 use native.Mathlib.Omega.{arith}
 use lib.ListN.{drop, length, length-append, length-drop, take, take-append-drop}
-use lib.Seq.{drop-append-seam, length-take-le}
+use lib.Seq.{length-take-le}
 use Rattle.bits.specs.Bits.{AllBits, AllBytes, bits, bitsOf, valueOf}
 use Rattle.bits.specs.Forms.{bytesFor, bytesOf, fillWidth, filled, packed}
 use Rattle.bits.specs.Laws.Bytes.{bits-append, bits-inj}
@@ -65,7 +65,3 @@ module _ (l : List ℕ) where
     pub bits-packed-then : (m : List ℕ) → bits (packed l ++ m) ≡ l ++ (bitsOf (fillWidth (length l)) 0 ++ bits m)
     unfolding filled
     bits-packed-then m = bits-append (packed l) m ∙ ap (λ (x : List ℕ). x ++ bits m) bits-packed ∙ append-assoc l (bitsOf (fillWidth (length l)) 0) (bits m)
-
--- two forms one after another: the second is what stands behind the bytes of the first
-pub packed-then : (l m : List ℕ) → drop (length (packed l)) (packed l ++ m) ≡ m
-packed-then l m = drop-append-seam (packed l) m

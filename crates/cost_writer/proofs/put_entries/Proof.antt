@@ -7,7 +7,7 @@ use native.Mathlib.Omega.{arith}
 use lib.ListN.{length}
 use Rattle.theory.specs.Tables.{cost}
 use Rattle.bits.specs.Bits.{bits, overAt}
-use Rattle.bits.specs.Forms.{fieldsOf, formBits}
+use Rattle.bits.specs.Forms.{fieldsOf, fieldBits}
 use Rattle.bits.specs.Laws.Bytes.{length-bits}
 use Rattle.stored_costs.specs.Entries.{entriesTo, entryCount, rowEntries, rowStart}
 use Rattle.stored_costs.specs.Laws.Entries.{row-next, row-none, row-within}
@@ -19,7 +19,7 @@ use Rattle.cost_writer.proofs.put_entries.Tie as tie
 abbrev Inv-loop : tie.InvT-loop
 Inv-loop position w n t out₀ p₀ i₀ out p i =
     (i ≤ n) × (length out ≡ length out₀) × (p ≡ position + w * rowStart n i)
-    × (bits out ≡ overAt (bits out₀) position (formBits (fieldsOf w (entriesTo (cost t n) n i))))
+    × (bits out ≡ overAt (bits out₀) position (fieldBits (fieldsOf w (entriesTo (cost t n) n i))))
 
 abbrev μ-loop : tie.MeasureT-loop
 μ-loop position w n t out₀ p₀ i₀ out p i = n - i
@@ -85,7 +85,7 @@ loop-again c =
       u .kept .1 .1 .1 .1 .1 .0 ∙ l .inv .1,
       omega (arith, row-next (a .n) (a .w) (l .i), l .inv .2),
       u .ensures
-          ∙ ap (λ (x : List ℕ). overAt x (l .p) (formBits (fieldsOf (a .w) (rowEntries d (a .n) (l .i))))) (l .inv .3)
+          ∙ ap (λ (x : List ℕ). overAt x (l .p) (fieldBits (fieldsOf (a .w) (rowEntries d (a .n) (l .i))))) (l .inv .3)
           ∙ rows-put-more d (a .n) (a .w) (a .position) (bits (a .out .now)) (l .i) (l .p) (l .inv .2)
           (omega (arith, length-bits (a .out .now), ends i, s .pre .1 .within, l .inv .2)),
     )

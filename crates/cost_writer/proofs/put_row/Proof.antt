@@ -7,7 +7,7 @@ use native.Mathlib.Omega.{arith}
 use lib.ListN.{length}
 use Rattle.theory.specs.Tables.{cost}
 use Rattle.bits.specs.Bits.{bits, bitsOf, overAt}
-use Rattle.bits.specs.Forms.{fieldsOf, formBits}
+use Rattle.bits.specs.Forms.{fieldsOf, fieldBits}
 use Rattle.bits.specs.Laws.Bytes.{length-bits}
 use Rattle.bits.specs.Laws.OneWidth.{field-end, over-at-listed, times-more}
 use Rattle.bits.specs.Listed.{listed}
@@ -19,7 +19,7 @@ use Rattle.cost_writer.proofs.put_row.Tie as tie
 abbrev Inv-loop : tie.InvT-loop
 Inv-loop position w n t i out₀ count p₀ k₀ out p k =
     (k ≤ n - (i + 1)) × (length out ≡ length out₀) × (p ≡ position + w * k)
-    × (bits out ≡ overAt (bits out₀) position (formBits (fieldsOf w (listed (λ k. cost t n i (i + 1 + k)) k))))
+    × (bits out ≡ overAt (bits out₀) position (fieldBits (fieldsOf w (listed (λ k. cost t n i (i + 1 + k)) k))))
 
 abbrev μ-loop : tie.MeasureT-loop
 μ-loop position w n t i out₀ count p₀ k₀ out p k = n - (i + 1) - k

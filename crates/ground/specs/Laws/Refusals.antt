@@ -35,6 +35,11 @@ pub then-passed : (y z : Check) → (y then z) ≡ Passed → (y ≡ Passed) × 
 then-passed Passed z e = (refl, e)
 then-passed (Refused r) z e = absurd (let q : _≡_ {A = ℕ} 0 1 = cc in omega arith)
 
+-- two chains whose first checks agree, and whose second ones do where the first passed
+pub then-same : {x : Check} (x′ : Check) {y y′ : Check} → x ≡ x′ → (x′ ≡ Passed → y ≡ y′) → (x then y) ≡ (x′ then y′)
+then-same Passed e h = rw e (h refl)
+then-same (Refused r) e h = rw e refl
+
 pub refuseIf-passed : (b : Bool) (r : Refusal) → refuseIf b r ≡ Passed → b ≡ false
 refuseIf-passed true r e = absurd (let q : _≡_ {A = ℕ} 0 1 = cc in omega arith)
 refuseIf-passed false r e = refl

@@ -4,7 +4,7 @@ use Prim.Native.Nat.{ℕ, _*_, _+_, _-_, _≤_}
 use native.Mathlib.Omega.{arith}
 use lib.ListN.{getD, length}
 use Rattle.bits.specs.Bits.{bits, overAt}
-use Rattle.bits.specs.Forms.{formBits}
+use Rattle.bits.specs.Forms.{fieldBits}
 use Rattle.bits.specs.Laws.Bytes.{length-bits}
 use Rattle.stored_links.specs.Form.{rowsTo, rowWidth}
 use Rattle.stored_links.specs.Laws.Rows.{rows-over-more, rows-over-none}
@@ -17,7 +17,7 @@ use Rattle.link_writer.proofs.put_rows.Tie as tie
 abbrev Inv-loop : tie.InvT-loop
 Inv-loop form n fars costs out₀ k₀ out k =
     (k ≤ length fars) × (length out ≡ length out₀)
-    × (bits out ≡ overAt (bits out₀) (form .head + 14) (formBits (rowsTo (form .width) n (λ j. getD fars j 0) (λ j. getD costs j 0) k)))
+    × (bits out ≡ overAt (bits out₀) (form .head + 14) (fieldBits (rowsTo (form .width) n (λ j. getD fars j 0) (λ j. getD costs j 0) k)))
 
 abbrev μ-loop : tie.MeasureT-loop
 μ-loop form n fars costs out₀ k₀ out k = length fars - k
@@ -89,7 +89,7 @@ returns : tie.Need-returns Inv-loop μ-loop
 returns c =
     let a = c .before .before .before .before .before .args in
     let q : c .before .loop .k ≡ length (a .fars .now) = omega (arith, c .before .loop .inv .0, c .loop-test .left) in
-    c .before .loop .inv .2 ∙ ap (λ (x : ℕ). overAt (bits (a .out .now)) (a .form .head + 14) (formBits (rowsTo (a .form .width) (a .n) (λ j. getD (a .fars .now) j 0) (λ j. getD (a .costs .now) j 0) x))) q
+    c .before .loop .inv .2 ∙ ap (λ (x : ℕ). overAt (bits (a .out .now)) (a .form .head + 14) (fieldBits (rowsTo (a .form .width) (a .n) (λ j. getD (a .fars .now) j 0) (λ j. getD (a .costs .now) j 0) x))) q
 
 pub put-rows-spec : {M : Type 1} → statement M
 put-rows-spec =

@@ -8,21 +8,13 @@ use borrow.Author.Tests.{le-ltb}
 use Rattle.ground.specs.Refusals.{roomCheck}
 use Rattle.ground.specs.Laws.Refusals.{then-passed}
 use Rattle.ground.specs.declared.Check.the-variants.{Passed}
-use Rattle.theory.specs.LinkTables.{LinkTable, rowsOf}
 use Rattle.link_writer.specs.Writing.{RoomFor, fitChecks, writeChecks}
 use Rattle.links.specs.Checks.{rowChecks, sizeChecks}
 use Rattle.links.specs.Links.{Links}
-use Rattle.links.specs.Laws.LinkChecks.{link-checks, row-checks, sizes-passed}
+use Rattle.links.specs.Laws.LinkChecks.{link-checks, sizes-passed}
 use Rattle.stored_links.specs.Form.{linkUsed}
 use Rattle.stored_links.specs.Laws.Passed.{room-passed}
 use Rattle.bits.specs.declared.Form.{Form}
-
--- what passes the last three checks, where the rows are as many as counted
-pub fit-passed : (form : Form) (n : ℕ) (l v : List ℕ) (room : ℕ) → length l ≡ length v → fitChecks form n l v room ≡ Passed
-    → LinkTable (form .limit) n (rowsOf l v) × (linkUsed form n (length l) ≤ room)
-fit-passed form n l v room h e =
-    let q = then-passed (rowChecks (form .limit) n l v) (roomCheck (linkUsed form n (length l)) room) e in
-    (row-checks (form .limit) n l v h .0 (q .0), room-passed (linkUsed form n (length l)) room (q .1))
 
 module _ (form : Form) (n N : ℕ) (l v : List ℕ) (room : ℕ) where
   pub write-passed : writeChecks form n N l v room ≡ Passed → Links (form .limit) n N l v × (n ≤ N) × (N ≤ 2 * n - 3) × (linkUsed form n (length l) ≤ room)

@@ -13,7 +13,7 @@ use Rattle.ground.specs.declared.Check.the-variants.{Passed, Refused}
 use Rattle.bits.specs.Bits.{valueOf}
 use Rattle.bits.specs.Forms.{bytesFor, fieldValue, fillWidth}
 use Rattle.bits.specs.Kinds.{endCheck, positionCheck}
-use Rattle.bits.specs.Laws.Behind.{end-behind, first-bytes, part-behind, position-behind, then-same}
+use Rattle.bits.specs.Laws.Behind.{end-behind, first-bytes, part-behind, position-behind}
 use Rattle.bits.specs.Laws.OneWidth.{field-end}
 use Rattle.bits.specs.declared.Form.{Form}
 use Rattle.stored_costs.specs.Entries.{entryCost, entryCount}
@@ -24,6 +24,7 @@ use Rattle.stored_costs.specs.Outcomes.{readOutcome, tableIf}
 use Rattle.stored_costs.specs.Reading.{bodyChecks, readAtChecks, readChecks, startChecks, storedCheck}
 use Rattle.stored_costs.specs.Stored.{readInto}
 use Rattle.stored_costs.specs.declared.StoredCosts.{StoredCosts}
+use Rattle.ground.specs.Laws.Refusals.{then-same}
 
 -- the bytes s reach as far as reading looks: to the end of n, and where n is one of a table to the end of the table
 pub record Reaching (form : Form) (s : List ℕ) : Type 0 where

@@ -6,7 +6,7 @@ use native.Mathlib.Omega.{arith}
 use lib.ListN.{length, length-append}
 use Rattle.ground.specs.Buffers.{front}
 use Rattle.bits.specs.Bits.{AllBits, AllBytes, bits, bitsOf, overAt}
-use Rattle.bits.specs.Forms.{bytesFor, fieldsOf, fillWidth, filled, formBits, formBytes}
+use Rattle.bits.specs.Forms.{bytesFor, fieldsOf, fillWidth, filled, fieldBits, fieldBytes}
 use Rattle.bits.specs.Laws.Bytes.{length-bits}
 use Rattle.bits.specs.Laws.Forms.{all-bits-form}
 use Rattle.bits.specs.Laws.Numbers.{length-bitsOf}
@@ -15,21 +15,21 @@ use Rattle.bits.specs.Laws.Packed.{length-packed}
 use Rattle.bits.specs.Laws.Parts.{over-at-twice}
 use Rattle.bits.specs.Laws.Written.{written}
 use Rattle.stored_costs.specs.Entries.{entries, entryCount}
-use Rattle.stored_costs.specs.Form.{costBytes, costEnd, costForm, costUsed}
+use Rattle.stored_costs.specs.Form.{costBytes, costEnd, costFields, costUsed}
 use Rattle.stored_costs.specs.Laws.Entries.{length-entries}
 use Rattle.bits.specs.declared.Form.{Form}
 
 module _ (form : Form) (n : ℕ) (d : ℕ → ℕ → ℕ) where
   -- the bits of the entries
   unfoldable pub entryBits : List ℕ
-  entryBits = formBits (fieldsOf (form .width) (entries d n))
+  entryBits = fieldBits (fieldsOf (form .width) (entries d n))
 
   -- all bits, without the fill bits
   unfoldable pub costBits : List ℕ
-  costBits = formBits (costForm form n d)
+  costBits = fieldBits (costFields form n d)
 
   pub cost-parts : costBits ≡ (bitsOf (form .head) (form .mark) ++ bitsOf 7 n) ++ entryBits
-  unfolding costBits entryBits costForm formBits
+  unfolding costBits entryBits costFields fieldBits
   cost-parts = sym (append-assoc (bitsOf (form .head) (form .mark)) (bitsOf 7 n) entryBits)
 
   pub length-entry-bits : length entryBits ≡ form .width * entryCount n
@@ -44,21 +44,21 @@ module _ (form : Form) (n : ℕ) (d : ℕ → ℕ → ℕ) where
 
   pub all-bits-costs : AllBits costBits
   unfolding costBits
-  all-bits-costs = all-bits-form (costForm form n d)
+  all-bits-costs = all-bits-form (costFields form n d)
 
   -- the exact count of bytes
   pub length-costs : length (costBytes form n d) ≡ costUsed form n
-  unfolding costBytes formBytes costBits
+  unfolding costBytes fieldBytes costBits
   length-costs = length-packed costBits ∙ ap bytesFor length-cost-bits
 
   -- four writes, one behind the other, make the form
   pub written-costs : (old b1 b2 b3 new : List ℕ) → AllBytes old → AllBytes new → costUsed form n ≤ length old
       → bits b1 ≡ overAt (bits old) 0 (bitsOf (form .head) (form .mark))
       → bits b2 ≡ overAt (bits b1) (form .head) (bitsOf 7 n)
-      → bits b3 ≡ overAt (bits b2) (form .head + 7) (formBits (fieldsOf (form .width) (entries d n)))
+      → bits b3 ≡ overAt (bits b2) (form .head + 7) (fieldBits (fieldsOf (form .width) (entries d n)))
       → bits new ≡ overAt (bits b3) (costEnd form n) (bitsOf (fillWidth (costEnd form n)) 0)
       → new ≡ front (costBytes form n d) old
-  unfolding costBytes formBytes filled entryBits costBits
+  unfolding costBytes fieldBytes filled entryBits costBits
   written-costs old b1 b2 b3 new ho hn room e1 e2 e3 e4 =
       let o = bits old in
       let h = bitsOf (form .head) (form .mark) in

@@ -12,7 +12,7 @@ use borrow.Author.Tests.{ltb-false, ltb-true}
 use borrow.Table.Steps.{cases}
 use Rattle.theory.specs.Tables.{CostTable, cost}
 use Rattle.bits.specs.Bits.{bits, bitsOf, part, valueOf}
-use Rattle.bits.specs.Forms.{fieldValue, fillWidth, formBytes}
+use Rattle.bits.specs.Forms.{fieldValue, fillWidth, fieldBytes}
 use Rattle.bits.specs.Laws.Numbers.{length-bitsOf, value-bits}
 use Rattle.bits.specs.Laws.OneWidth.{field-value}
 use Rattle.bits.specs.Laws.Packed.{bits-packed-then}
@@ -59,7 +59,7 @@ module _ (form : Form) (n : ℕ) (t behind : List ℕ) (c : CostTable (form .lim
 
   -- the bits: head, n, entries, fill bits, and what follows
   stored-bits : bits stored ≡ (bitsOf (form .head) (form .mark) ++ bitsOf 7 n) ++ (entryBits form n (cost t n) ++ (fill ++ bits behind))
-  unfolding stored costBytes formBytes fill costBits
+  unfolding stored costBytes fieldBytes fill costBits
   stored-bits =
       let b = costBits form n (cost t n) in
       bits-packed-then b (all-bits-costs form n (cost t n)) behind

@@ -7,7 +7,7 @@ use native.Mathlib.Omega.{arith}
 use lib.ListN.{length, take}
 use Rattle.theory.specs.Tables.{CostTable, cost}
 use Rattle.bits.specs.Bits.{AllBits, AllBytes, bits, bitsOf, part, valueOf}
-use Rattle.bits.specs.Forms.{fieldsOf, fillWidth, filled, formBits, formBytes}
+use Rattle.bits.specs.Forms.{fieldsOf, fillWidth, filled, fieldBits, fieldBytes}
 use Rattle.bits.specs.Laws.Bytes.{length-bits}
 use Rattle.bits.specs.Laws.Numbers.{all-bits-bytes, all-bits-part, bits-value}
 use Rattle.bits.specs.Laws.OneWidth.{fields-part}
@@ -37,7 +37,7 @@ module _ (form : Form) (s : List ℕ) (room : ℕ) (r : Readable form s room) (m
   entries-again : entryBits form n (cost (storedTable form n s) n) ≡ part (bits s) (form .head + 7) (form .width * entryCount n)
   unfolding entryBits entryOf n
   entries-again =
-      ap (λ (l : List ℕ). formBits (fieldsOf (form .width) l)) (table-entries (entryOf form s) (imagesOf form s))
+      ap (λ (l : List ℕ). fieldBits (fieldsOf (form .width) l)) (table-entries (entryOf form s) (imagesOf form s))
       ∙ fields-part (bits s) (form .head + 7) (form .width) (entryCount (imagesOf form s)) (all-bits-bytes s) (omega (arith, length-bits s, r .whole))
 
   front-again : bitsOf (form .head) (form .mark) ++ bitsOf 7 n ≡ part (bits s) 0 (form .head + 7)
@@ -73,7 +73,7 @@ module _ (form : Form) (s : List ℕ) (room : ℕ) (r : Readable form s room) (m
 
   -- the same used bytes
   pub read-written : AllBytes s → costBytes form (imagesOf form s) (cost (storedTable form (imagesOf form s) s) (imagesOf form s)) ≡ take (costUsed form (imagesOf form s)) s
-  unfolding costBytes formBytes costBits n
+  unfolding costBytes fieldBytes costBits n
   read-written h =
       let d = cost (storedTable form (imagesOf form s) s) (imagesOf form s) in
       sym (packed-only (costBits form (imagesOf form s) d) (all-bits-costs form (imagesOf form s) d) (take (costUsed form (imagesOf form s)) s)

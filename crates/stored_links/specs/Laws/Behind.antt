@@ -7,14 +7,14 @@ use native.Mathlib.Nat.{mul-le-mul}
 use native.Mathlib.Omega.{arith}
 use lib.ListN.{drop, length, length-drop, take}
 use lib.Seq.{drop-append-le}
-use Rattle.ground.specs.Laws.Refusals.{then-passed}
+use Rattle.ground.specs.Laws.Refusals.{then-passed, then-same}
 use Rattle.ground.specs.Refusals.{roomCheck, _then_}
 use Rattle.ground.specs.declared.Check.{Check}
 use Rattle.ground.specs.declared.Check.the-variants.{Passed, Refused}
 use Rattle.bits.specs.Bits.{valueOf}
 use Rattle.bits.specs.Forms.{bytesFor, fillWidth}
 use Rattle.bits.specs.Kinds.{endCheck, positionCheck}
-use Rattle.bits.specs.Laws.Behind.{end-behind, first-bytes, part-behind, position-behind, then-same}
+use Rattle.bits.specs.Laws.Behind.{end-behind, first-bytes, part-behind, position-behind}
 use Rattle.bits.specs.Laws.Listed.{listed-same}
 use Rattle.bits.specs.declared.Form.{Form}
 use Rattle.stored_links.specs.Form.{linkUsed, rowAt, rowWidth}

@@ -6,14 +6,14 @@ use native.Mathlib.Omega.{arith}
 use lib.ListN.{getD, length, length-append}
 use Rattle.ground.specs.Buffers.{front}
 use Rattle.bits.specs.Bits.{AllBits, AllBytes, bits, bitsOf, overAt}
-use Rattle.bits.specs.Forms.{bytesFor, fillWidth, filled, formBits, formBytes}
+use Rattle.bits.specs.Forms.{bytesFor, fillWidth, filled, fieldBits, fieldBytes}
 use Rattle.bits.specs.Laws.Bytes.{length-bits}
 use Rattle.bits.specs.Laws.Forms.{all-bits-form}
 use Rattle.bits.specs.Laws.Numbers.{length-bitsOf}
-use Rattle.bits.specs.Laws.Packed.{all-bytes-packed, bits-packed-then, length-packed}
+use Rattle.bits.specs.Laws.Packed.{bits-packed-then, length-packed}
 use Rattle.bits.specs.Laws.Parts.{over-at-twice}
 use Rattle.bits.specs.Laws.Written.{written}
-use Rattle.stored_links.specs.Form.{linkBytes, linkForm, linkUsed, rowAt, rowWidth, rowsTo}
+use Rattle.stored_links.specs.Form.{linkBytes, linkFields, linkUsed, rowAt, rowWidth, rowsTo}
 use Rattle.stored_links.specs.Laws.Rows.{length-rows}
 use Rattle.bits.specs.declared.Form.{Form}
 
@@ -24,14 +24,14 @@ module _ (form : Form) (n : ℕ) (l v : List ℕ) where
 
   -- the bits of the rows
   unfoldable pub allRows : List ℕ
-  allRows = formBits (rowsTo (form .width) n (λ k. getD l k 0) (λ k. getD v k 0) (length l))
+  allRows = fieldBits (rowsTo (form .width) n (λ k. getD l k 0) (λ k. getD v k 0) (length l))
 
   -- all bits, without the fill bits
   unfoldable pub linkBits : List ℕ
-  linkBits = formBits (linkForm form n l v)
+  linkBits = fieldBits (linkFields form n l v)
 
   pub link-parts : linkBits ≡ frontBits ++ allRows
-  unfolding frontBits allRows linkBits linkForm formBits
+  unfolding frontBits allRows linkBits linkFields fieldBits
   link-parts =
       let h = bitsOf (form .head) (form .mark) in
       let m = bitsOf 7 n in
@@ -54,20 +54,16 @@ module _ (form : Form) (n : ℕ) (l v : List ℕ) where
 
   pub all-bits-links : AllBits linkBits
   unfolding linkBits
-  all-bits-links = all-bits-form (linkForm form n l v)
+  all-bits-links = all-bits-form (linkFields form n l v)
 
   -- the exact count of bytes
   pub length-links : length (linkBytes form n l v) ≡ linkUsed form n (length l)
-  unfolding linkBytes formBytes linkBits
+  unfolding linkBytes fieldBytes linkBits
   length-links = length-packed linkBits ∙ ap bytesFor length-link-bits
-
-  pub all-bytes-links : AllBytes (linkBytes form n l v)
-  unfolding linkBytes formBytes linkBits
-  all-bytes-links = all-bytes-packed linkBits all-bits-links
 
   -- what follows the bytes follows the fill bits
   pub bits-links-then : (behind : List ℕ) → bits (linkBytes form n l v ++ behind) ≡ frontBits ++ (allRows ++ (bitsOf (fillWidth (rowAt form n (length l))) 0 ++ bits behind))
-  unfolding linkBytes formBytes linkBits
+  unfolding linkBytes fieldBytes linkBits
   bits-links-then behind =
       let z = bitsOf (fillWidth (rowAt form n (length l))) 0 in
       bits-packed-then linkBits all-bits-links behind
@@ -80,10 +76,10 @@ module _ (form : Form) (n : ℕ) (l v : List ℕ) where
       → bits b1 ≡ overAt (bits old) 0 (bitsOf (form .head) (form .mark))
       → bits b2 ≡ overAt (bits b1) (form .head) (bitsOf 7 n)
       → bits b3 ≡ overAt (bits b2) (form .head + 7) (bitsOf 7 (length l))
-      → bits b4 ≡ overAt (bits b3) (form .head + 14) (formBits (rowsTo (form .width) n (λ k. getD l k 0) (λ k. getD v k 0) (length l)))
+      → bits b4 ≡ overAt (bits b3) (form .head + 14) (fieldBits (rowsTo (form .width) n (λ k. getD l k 0) (λ k. getD v k 0) (length l)))
       → bits new ≡ overAt (bits b4) (rowAt form n (length l)) (bitsOf (fillWidth (rowAt form n (length l))) 0)
       → new ≡ front (linkBytes form n l v) old
-  unfolding linkBytes formBytes filled frontBits allRows linkBits
+  unfolding linkBytes fieldBytes filled frontBits allRows linkBits
   written-links old b1 b2 b3 b4 new ho hn room e1 e2 e3 e4 e5 =
       let o = bits old in
       let h = bitsOf (form .head) (form .mark) in

@@ -5,7 +5,7 @@ use Prim.Native.Nat.{ℕ, _%_, _*_, _-_, _/_, _≤_}
 use native.Mathlib.Omega.{arith}
 use lib.Dec.{ltb}
 use lib.ListN.{drop, length}
-use borrow.Author.Tests.{le-ltb, ltb-false}
+use borrow.Author.Tests.{ltb-false}
 use Rattle.ground.specs.Refusals.{_then_}
 use Rattle.ground.specs.Laws.Refusals.{refuseIf-passed, then-passed}
 use Rattle.ground.specs.Laws.Tests.{or-false}
@@ -14,7 +14,7 @@ use Rattle.ground.specs.declared.Check.the-variants.{Passed, Refused}
 use Rattle.ground.specs.declared.Refusal.{Refusal}
 use Rattle.bits.specs.Kinds.{misplaced, positionCheck}
 use Rattle.stored_links.specs.Laws.Outcomes.{table-passed, table-refused}
-use Rattle.stored_links.specs.Laws.Passed.{head-passed, passed-read, read-passed, room-goes}
+use Rattle.stored_links.specs.Laws.Passed.{head-passed, read-passed, room-goes}
 use Rattle.stored_links.specs.Outcomes.{judged}
 use Rattle.stored_links.specs.Reading.{readAtChecks, readChecks, tableAtChecks}
 use Rattle.stored_links.specs.Said.{countOf, imagesOf, usedOf}
@@ -53,11 +53,6 @@ module _ (form : Form) (bytes : List ℕ) (position : ℕ) where
   refused-at room r e =
       let s = drop (position / 8) bytes in
       table-refused (readAtChecks form bytes position room) (imagesOf form s) (countOf form s) (usedOf form s) r e
-
-  -- a table that stands there is accepted, where there is room
-  pub accepted-at : (n N used : ℕ) → TableAt form bytes position n N used → (room : ℕ) → 2 * n - 3 ≤ room → readAtChecks form bytes position room ≡ Passed
-  accepted-at n N used t room h =
-      rw (le-ltb (length bytes) (position / 8) (t .inside), t .aligned) (passed-read form (drop (position / 8) bytes) n N room (t .stored) h)
 
   -- with 125 places in each output 3 is never the answer, so the answer is that of the checks without 3
   pub enough-room : (room : ℕ) → 125 ≤ room → readAtChecks form bytes position room ≡ tableAtChecks form bytes position

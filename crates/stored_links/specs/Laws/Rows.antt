@@ -10,7 +10,7 @@ use lib.ListN.{length, length-append}
 use borrow.Author.Tests.{ltb-false, ltb-true}
 use borrow.Table.Steps.{cases}
 use Rattle.bits.specs.Bits.{AllBits, bits, bitsOf, overAt, part, valueOf}
-use Rattle.bits.specs.Forms.{formBits}
+use Rattle.bits.specs.Forms.{fieldBits}
 use Rattle.bits.specs.Laws.Forms.{form-append}
 use Rattle.bits.specs.Laws.Numbers.{all-bits-bytes, all-bits-part, bits-value, length-bitsOf}
 use Rattle.bits.specs.Laws.Parts.{length-part, over-at-none, over-at-twice, part-cut, part-more}
@@ -23,75 +23,75 @@ pub part-again : (l : List ℕ) (position w : ℕ) → AllBits l → position + 
 part-again l position w b h =
     ap (λ (k : ℕ). bitsOf k (valueOf (part l position w))) (sym (length-part l position w h)) ∙ bits-value (all-bits-part position w b)
 
-pub row-bits : (w n S c : ℕ) → formBits (rowFields w n S c) ≡ bitsOf (n - 1) (S / 2) ++ bitsOf w c
-unfolding formBits
+pub row-bits : (w n S c : ℕ) → fieldBits (rowFields w n S c) ≡ bitsOf (n - 1) (S / 2) ++ bitsOf w c
+unfolding fieldBits
 row-bits w n S c = ap (λ (x : List ℕ). bitsOf (n - 1) (S / 2) ++ x) (append-nil (bitsOf w c))
 
-pub length-row : (w n S c : ℕ) → length (formBits (rowFields w n S c)) ≡ rowWidth w n
+pub length-row : (w n S c : ℕ) → length (fieldBits (rowFields w n S c)) ≡ rowWidth w n
 length-row w n S c =
     ap length (row-bits w n S c) ∙ omega (arith, length-append (bitsOf (n - 1) (S / 2)) (bitsOf w c), length-bitsOf (n - 1) (S / 2), length-bitsOf w c)
 
 module _ (w n : ℕ) (f g : ℕ → ℕ) where
-  rows-suc : (k : ℕ) → formBits (rowsTo w n f g (suc k)) ≡ formBits (rowsTo w n f g k) ++ formBits (rowFields w n (f k) (g k))
+  rows-suc : (k : ℕ) → fieldBits (rowsTo w n f g (suc k)) ≡ fieldBits (rowsTo w n f g k) ++ fieldBits (rowFields w n (f k) (g k))
   unfolding rowsTo
   rows-suc k = form-append (rowsTo w n f g k) (rowFields w n (f k) (g k))
 
-  pub rows-more : (k : ℕ) → formBits (rowsTo w n f g (k + 1)) ≡ formBits (rowsTo w n f g k) ++ formBits (rowFields w n (f k) (g k))
-  rows-more k = ap (λ (j : ℕ). formBits (rowsTo w n f g j)) (add-one k) ∙ rows-suc k
+  pub rows-more : (k : ℕ) → fieldBits (rowsTo w n f g (k + 1)) ≡ fieldBits (rowsTo w n f g k) ++ fieldBits (rowFields w n (f k) (g k))
+  rows-more k = ap (λ (j : ℕ). fieldBits (rowsTo w n f g j)) (add-one k) ∙ rows-suc k
 
-  pub length-rows : (k : ℕ) → length (formBits (rowsTo w n f g k)) ≡ rowWidth w n * k
-  unfolding rowsTo formBits
+  pub length-rows : (k : ℕ) → length (fieldBits (rowsTo w n f g k)) ≡ rowWidth w n * k
+  unfolding rowsTo fieldBits
   length-rows zero = sym (mul-zero (rowWidth w n))
   length-rows (suc k) =
       ap length (rows-suc k)
-      ∙ omega (arith, length-append (formBits (rowsTo w n f g k)) (formBits (rowFields w n (f k) (g k))), length-rows k, length-row w n (f k) (g k), mul-suc (rowWidth w n) k)
+      ∙ omega (arith, length-append (fieldBits (rowsTo w n f g k)) (fieldBits (rowFields w n (f k) (g k))), length-rows k, length-row w n (f k) (g k), mul-suc (rowWidth w n) k)
 
   -- ## Row after row, written over
 
-  pub rows-over-none : (l : List ℕ) (position : ℕ) → l ≡ overAt l position (formBits (rowsTo w n f g 0))
-  unfolding rowsTo formBits
+  pub rows-over-none : (l : List ℕ) (position : ℕ) → l ≡ overAt l position (fieldBits (rowsTo w n f g 0))
+  unfolding rowsTo fieldBits
   rows-over-none l position = sym (over-at-none l position)
 
-  pub rows-over-more : (l x : List ℕ) (position p k : ℕ) → p ≡ position + rowWidth w n * k → p + rowWidth w n ≤ length l → x ≡ overAt l position (formBits (rowsTo w n f g k))
-      → overAt x p (formBits (rowFields w n (f k) (g k))) ≡ overAt l position (formBits (rowsTo w n f g (k + 1)))
+  pub rows-over-more : (l x : List ℕ) (position p k : ℕ) → p ≡ position + rowWidth w n * k → p + rowWidth w n ≤ length l → x ≡ overAt l position (fieldBits (rowsTo w n f g k))
+      → overAt x p (fieldBits (rowFields w n (f k) (g k))) ≡ overAt l position (fieldBits (rowsTo w n f g (k + 1)))
   rows-over-more l x position p k e h q =
-      ap (λ (y : List ℕ). overAt y p (formBits (rowFields w n (f k) (g k)))) q
-      ∙ over-at-twice l position (formBits (rowsTo w n f g k)) (formBits (rowFields w n (f k) (g k))) p (omega (arith, length-rows k)) (omega (arith, length-row w n (f k) (g k)))
+      ap (λ (y : List ℕ). overAt y p (fieldBits (rowFields w n (f k) (g k)))) q
+      ∙ over-at-twice l position (fieldBits (rowsTo w n f g k)) (fieldBits (rowFields w n (f k) (g k))) p (omega (arith, length-rows k)) (omega (arith, length-row w n (f k) (g k)))
       ∙ ap (overAt l position) (sym (rows-more k))
 
   -- ## Row k of m, found again
 
-  row-found : (k m : ℕ) → k < m → (r : List ℕ) → (t : List ℕ) × (formBits (rowsTo w n f g m) ++ r ≡ formBits (rowsTo w n f g k) ++ (formBits (rowFields w n (f k) (g k)) ++ t))
+  row-found : (k m : ℕ) → k < m → (r : List ℕ) → (t : List ℕ) × (fieldBits (rowsTo w n f g m) ++ r ≡ fieldBits (rowsTo w n f g k) ++ (fieldBits (rowFields w n (f k) (g k)) ++ t))
   row-found k zero h r = absurd (omega arith)
   row-found k (suc m) h r =
-      let x = formBits (rowFields w n (f m) (g m)) in
-      let e : formBits (rowsTo w n f g (suc m)) ++ r ≡ formBits (rowsTo w n f g m) ++ (x ++ r) =
-      ap (λ (y : List ℕ). y ++ r) (rows-suc m) ∙ append-assoc (formBits (rowsTo w n f g m)) x r in
+      let x = fieldBits (rowFields w n (f m) (g m)) in
+      let e : fieldBits (rowsTo w n f g (suc m)) ++ r ≡ fieldBits (rowsTo w n f g m) ++ (x ++ r) =
+      ap (λ (y : List ℕ). y ++ r) (rows-suc m) ∙ append-assoc (fieldBits (rowsTo w n f g m)) x r in
       cases (ltb k m)
       (λ l. let i = row-found k m (ltb-true k m l) (x ++ r) in (i .0, e ∙ i .1))
       (λ l. let q : k ≡ m = omega (arith, ltb-false k m l) in (r, rw q e))
 
   module _ (a r : List ℕ) (position k m : ℕ) (e : length a ≡ position) (h : k < m) where
-    around : (t : List ℕ) × (a ++ (formBits (rowsTo w n f g m) ++ r) ≡ (a ++ formBits (rowsTo w n f g k)) ++ (bitsOf (n - 1) (f k / 2) ++ (bitsOf w (g k) ++ t)))
+    around : (t : List ℕ) × (a ++ (fieldBits (rowsTo w n f g m) ++ r) ≡ (a ++ fieldBits (rowsTo w n f g k)) ++ (bitsOf (n - 1) (f k / 2) ++ (bitsOf w (g k) ++ t)))
     around =
         let i = row-found k m h r in
-        let x = formBits (rowsTo w n f g k) in (
+        let x = fieldBits (rowsTo w n f g k) in (
           i .0,
           ap (λ (y : List ℕ). a ++ y) (i .1 ∙ ap (λ (y : List ℕ). x ++ (y ++ i .0)) (row-bits w n (f k) (g k)) ∙ ap (λ (y : List ℕ). x ++ y) (append-assoc (bitsOf (n - 1) (f k / 2)) (bitsOf w (g k)) (i .0)))
               ∙ sym (append-assoc a x (bitsOf (n - 1) (f k / 2) ++ (bitsOf w (g k) ++ i .0))),
         )
 
-    length-before : length (a ++ formBits (rowsTo w n f g k)) ≡ position + rowWidth w n * k
-    length-before = omega (arith, length-append a (formBits (rowsTo w n f g k)), length-rows k)
+    length-before : length (a ++ fieldBits (rowsTo w n f g k)) ≡ position + rowWidth w n * k
+    length-before = omega (arith, length-append a (fieldBits (rowsTo w n f g k)), length-rows k)
 
-    pub far-found : part (a ++ (formBits (rowsTo w n f g m) ++ r)) (position + rowWidth w n * k) (n - 1) ≡ bitsOf (n - 1) (f k / 2)
+    pub far-found : part (a ++ (fieldBits (rowsTo w n f g m) ++ r)) (position + rowWidth w n * k) (n - 1) ≡ bitsOf (n - 1) (f k / 2)
     far-found =
         ap (λ (l : List ℕ). part l (position + rowWidth w n * k) (n - 1)) (around .1)
-        ∙ part-cut (a ++ formBits (rowsTo w n f g k)) (bitsOf (n - 1) (f k / 2)) (bitsOf w (g k) ++ around .0) (position + rowWidth w n * k) (n - 1) length-before (length-bitsOf (n - 1) (f k / 2))
+        ∙ part-cut (a ++ fieldBits (rowsTo w n f g k)) (bitsOf (n - 1) (f k / 2)) (bitsOf w (g k) ++ around .0) (position + rowWidth w n * k) (n - 1) length-before (length-bitsOf (n - 1) (f k / 2))
 
-    pub cost-found : part (a ++ (formBits (rowsTo w n f g m) ++ r)) (position + rowWidth w n * k + (n - 1)) w ≡ bitsOf w (g k)
+    pub cost-found : part (a ++ (fieldBits (rowsTo w n f g m) ++ r)) (position + rowWidth w n * k + (n - 1)) w ≡ bitsOf w (g k)
     cost-found =
-        let b = a ++ formBits (rowsTo w n f g k) in
+        let b = a ++ fieldBits (rowsTo w n f g k) in
         let x = bitsOf (n - 1) (f k / 2) in
         ap (λ (l : List ℕ). part l (position + rowWidth w n * k + (n - 1)) w) (around .1 ∙ sym (append-assoc b x (bitsOf w (g k) ++ around .0)))
         ∙ part-cut (b ++ x) (bitsOf w (g k)) (around .0) (position + rowWidth w n * k + (n - 1)) w (omega (arith, length-append b x, length-before, length-bitsOf (n - 1) (f k / 2))) (length-bitsOf w (g k))
@@ -107,7 +107,7 @@ rows-same w n f g d e (suc m) h =
 
 -- row k read is the bits it stands in
 row-again : (form : Form) (n : ℕ) (s : List ℕ) (k : ℕ) → rowAt form n k + rowWidth (form .width) n ≤ length (bits s)
-    → formBits (rowFields (form .width) n (farAt form n s k) (costAt form n s k)) ≡ part (bits s) (rowAt form n k) (rowWidth (form .width) n)
+    → fieldBits (rowFields (form .width) n (farAt form n s k) (costAt form n s k)) ≡ part (bits s) (rowAt form n k) (rowWidth (form .width) n)
 unfolding farAt costAt
 row-again form n s k h =
     let l = bits s in
@@ -121,8 +121,8 @@ row-again form n s k h =
 
 -- the first m rows read are the bits they stand in
 pub rows-again : (form : Form) (n : ℕ) (s : List ℕ) (m : ℕ) → rowAt form n m ≤ length (bits s)
-    → formBits (rowsTo (form .width) n (farAt form n s) (costAt form n s) m) ≡ part (bits s) (form .head + 14) (rowWidth (form .width) n * m)
-unfolding rowsTo formBits part
+    → fieldBits (rowsTo (form .width) n (farAt form n s) (costAt form n s) m) ≡ part (bits s) (form .head + 14) (rowWidth (form .width) n * m)
+unfolding rowsTo fieldBits part
 rows-again form n s zero h = rw mul-zero
 rows-again form n s (suc m) h =
     let l = bits s in
@@ -133,7 +133,7 @@ rows-again form n s (suc m) h =
 
 -- two writes, one behind the other, make a row
 pub row-over : (w n S c position : ℕ) (l x y : List ℕ) → position + rowWidth w n ≤ length l
-    → x ≡ overAt l position (bitsOf (n - 1) (S / 2)) → y ≡ overAt x (position + (n - 1)) (bitsOf w c) → y ≡ overAt l position (formBits (rowFields w n S c))
+    → x ≡ overAt l position (bitsOf (n - 1) (S / 2)) → y ≡ overAt x (position + (n - 1)) (bitsOf w c) → y ≡ overAt l position (fieldBits (rowFields w n S c))
 row-over w n S c position l x y h e q =
     let a = bitsOf (n - 1) (S / 2) in
     let la = length-bitsOf (n - 1) (S / 2) in

@@ -6,7 +6,7 @@ use native.Mathlib.Nat.{zero-add}
 use native.Mathlib.Omega.{arith}
 use lib.ListN.{getD, length, take}
 use Rattle.bits.specs.Bits.{AllBytes, bits, bitsOf, part}
-use Rattle.bits.specs.Forms.{fillWidth, filled, formBits, formBytes}
+use Rattle.bits.specs.Forms.{fillWidth, filled, fieldBits, fieldBytes}
 use Rattle.bits.specs.Laws.Bytes.{length-bits}
 use Rattle.bits.specs.Laws.Numbers.{all-bits-bytes}
 use Rattle.bits.specs.Laws.Packed.{packed-only}
@@ -47,8 +47,8 @@ module _ (form : Form) (n N : ℕ) (s : List ℕ) (r : Stored form n N s) (marke
   rows-back : allRows form n l v ≡ part (bits s) (form .head + 14) (rowWidth (form .width) n * N)
   unfolding allRows end l v
   rows-back =
-      ap (λ (m : ℕ). formBits (rowsTo (form .width) n (λ k. getD l k 0) (λ k. getD v k 0) m)) count-is
-      ∙ ap formBits (rows-same (form .width) n (λ k. getD l k 0) (λ k. getD v k 0) (farAt form n s) (costAt form n s) N (λ k h. (listed-at (farAt form n s) N k h, listed-at (costAt form n s) N k h)))
+      ap (λ (m : ℕ). fieldBits (rowsTo (form .width) n (λ k. getD l k 0) (λ k. getD v k 0) m)) count-is
+      ∙ ap fieldBits (rows-same (form .width) n (λ k. getD l k 0) (λ k. getD v k 0) (farAt form n s) (costAt form n s) N (λ k h. (listed-at (farAt form n s) N k h, listed-at (costAt form n s) N k h)))
       ∙ rows-again form n s N within
 
   front-back : frontBits form n l v ≡ part (bits s) 0 (form .head + 14)
@@ -90,7 +90,7 @@ module _ (form : Form) (n N : ℕ) (s : List ℕ) (r : Stored form n N s) (marke
 
   -- the same used bytes
   pub read-written : AllBytes s → linkBytes form n (farsOf form n N s) (costsOf form n N s) ≡ take (linkUsed form n N) s
-  unfolding linkBytes formBytes linkBits l v
+  unfolding linkBytes fieldBytes linkBits l v
   read-written h =
       let b = linkBits form n l v in
       sym (packed-only b (all-bits-links form n l v) (take (linkUsed form n N) s) (all-bytes-take (linkUsed form n N) s h) (sym filled-back))

@@ -10,7 +10,7 @@ use Rattle.ground.specs.Laws.Filters.{filter-append}
 use Rattle.ground.specs.Lowest.{checkAll}
 use Rattle.ground.specs.Laws.Lowest.{all-same}
 use Rattle.ground.specs.Ranges.{from, gather}
-use Rattle.ground.specs.Refusals.{refusal, _then_}
+use Rattle.ground.specs.Refusals.{_then_}
 use Rattle.ground.specs.declared.Check.{Check}
 use Rattle.ground.specs.declared.Check.the-variants.{Passed, Refused}
 use Rattle.theory.specs.FourPoint.{Four, fails, four, fours₁, fours₂, fours₃}
