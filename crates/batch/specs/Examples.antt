@@ -25,7 +25,8 @@ empty-batches = (refl, refl, refl, refl)
 -- example A twice: it needs 22 bytes, which are document 01's 11 bytes twice
 pub batch-A : (batchAnswer oldLinks (3 ∷ 3 ∷ []) (3 ∷ 3 ∷ []) (farsA ++ farsA) (costsA ++ costsA) 22 ≡ Bytes 22)
     × (batchBytes oldLinks (tables (3 ∷ 3 ∷ []) (3 ∷ 3 ∷ [])) (farsA ++ farsA) (costsA ++ costsA) ≡ storedA ++ storedA)
-unfolding tables batchFrom batchBytes farsA costsA storedA linkBytes linkFields rowsTo fieldBytes fieldBits packed filled bytesOf bitsOf valueOf part first badRow missing ones onesIn
+unfolding tables batchFrom batchBytes farsA costsA storedA linkBytes linkFields rowsTo fieldBytes fieldBits packed filled bytesOf bitsOf valueOf part
+    first badRow missing ones onesIn
 batch-A = (refl, refl)
 
 -- in 21 bytes the second table gets 3, before a row left over gets 2; a cost too few gets 2 at the second table; its n of 2 gets 1

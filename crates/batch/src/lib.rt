@@ -132,7 +132,8 @@ fn put_next(
     out: &mut [u8],
 ) -> usize
     requires { ⌜ Next oldLinks n count (drop rows (now fars)) (drop rows (now costs)) (length (now out)) ⌝ }
-    ensures { λ r. ⌜ (r ≡ linkUsed oldLinks n count) × (now (out .exit) ≡ front (linkBytes oldLinks n (take count (drop rows (now (fars .entry)))) (take count (drop rows (now (costs .entry))))) (now (out .entry))) ⌝ }
+    ensures { λ r. ⌜ (r ≡ linkUsed oldLinks n count) × (now (out .exit) ≡ front
+        (linkBytes oldLinks n (take count (drop rows (now (fars .entry)))) (take count (drop rows (now (costs .entry))))) (now (out .entry))) ⌝ }
 {
     let end = rows + count;
     link_writer::put_links(n, &fars[rows..end], &costs[rows..end], out)
@@ -141,7 +142,8 @@ fn put_next(
 // The tables' stored forms, joined, at the front of the lent bytes: each is written into the rest that the tables before left.
 fn put_tables(ns: &[u32], counts: &[u32], fars: &[u64], costs: &[u32], out: &mut [u8])
     requires { ⌜ (length (now ns) ≡ length (now counts)) × BatchFits oldLinks (tables (now ns) (now counts)) (now fars) (now costs) (length (now out)) ⌝ }
-    ensures { λ r. ⌜ now (out .exit) ≡ front (batchBytes oldLinks (tables (now (ns .entry)) (now (counts .entry))) (now (fars .entry)) (now (costs .entry))) (now (out .entry)) ⌝ }
+    ensures { λ r. ⌜ now (out .exit) ≡ front (batchBytes oldLinks (tables (now (ns .entry)) (now (counts .entry))) (now (fars .entry))
+        (now (costs .entry))) (now (out .entry)) ⌝ }
 {
     let mut used = 0;
     let mut rows = 0;
@@ -164,7 +166,8 @@ pub fn write_batch(
     costs: &[u32],
     out: &mut [u8],
 ) -> Batched
-    ensures { λ r. ⌜ Left (batchOutcome oldLinks (now (ns .entry)) (now (counts .entry)) (now (fars .entry)) (now (costs .entry)) (now (out .entry))) r (now (out .exit)) ⌝ }
+    ensures { λ r. ⌜ Left (batchOutcome oldLinks (now (ns .entry)) (now (counts .entry)) (now (fars .entry)) (now (costs .entry))
+        (now (out .entry))) r (now (out .exit)) ⌝ }
 {
     match check_batch(ns, counts, fars, costs, out.len()) {
         Batched::Refused(k, r) => Batched::Refused(k, r),

@@ -14,7 +14,8 @@ ghost use Rattle.brought.specs.Near.{Closest, NearImages, nearImage, goe
 // Of b and y the one that is nearer to k, as seen from image 0.
 fn closer(t: &[u32], n: usize, k: usize, b: usize, y: usize) -> usize
     requires { ⌜ CostTable limit n (now t) × (k < n) × (b < n) × (y < n) ⌝ }
-    ensures { λ r. ⌜ r ≡ pick (ltb (cost (now (t .entry)) n k y + cost (now (t .entry)) n 0 b) (cost (now (t .entry)) n k b + cost (now (t .entry)) n 0 y)) y b ⌝ }
+    ensures { λ r. ⌜ r ≡ pick (ltb (cost (now (t .entry)) n k y + cost (now (t .entry)) n 0 b)
+        (cost (now (t .entry)) n k b + cost (now (t .entry)) n 0 y)) y b ⌝ }
 {
     let x = tables::entry(t, n, k, y) + tables::entry(t, n, 0, b);
     let w = tables::entry(t, n, k, b) + tables::entry(t, n, 0, y);
@@ -139,7 +140,8 @@ fn store(
     best: &mut [u32],
 ) -> usize
     requires { ⌜ (0 < s) × (m < 128) × (i < 128) × Room (now sides) (now slots) (now best) ⌝ }
-    ensures { λ r. ⌜ Put limit live s m i (now (sides .entry)) (now (slots .entry)) (now (best .entry)) r (now (sides .exit)) (now (slots .exit)) (now (best .exit)) ⌝ }
+    ensures { λ r. ⌜ Put limit live s m i (now (sides .entry)) (now (slots .entry)) (now (best .entry)) r (now (sides .exit)) (now (slots .exit))
+        (now (best .exit)) ⌝ }
 {
     sides[m] = s;
     best[64 + m] = theory::CAP;
@@ -182,8 +184,10 @@ fn choose_in(
     ins: &mut [u8],
     best: &mut [u32],
 ) -> usize
-    requires { ⌜ (1 ≤ k) × (k < 64) × Rowed k (now fars) count × (low + storedOf (inSide k (now fars)) (inLive near (now fars)) count < 128) × Room (now sides) (now ins) (now best) ⌝ }
-    ensures { λ r. ⌜ Ins limit k near (now (fars .entry)) 0 count low r (now (sides .entry)) (now (best .entry)) (now (sides .exit)) (now (ins .exit)) (now (best .exit)) ⌝ }
+    requires { ⌜ (1 ≤ k) × (k < 64) × Rowed k (now fars) count × (low + storedOf (inSide k (now fars)) (inLive near (now fars)) count < 128) × Room
+        (now sides) (now ins) (now best) ⌝ }
+    ensures { λ r. ⌜ Ins limit k near (now (fars .entry)) 0 count low r (now (sides .entry)) (now (best .entry)) (now (sides .exit)) (now (ins .exit))
+        (now (best .exit)) ⌝ }
 {
     let full = ground::bit_alone(k) - 1;
     let mut m = low;
@@ -210,7 +214,8 @@ pub fn brought(
     steps: &mut [u32],
     best: &mut [u32],
 ) -> usize
-    requires { ⌜ CostTable limit n (now t) × (1 ≤ k) × (k < n) × Rowed k (now fars) count × (length (now outs) ≡ 128) × (length (now ins) ≡ 128) × (length (now sides) ≡ 128) × (length (now steps) ≡ 384) × (length (now best) ≡ 192) ⌝ }
+    requires { ⌜ CostTable limit n (now t) × (1 ≤ k) × (k < n) × Rowed k (now fars) count × (length (now outs) ≡ 128) × (length (now ins) ≡ 128)
+        × (length (now sides) ≡ 128) × (length (now steps) ≡ 384) × (length (now best) ≡ 192) ⌝ }
     ensures { λ r. ⌜ Answered limit (cost (now (t .entry)) n) k (now (fars .entry)) count r (now (outs .exit)) (now (ins .exit)) (now (best .exit)) ⌝ }
 {
     let b = closest(t, n, k);

@@ -70,7 +70,8 @@ fn turn_ahead(t: &[u32], n: usize, p: usize, q: usize, y: usize, best: u32) -> u
 // The least over the images of m, both ways.
 fn level(t: &[u32], n: usize, k: usize, z: usize, m: u64, near: u32) -> Both
     requires { ⌜ CostTable limit n (now t) × (k < n) × (z < n) × (m < 2 ^ k) × (near ≤ 4 * limit) ⌝ }
-    ensures { λ r. ⌜ (r .near ≡ min near (leastOn k (bit m) 1 (4 * limit) (ahead limit (cost (now (t .entry)) n) k z))) × (r .apart ≡ gapOn limit (cost (now (t .entry)) n) k z m) ⌝ }
+    ensures { λ r. ⌜ (r .near ≡ min near (leastOn k (bit m) 1 (4 * limit) (ahead limit (cost (now (t .entry)) n) k z)))
+        × (r .apart ≡ gapOn limit (cost (now (t .entry)) n) k z m) ⌝ }
 {
     let mut low = near;
     let mut gap = theory::CAP;
@@ -157,7 +158,8 @@ fn turn_up(
     cut: Cut,
     steps: &mut [u32],
 ) -> Cut
-    requires { ⌜ CostTable limit n (now t) × (k < n) × (z < k) × (i < 128) × (length (now sides) ≡ 128) × Chained k (now sides) (i + 1) × (bit (getD (now sides) i 0) z ≡ 1) × Up limit (cost (now t) n) k z (now sides) i (cut .held) (cut .near) (cut .depth) (now steps) ⌝ }
+    requires { ⌜ CostTable limit n (now t) × (k < n) × (z < k) × (i < 128) × (length (now sides) ≡ 128) × Chained k (now sides) (i + 1)
+        × (bit (getD (now sides) i 0) z ≡ 1) × Up limit (cost (now t) n) k z (now sides) i (cut .held) (cut .near) (cut .depth) (now steps) ⌝ }
     ensures { λ r. ⌜ Up limit (cost (now (t .entry)) n) k z (now (sides .entry)) (i + 1) (r .held) (r .near) (r .depth) (now (steps .exit)) ⌝ }
 {
     let s = sides[i];
@@ -185,7 +187,8 @@ fn up(
     links: &[u8],
     steps: &mut [u32],
 ) -> usize
-    requires { ⌜ CostTable limit n (now t) × (k < n) × (z < k) × Family k (now sides) count × Linked (now sides) count (now links) × (length (now steps) ≡ 384) ⌝ }
+    requires { ⌜ CostTable limit n (now t) × (k < n) × (z < k) × Family k (now sides) count × Linked (now sides) count (now links)
+        × (length (now steps) ≡ 384) ⌝ }
     ensures { λ r. ⌜ Climbed limit (cost (now (t .entry)) n) k z (now (sides .entry)) count r (now (steps .exit)) ⌝ }
 {
     let alone = ground::bit_alone(z);
@@ -204,8 +207,11 @@ fn up(
 
 // The side of depth q is lowered by the least over it and a, the least beside it; the least beside the side before it.
 fn turn_down(q: usize, a: u32, steps: &[u32], best: &mut [u32]) -> u32
-    requires { ⌜ (q < 128) × (length (now steps) ≡ 384) × (length (now best) ≡ 192) × (getD (now steps) (3 * q) 0 ≤ 4 * limit) × (getD (now steps) (3 * q + 2) 0 < 128) × (a ≤ 4 * limit) ⌝ }
-    ensures { λ r. ⌜ (r ≡ min a (getD (now (steps .entry)) (3 * q + 1) 0)) × (now (best .exit) ≡ set (now (best .entry)) (64 + getD (now (steps .entry)) (3 * q + 2) 0) (min (getD (now (best .entry)) (64 + getD (now (steps .entry)) (3 * q + 2) 0) 0) (getD (now (steps .entry)) (3 * q) 0 + a))) ⌝ }
+    requires { ⌜ (q < 128) × (length (now steps) ≡ 384) × (length (now best) ≡ 192) × (getD (now steps) (3 * q) 0 ≤ 4 * limit)
+        × (getD (now steps) (3 * q + 2) 0 < 128) × (a ≤ 4 * limit) ⌝ }
+    ensures { λ r. ⌜ (r ≡ min a (getD (now (steps .entry)) (3 * q + 1) 0))
+        × (now (best .exit) ≡ set (now (best .entry)) (64 + getD (now (steps .entry)) (3 * q + 2) 0)
+        (min (getD (now (best .entry)) (64 + getD (now (steps .entry)) (3 * q + 2) 0) 0) (getD (now (steps .entry)) (3 * q) 0 + a))) ⌝ }
 {
     let i = place_of(steps[3 * q + 2]);
     best[64 + i] = ground::lower(best[64 + i], steps[3 * q] + a);
@@ -225,7 +231,8 @@ fn turn_image(
     steps: &mut [u32],
     best: &mut [u32],
 )
-    requires { ⌜ CostTable limit n (now t) × (k < n) × (z < k) × Family k (now sides) count × Linked (now sides) count (now links) × (length (now steps) ≡ 384) × Least limit (cost (now t) n) k (now sides) count z (now best) ⌝ }
+    requires { ⌜ CostTable limit n (now t) × (k < n) × (z < k) × Family k (now sides) count × Linked (now sides) count (now links)
+        × (length (now steps) ≡ 384) × Least limit (cost (now t) n) k (now sides) count z (now best) ⌝ }
     ensures { λ _. ⌜ Least limit (cost (now (t .entry)) n) k (now (sides .entry)) count (z + 1) (now (best .exit)) ⌝ }
 {
     let mut q = up(t, n, k, z, sides, count, links, steps);
@@ -248,7 +255,8 @@ pub fn images(
     steps: &mut [u32],
     best: &mut [u32],
 )
-    requires { ⌜ CostTable limit n (now t) × (k < n) × Family k (now sides) count × (length (now steps) ≡ 384) × Least limit (cost (now t) n) k (now sides) count 0 (now best) ⌝ }
+    requires { ⌜ CostTable limit n (now t) × (k < n) × Family k (now sides) count × (length (now steps) ≡ 384) × Least limit (cost (now t) n) k
+        (now sides) count 0 (now best) ⌝ }
     ensures { λ _. ⌜ Brought limit (cost (now (t .entry)) n) k (now (sides .entry)) count (now (best .exit)) ⌝ }
 {
     let mut links = [0u8; 192];

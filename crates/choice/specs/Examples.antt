@@ -33,5 +33,6 @@ pub chosen-examples : (choiceOf oldLinks storedE storedG ≡ Table 1 17)
     × (choiceOf oldLinks storedA storedE ≡ Refused 0 (refusal 15 0 0 0 0))
     × (choiceOf oldLinks storedA (130 ∷ []) ≡ Refused 2 (refusal 9 0 0 0 0))
     × (partOf (choiceOf oldLinks (storedG ++ storedA) storedE) (storedG ++ storedA) storedE ≡ storedE)
-unfolding storedA storedE storedG exchangedE linkBytes linkFields rowsTo fieldBytes fieldBits packed filled bytesOf bits bitsOf valueOf part listed imagesOf countOf farAt costAt fillOf first badRow missing ones onesIn
+unfolding storedA storedE storedG exchangedE linkBytes linkFields rowsTo fieldBytes fieldBits packed filled bytesOf bits bitsOf valueOf part listed
+    imagesOf countOf farAt costAt fillOf first badRow missing ones onesIn
 chosen-examples = (refl, refl, refl, refl, refl, refl, refl)

@@ -45,7 +45,8 @@ fn read(bytes: &[u8], fars: &mut [u64]) -> StoredLinks
 // Of two tables over n images, with i and j used bytes, the one that includes the other, else refusal 14. The far sides in common
 // are counted by one merge: a table includes the other where they are all inner far sides of the other.
 fn take_one(n: usize, first: &[u64], i: usize, second: &[u64], j: usize) -> Chosen
-    requires { ⌜ (3 ≤ n) × (n ≤ 64) × Between 1 (now first) (2 ^ n) × Between 1 (now second) (2 ^ n) × (length (now first) ≤ 128) × (length (now second) ≤ 128) ⌝ }
+    requires { ⌜ (3 ≤ n) × (n ≤ 64) × Between 1 (now first) (2 ^ n) × Between 1 (now second) (2 ^ n) × (length (now first) ≤ 128)
+        × (length (now second) ≤ 128) ⌝ }
     ensures { λ r. ⌜ r ≡ taken (inners n (now (first .entry))) i (inners n (now (second .entry))) j ⌝ }
 {
     let d = counts::differ(n, first, second);

@@ -39,13 +39,15 @@ reading-undoes-writing n t out places c h k =
     (rw p, rw p (written-at oldCosts n t [] (drop (length m) out) places c fits k))
 
 -- Writing what was read gives the same used bytes.
-pub writing-undoes-reading : (bytes : List ℕ) (position room n used : ℕ) (out : List ℕ) → AllBytes bytes → judged oldCosts bytes position room ≡ Table n used → used ≤ length out
+pub writing-undoes-reading : (bytes : List ℕ) (position room n used : ℕ) (out : List ℕ) → AllBytes bytes
+    → judged oldCosts bytes position room ≡ Table n used → used ≤ length out
     → writeOutcome oldCosts n (storedTable oldCosts n (drop (position / 8) bytes)) out ≡ wroteInto used (take used (drop (position / 8) bytes)) out
 unfolding part valueOf
 writing-undoes-reading bytes position room n used out b e h = read-again oldCosts bytes position room n used out b e refl h
 
 -- What is read is a cost table.
-pub reading-is-a-table : (bytes : List ℕ) (position room n used : ℕ) → judged oldCosts bytes position room ≡ Table n used → CostTable limit n (storedTable oldCosts n (drop (position / 8) bytes))
+pub reading-is-a-table : (bytes : List ℕ) (position room n used : ℕ) → judged oldCosts bytes position room ≡ Table n used
+    → CostTable limit n (storedTable oldCosts n (drop (position / 8) bytes))
 reading-is-a-table bytes position room n used e =
     let a = table-at oldCosts bytes position room n used e in
     rw (← (a .number)) (read-table oldCosts (drop (position / 8) bytes) room (a .readable))
@@ -61,9 +63,12 @@ one-stored-form a b p q r s n u v ha hb e f h = same-bytes oldCosts a b p q r s 
 -- Two stored tables are read one after the other, the second from the byte where the first ended: at that position, or as the part of the
 -- bytes from there on.
 pub read-in-turn : (m n : ℕ) (t u behind places : List ℕ) → CostTable limit m t → CostTable limit n u → m * m ≤ length places → n * n ≤ length places
-    → (readOutcome oldCosts (costBytes oldCosts m (cost t m) ++ (costBytes oldCosts n (cost u n) ++ behind)) 0 places ≡ readInto m (costUsed oldCosts m) t places)
-    × (readOutcome oldCosts (costBytes oldCosts m (cost t m) ++ (costBytes oldCosts n (cost u n) ++ behind)) (8 * costUsed oldCosts m) places ≡ readInto n (costUsed oldCosts n) u places)
-    × (readOutcome oldCosts (drop (costUsed oldCosts m) (costBytes oldCosts m (cost t m) ++ (costBytes oldCosts n (cost u n) ++ behind))) 0 places ≡ readInto n (costUsed oldCosts n) u places)
+    → (readOutcome oldCosts (costBytes oldCosts m (cost t m) ++ (costBytes oldCosts n (cost u n) ++ behind)) 0 places ≡ readInto m
+    (costUsed oldCosts m) t places)
+    × (readOutcome oldCosts (costBytes oldCosts m (cost t m) ++ (costBytes oldCosts n (cost u n) ++ behind)) (8 * costUsed oldCosts m) places ≡ readInto n
+    (costUsed oldCosts n) u places)
+    × (readOutcome oldCosts (drop (costUsed oldCosts m) (costBytes oldCosts m (cost t m) ++ (costBytes oldCosts n (cost u n) ++ behind))) 0 places
+    ≡ readInto n (costUsed oldCosts n) u places)
 read-in-turn m n t u behind places c d h k =
     let a = costBytes oldCosts m (cost t m) in
     let b = costBytes oldCosts n (cost u n) ++ behind in

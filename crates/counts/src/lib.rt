@@ -84,7 +84,8 @@ fn over_of(n: usize) -> usize
 
 // The whole difference of two lists; those in exactly one are counted from the three numbers before.
 pub fn differ(n: usize, first: &[u64], second: &[u64]) -> Difference
-    requires { ⌜ (3 ≤ n) × (n ≤ 64) × Between 1 (now first) (2 ^ n) × Between 1 (now second) (2 ^ n) × (length (now first) ≤ 128) × (length (now second) ≤ 128) ⌝ }
+    requires { ⌜ (3 ≤ n) × (n ≤ 64) × Between 1 (now first) (2 ^ n) × Between 1 (now second) (2 ^ n) × (length (now first) ≤ 128)
+        × (length (now second) ≤ 128) ⌝ }
     ensures { λ r. ⌜ r ≡ differ n (now (first .entry)) (now (second .entry)) ⌝ }
 {
     let a = inner_rows(n, first);

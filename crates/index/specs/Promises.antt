@@ -40,7 +40,8 @@ pub record Answered (L n : ℕ) (t : List ℕ) (S v : ℕ) : Type 0 where
 
 pub index-answered : (L n : ℕ) (t : List ℕ) (S v : ℕ) → indexAnswer L n t S ≡ Value v → Answered L n t S v
 index-answered L n t S v e =
-    let p = if-accepted answer.Refused (indexCheck L n t S) (Value (clipped L (cost t n) n (bit S))) (λ r q. absurd (let z : _≡_ {A = ℕ} 0 1 = cc in omega arith)) e in
+    let p = if-accepted answer.Refused (indexCheck L n t S) (Value (clipped L (cost t n) n (bit S)))
+    (λ r q. absurd (let z : _≡_ {A = ℕ} 0 1 = cc in omega arith)) e in
     let same : clipped L (cost t n) n (bit S) ≡ v = let q = p .1 in cc in
     let a = index-passed L n t S .0 (p .0) in
     record {

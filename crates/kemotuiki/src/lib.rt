@@ -52,7 +52,8 @@ pub extern "C" fn kemotuiki_measured(
     fars: &mut [u64],
     costs: &mut [u32],
 ) -> KemotuikiAnswer
-    ensures { λ r. ⌜ LeftRows (crossedRows ofWritten (measuredOutcome limit n (now (t .entry)) (now (fars .entry)) (now (costs .entry)))) r (now (fars .exit)) (now (costs .exit)) ⌝ }
+    ensures { λ r. ⌜ LeftRows (crossedRows ofWritten (measuredOutcome limit n (now (t .entry)) (now (fars .entry)) (now (costs .entry)))) r
+        (now (fars .exit)) (now (costs .exit)) ⌝ }
 {
     numbers::of_written(tree::measured(n, t, fars, costs))
 }
@@ -65,7 +66,8 @@ pub extern "C" fn kemotuiki_exact(
     fars: &mut [u64],
     costs: &mut [u32],
 ) -> KemotuikiAnswer
-    ensures { λ r. ⌜ LeftRows (crossedRows ofWritten (exactOutcome limit n (now (t .entry)) (now (fars .entry)) (now (costs .entry)))) r (now (fars .exit)) (now (costs .exit)) ⌝ }
+    ensures { λ r. ⌜ LeftRows (crossedRows ofWritten (exactOutcome limit n (now (t .entry)) (now (fars .entry)) (now (costs .entry)))) r
+        (now (fars .exit)) (now (costs .exit)) ⌝ }
 {
     numbers::of_written(tree::exact(n, t, fars, costs))
 }
@@ -151,7 +153,8 @@ pub extern "C" fn kemotuiki_write_links(
     costs: &[u32],
     out: &mut [u8],
 ) -> KemotuikiAnswer
-    ensures { λ r. ⌜ Left (crossed ofWritten (links-writing.writeOutcome oldLinks n count (now (fars .entry)) (now (costs .entry)) (now (out .entry)))) r (now (out .exit)) ⌝ }
+    ensures { λ r. ⌜ Left (crossed ofWritten (links-writing.writeOutcome oldLinks n count (now (fars .entry)) (now (costs .entry))
+        (now (out .entry)))) r (now (out .exit)) ⌝ }
 {
     numbers::of_written(link_writer::write_links(n, count, fars, costs, out))
 }
@@ -164,7 +167,9 @@ pub extern "C" fn kemotuiki_read_links(
     fars: &mut [u64],
     costs: &mut [u32],
 ) -> KemotuikiAnswer
-    ensures { λ r. ⌜ LeftRows (crossedRows ofStoredLinks (links-reading.readOutcome oldLinks (now (bytes .entry)) position (now (fars .entry)) (now (costs .entry)))) r (now (fars .exit)) (now (costs .exit)) ⌝ }
+    ensures { λ r. ⌜ LeftRows (crossedRows ofStoredLinks
+        (links-reading.readOutcome oldLinks (now (bytes .entry)) position (now (fars .entry)) (now (costs .entry)))) r (now (fars .exit))
+        (now (costs .exit)) ⌝ }
 {
     numbers::of_stored_links(stored_links::read_links(bytes, position, fars, costs))
 }
@@ -178,7 +183,8 @@ pub extern "C" fn kemotuiki_write_batch(
     costs: &[u32],
     out: &mut [u8],
 ) -> KemotuikiAnswer
-    ensures { λ r. ⌜ Left (crossed ofBatched (batchOutcome oldLinks (now (ns .entry)) (now (counts .entry)) (now (fars .entry)) (now (costs .entry)) (now (out .entry)))) r (now (out .exit)) ⌝ }
+    ensures { λ r. ⌜ Left (crossed ofBatched (batchOutcome oldLinks (now (ns .entry)) (now (counts .entry)) (now (fars .entry)) (now (costs .entry))
+        (now (out .entry)))) r (now (out .exit)) ⌝ }
 {
     numbers::of_batched(batch::write_batch(ns, counts, fars, costs, out))
 }

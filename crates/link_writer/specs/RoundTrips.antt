@@ -33,7 +33,8 @@ fits : 2 * limit < 2 ^ 21
 fits = omega arith
 
 -- Reading what was written gives the table back: the rows, their count, and the bytes used.
-pub reading-undoes-writing : (n N : ℕ) (l v out f u : List ℕ) → Links limit n N l v → linkUsed oldLinks n N ≤ length out → 2 * n - 3 ≤ length f → 2 * n - 3 ≤ length u
+pub reading-undoes-writing : (n N : ℕ) (l v out f u : List ℕ) → Links limit n N l v → linkUsed oldLinks n N ≤ length out → 2 * n - 3 ≤ length f
+    → 2 * n - 3 ≤ length u
     → (writeOutcome oldLinks n N l v out .answer ≡ Places (linkUsed oldLinks n N))
     × (readOutcome oldLinks (writeOutcome oldLinks n N l v out .places) 0 f u ≡ readInto n N (linkUsed oldLinks n N) l v f u)
 reading-undoes-writing n N l v out f u t h i j =
@@ -44,11 +45,13 @@ reading-undoes-writing n N l v out f u t h i j =
     )
 
 -- Writing what was read gives the same used bytes.
-pub writing-undoes-reading : (bytes : List ℕ) (position room n N used : ℕ) (out : List ℕ) → AllBytes bytes → judged oldLinks bytes position room ≡ Table n N used → used ≤ length out
+pub writing-undoes-reading : (bytes : List ℕ) (position room n N used : ℕ) (out : List ℕ) → AllBytes bytes
+    → judged oldLinks bytes position room ≡ Table n N used → used ≤ length out
     → writeOutcome oldLinks n N (farsOf oldLinks n N (drop (position / 8) bytes)) (costsOf oldLinks n N (drop (position / 8) bytes)) out
     ≡ wroteInto used (take used (drop (position / 8) bytes)) out
 unfolding part valueOf
-writing-undoes-reading bytes position room n N used out b e h = read-again oldLinks bytes position n N used out b (table-at oldLinks bytes position room n N used e .1) refl h
+writing-undoes-reading bytes position room n N used out b e h =
+    read-again oldLinks bytes position n N used out b (table-at oldLinks bytes position room n N used e .1) refl h
 
 -- What is read is a link table over n images with so many rows.
 pub reading-is-a-table : (bytes : List ℕ) (position room n N used : ℕ) → judged oldLinks bytes position room ≡ Table n N used
@@ -59,7 +62,8 @@ reading-is-a-table bytes position room n N used e =
 -- One table has one stored form: what is read as the same table stands in the same bytes.
 pub one-stored-form : (a b : List ℕ) (p q r s n N i j : ℕ) → AllBytes a → AllBytes b
     → judged oldLinks a p r ≡ Table n N i → judged oldLinks b q s ≡ Table n N j
-    → farsOf oldLinks n N (drop (p / 8) a) ≡ farsOf oldLinks n N (drop (q / 8) b) → costsOf oldLinks n N (drop (p / 8) a) ≡ costsOf oldLinks n N (drop (q / 8) b)
+    → farsOf oldLinks n N (drop (p / 8) a) ≡ farsOf oldLinks n N (drop (q / 8) b)
+    → costsOf oldLinks n N (drop (p / 8) a) ≡ costsOf oldLinks n N (drop (q / 8) b)
     → take i (drop (p / 8) a) ≡ take j (drop (q / 8) b)
 unfolding part valueOf
 one-stored-form a b p q r s n N i j ha hb e f g h =
@@ -70,8 +74,10 @@ one-stored-form a b p q r s n N i j ha hb e f g h =
 pub read-in-turn : (m n M N : ℕ) (k x l y behind f u : List ℕ) → Links limit m M k x → Links limit n N l y
     → 2 * m - 3 ≤ length f → 2 * m - 3 ≤ length u → 2 * n - 3 ≤ length f → 2 * n - 3 ≤ length u
     → (readOutcome oldLinks (linkBytes oldLinks m k x ++ (linkBytes oldLinks n l y ++ behind)) 0 f u ≡ readInto m M (linkUsed oldLinks m M) k x f u)
-    × (readOutcome oldLinks (linkBytes oldLinks m k x ++ (linkBytes oldLinks n l y ++ behind)) (8 * linkUsed oldLinks m M) f u ≡ readInto n N (linkUsed oldLinks n N) l y f u)
-    × (readOutcome oldLinks (drop (linkUsed oldLinks m M) (linkBytes oldLinks m k x ++ (linkBytes oldLinks n l y ++ behind))) 0 f u ≡ readInto n N (linkUsed oldLinks n N) l y f u)
+    × (readOutcome oldLinks (linkBytes oldLinks m k x ++ (linkBytes oldLinks n l y ++ behind)) (8 * linkUsed oldLinks m M) f u ≡ readInto n N
+    (linkUsed oldLinks n N) l y f u)
+    × (readOutcome oldLinks (drop (linkUsed oldLinks m M) (linkBytes oldLinks m k x ++ (linkBytes oldLinks n l y ++ behind))) 0 f u ≡ readInto n N
+    (linkUsed oldLinks n N) l y f u)
 read-in-turn m n M N k x l y behind f u s t h i g j =
     let a = linkBytes oldLinks m k x in
     let b = linkBytes oldLinks n l y ++ behind in
@@ -99,7 +105,8 @@ one-after-another m n M N k x l y out f u s t r h i g j =
     let b = linkBytes oldLinks n l y in
     let o = drop (length a) out in
     let e : length a ≡ linkUsed oldLinks m M = length-links oldLinks m k x ∙ ap (linkUsed oldLinks m) (s .counted) in
-    let first : writeOutcome oldLinks m M k x out .places ≡ a ++ o = ap (λ (p : Outcome Written). p .places) (written-is oldLinks m M k x out s (omega arith)) in
+    let first : writeOutcome oldLinks m M k x out .places ≡ a ++ o = ap (λ (p : Outcome Written). p .places)
+    (written-is oldLinks m M k x out s (omega arith)) in
     let second : writeOutcome oldLinks n N l y o .places ≡ b ++ drop (length b) o =
     ap (λ (p : Outcome Written). p .places) (written-is oldLinks n N l y o t (omega (arith, e, length-drop (length a) out))) in
     let both : bothWritten m n M N k x l y out ≡ a ++ (b ++ drop (length b) o) =
@@ -112,6 +119,7 @@ pub refused-writing : (n N : ℕ) (l v out : List ℕ) (r : Refusal) → writeCh
     → writeOutcome oldLinks n N l v out ≡ record { answer = written.Refused r; places = out }
 refused-writing n N l v out r e = rw e
 
-pub refused-reading : (bytes : List ℕ) (position : ℕ) (f u : List ℕ) (r : Refusal) → readAtChecks oldLinks bytes position (min (length f) (length u)) ≡ Refused r
+pub refused-reading : (bytes : List ℕ) (position : ℕ) (f u : List ℕ) (r : Refusal)
+    → readAtChecks oldLinks bytes position (min (length f) (length u)) ≡ Refused r
     → readOutcome oldLinks bytes position f u ≡ record { answer = stored.Refused r; far-list = f; cost-list = u }
 refused-reading bytes position f u r e = refused-alters-nothing oldLinks (drop (position / 8) bytes) f u e

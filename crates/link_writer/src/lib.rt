@@ -26,7 +26,8 @@ fn put_row(position: usize, w: usize, n: usize, s: u64, c: u32, out: &mut [u8])
 // All rows, one behind the other.
 fn put_rows(form: Form, n: usize, fars: &[u64], costs: &[u32], out: &mut [u8])
     requires { ⌜ Held form n (length (now fars)) (length (now out)) × (length (now costs) ≡ length (now fars)) ⌝ }
-    ensures { λ r. ⌜ bits (now (out .exit)) ≡ overAt (bits (now (out .entry))) (form .head + 14) (fieldBits (rowsTo (form .width) n (λ k. getD (now (fars .entry)) k 0) (λ k. getD (now (costs .entry)) k 0) (length (now (fars .entry))))) ⌝ }
+    ensures { λ r. ⌜ bits (now (out .exit)) ≡ overAt (bits (now (out .entry))) (form .head + 14)
+        (fieldBits (rowsTo (form .width) n (λ k. getD (now (fars .entry)) k 0) (λ k. getD (now (costs .entry)) k 0) (length (now (fars .entry))))) ⌝ }
 {
     let mut k = 0;
     while k < fars.len() {
@@ -61,7 +62,8 @@ pub fn links_used(n: usize, count: usize) -> usize
 // The stored form of a table whose sizes fit, at the front of bytes that have room for it; the answer is the bytes used. Nothing is checked.
 pub fn put_links(n: usize, fars: &[u64], costs: &[u32], out: &mut [u8]) -> usize
     requires { ⌜ RoomFor oldLinks n (length (now fars)) (length (now out)) × (length (now costs) ≡ length (now fars)) ⌝ }
-    ensures { λ r. ⌜ (r ≡ linkUsed oldLinks n (length (now (fars .entry)))) × (now (out .exit) ≡ front (linkBytes oldLinks n (now (fars .entry)) (now (costs .entry))) (now (out .entry))) ⌝ }
+    ensures { λ r. ⌜ (r ≡ linkUsed oldLinks n (length (now (fars .entry))))
+        × (now (out .exit) ≡ front (linkBytes oldLinks n (now (fars .entry)) (now (costs .entry))) (now (out .entry))) ⌝ }
 {
     put_form(stored_links::old_form(), n, fars, costs, out);
     links_used(n, fars.len())

@@ -23,7 +23,8 @@ fn is_crossing(s: u64, r: u64) -> bool
     both != 0
 }
 
-// Whether s is no far side behind the far side `before`: 0 or not above it, or with image 0, or with one beyond n. Of 64 images none is beyond, and nothing is shifted by 64.
+// Whether s is no far side behind the far side `before`: 0 or not above it, or with image 0, or with one beyond n. Of 64 images none is
+// beyond, and nothing is shifted by 64.
 fn is_bad_side(n: usize, before: u64, s: u64) -> bool
     requires { ⌜ n ≤ 64 ⌝ }
     ensures { λ r. ⌜ r ≡ badSide n before s ⌝ }

@@ -106,7 +106,8 @@ fn put_row(out: &mut [u8], at: usize, far: u64, cost: u32, upper: u32) -> usize
 
 // The lines of all rows.
 fn put_rows(out: &mut [u8], at: usize, fars: &[u64], costs: &[u32], above: &[u32]) -> usize
-    requires { ⌜ (length (now fars) ≤ length (now costs)) × (length (now fars) ≤ length (now above)) × Fits (rowLines (now fars) (now costs) (now above)) at (now out) ⌝ }
+    requires { ⌜ (length (now fars) ≤ length (now costs)) × (length (now fars) ≤ length (now above)) × Fits
+        (rowLines (now fars) (now costs) (now above)) at (now out) ⌝ }
     ensures { λ r. ⌜ Put (rowLines (now (fars .entry)) (now (costs .entry)) (now (above .entry))) at (now (out .entry)) r (now (out .exit)) ⌝ }
 {
     let mut place = at;
@@ -151,8 +152,10 @@ fn put_reading(
     above: &[u32],
     around: &[u32],
 ) -> usize
-    requires { ⌜ (length (now fars) ≤ length (now costs)) × (length (now fars) ≤ length (now above)) × Fits (readingText n (now fars) (now costs) (now above) (now around)) 0 (now out) ⌝ }
-    ensures { λ r. ⌜ Put (readingText n (now (fars .entry)) (now (costs .entry)) (now (above .entry)) (now (around .entry))) 0 (now (out .entry)) r (now (out .exit)) ⌝ }
+    requires { ⌜ (length (now fars) ≤ length (now costs)) × (length (now fars) ≤ length (now above)) × Fits
+        (readingText n (now fars) (now costs) (now above) (now around)) 0 (now out) ⌝ }
+    ensures { λ r. ⌜ Put (readingText n (now (fars .entry)) (now (costs .entry)) (now (above .entry)) (now (around .entry))) 0 (now (out .entry)) r
+        (now (out .exit)) ⌝ }
 {
     let p = put_header(out, 0, n, fars.len());
     let q = put_rows(out, p, fars, costs, above);
@@ -162,7 +165,8 @@ fn put_reading(
 // The listing of a link table and of the cost table that it reads, with its upper rows and the order from 1 with last n.
 fn write_links(out: &mut [u8], n: usize, t: &[u32], fars: &[u64], costs: &[u32]) -> usize
     requires { ⌜ CostTable limit n (now t) × Links limit n (length (now fars)) (now fars) (now costs) × (room ≤ length (now out)) ⌝ }
-    ensures { λ r. ⌜ Put (readingText n (now (fars .entry)) (now (costs .entry)) (uppers (now (fars .entry))) (images n (now (t .entry)) 1 n)) 0 (now (out .entry)) r (now (out .exit)) ⌝ }
+    ensures { λ r. ⌜ Put (readingText n (now (fars .entry)) (now (costs .entry)) (uppers (now (fars .entry))) (images n (now (t .entry)) 1 n)) 0
+        (now (out .entry)) r (now (out .exit)) ⌝ }
 {
     let mut above = [0u32; 128];
     routes::upper_rows(n, fars.len(), fars, costs, &mut above);

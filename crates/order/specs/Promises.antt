@@ -76,7 +76,9 @@ module _ (L n : ℕ) (t : List ℕ) (first last : ℕ) (e₀ : List ℕ) where
   }
     where
       all : Ordered L (cost t n) n (first - 1) (last - 1)
-      all = ordered L (cost t n) n (first - 1) (last - 1) (a .table .formed) (omega (arith, a .first-low, a .first-high)) (omega (arith, a .last-low, a .last-high))
+      all =
+          ordered L (cost t n) n (first - 1) (last - 1) (a .table .formed) (omega (arith, a .first-low, a .first-high))
+          (omega (arith, a .last-low, a .last-high))
           (λ z. a .differ (omega (arith, a .first-low, a .last-low)))
 
       l : List ℕ

@@ -16,7 +16,8 @@ use prog.Routine.{Routine}
 use prog.Wp.{Calls, Env, Heap, Loops}
 use ghost.Atoms.{Atoms, sem}
 use contract.Monad.{Fun, fact}
-use types.Kit.{Given, Item, Post, Seq, lands, ‵, raw, _⊛_, ⋆, some, later, _$_, _∵_, !, qed, move, drop, use1, use2, split, join, rewrite, pick, fjoin, frame, await, done}
+use types.Kit.{Given, Item, Post, Seq, lands, ‵, raw, _⊛_, ⋆, some, later, _$_, _∵_}
+use types.Kit.{ !, qed, move, drop, use1, use2, split, join, rewrite, pick, fjoin, frame, await, done}
 use denote.RattleType.{owns}
 use denote.Laws.{Is}
 use denote.Builtin.{u8}
@@ -44,19 +45,26 @@ module _ {M : Type 1} (𝓤 : URA M) (H : Heap 𝓤) (A : Atoms 𝓤) (mem : Mem
 
     pub asks-new : (W : Given 𝓤 H A) → ent 𝓤 (⋆ 𝓤 H A (‵ (Bytes κ s) ∷ ‵ (flft κ q) ∷ [])) (sep 𝓤 (New .pre to-new) (sem 𝓤 H A (Bytes κ s)))
     asks-new W =
-        qed W (‵ (Bytes κ s) ∷ ‵ (flft κ q) ∷ []) ∵ use1 W (‵ (Bytes κ s) ⊛ ‵ (Bytes κ s)) (shr-slice-copy 𝓤 H A W (named 0) κ u8 .twice s (slice s ∷ [])) $ split ! $ nothing ! $ move ! (1 ∷ 0 ∷ []) $ fjoin ! $ nothing ! $ move ! (3 ∷ 0 ∷ []) $ join ! $
-        use2 W (raw (New .pre to-new)) (qed W ((‵ (flft κ q) ⊛ ‵ ftrue) ∷ ‵ (owns (ShrSlice (named 0) κ u8 ∷ []) (s, tt) (slice s ∷ [], tt)) ∷ []) ∵ join ! $ frame ! $ done !) $ frame ! $ done !
+        qed W (‵ (Bytes κ s) ∷ ‵ (flft κ q) ∷ []) ∵ use1 W (‵ (Bytes κ s) ⊛ ‵ (Bytes κ s))
+        (shr-slice-copy 𝓤 H A W (named 0) κ u8 .twice s (slice s ∷ [])) $ split ! $ nothing ! $ move ! (1 ∷ 0 ∷ []) $ fjoin ! $ nothing ! $ move !
+        (3 ∷ 0 ∷ []) $ join ! $
+        use2 W (raw (New .pre to-new))
+        (qed W
+        ((‵ (flft κ q) ⊛ ‵ ftrue) ∷ ‵ (owns (ShrSlice (named 0) κ u8 ∷ []) (s, tt) (slice s ∷ [], tt)) ∷ []) ∵ join ! $ frame ! $ done !) $ frame ! $ done !
 
     -- of what `new` ensures, the clause alone: it has no last value
     new-said : (r : Reader) → ent 𝓤 (ensured 𝓤 H A new.ended (new.clauses 𝓤 H A mem run) (κ, tt) (s, tt) tt r) (fact 𝓤 (r ≡ readerAt s 0))
     new-said r = exE 𝓤 _ (λ ws. snd∗ 𝓤 (sem 𝓤 H A (lasts new.ended (κ, tt) (s, tt) ws)) (fact 𝓤 (r ≡ readerAt s 0)))
 
-module _ {M : Type 1} {𝓤 : URA M} {H : Heap 𝓤} {A : Atoms 𝓤} {K : Type 0} {W : Given 𝓤 H A} {Γ : List (Item 𝓤)} {C : Calls 𝓤 H} {Λ : Loops 𝓤 H} {E : Env 𝓤 H} {p : Place} {rest : Body} {z : Post 𝓤 H} where
+module _ {M : Type 1} {𝓤 : URA M} {H : Heap 𝓤} {A : Atoms 𝓤} {K : Type 0} {W : Given 𝓤 H A} {Γ : List (Item 𝓤)} {C : Calls 𝓤 H} {Λ : Loops 𝓤 H}
+    {E : Env 𝓤 H} {p : Place} {rest : Body} {z : Post 𝓤 H} where
   pub makes : K → (mem : Memory → SProp 𝓤) (run : Routine → Fun 𝓤) (κ : Lft) (q : Share) (s : RefT (List ℕ)) (w : Val)
-      → (Is (B κ) (readerAt s 0) (T′.lowered (readerAt s 0) ∷ []) → Seq K W (‵ (Own κ (readerAt s 0)) ∷ ‵ (flft κ q) ∷ Γ) (lands C Λ E p (T′.lowered (readerAt s 0)) rest z))
+      → (Is (B κ) (readerAt s 0) (T′.lowered (readerAt s 0) ∷ [])
+      → Seq K W (‵ (Own κ (readerAt s 0)) ∷ ‵ (flft κ q) ∷ Γ) (lands C Λ E p (T′.lowered (readerAt s 0)) rest z))
       → Seq K W (raw (New 𝓤 H A mem run .post (to-new 𝓤 H A mem run κ q s) w) ∷ Γ) (lands C Λ E p w rest z)
   makes t mem run κ q s w k =
-      use1 W (later (some (λ (r : Reader). ((‵ (flft κ q) ⊛ ‵ ftrue) ⊛ ‵ (B κ .own r (w ∷ []))) ⊛ raw (ensured 𝓤 H A new.ended (new.clauses 𝓤 H A mem run) (κ, tt) (s, tt) tt r)))) (id⊢ 𝓤 _) $ await t tt $ pick t (λ r.
+      use1 W (later (some (λ (r : Reader). ((‵ (flft κ q) ⊛ ‵ ftrue) ⊛ ‵ (B κ .own r (w ∷ []))) ⊛ raw
+      (ensured 𝓤 H A new.ended (new.clauses 𝓤 H A mem run) (κ, tt) (s, tt) tt r)))) (id⊢ 𝓤 _) $ await t tt $ pick t (λ r.
       split t $ move t (1 ∷ []) $ use1 W (raw (fact 𝓤 (r ≡ readerAt s 0))) (new-said 𝓤 H A mem run κ q s r) $ heard t (r ≡ readerAt s 0) (λ e.
       split t $ rewrite t 1 (λ (h : Reader). ‵ (B κ .own h (w ∷ []))) e refl $ split t $ move t (1 ∷ []) $ drop t $ move t (1 ∷ 0 ∷ []) $
       spells t (B κ) T′.lowered (LL.tells (D κ) (L κ)) (readerAt s 0) w k))

@@ -20,7 +20,8 @@ use ghost.Atoms.{Atoms}
 use contract.BorrowLft.{meet-⊑-right}
 use contract.Lifetimes.{Lfts}
 use contract.Monad.{Fun, fact}
-use types.Kit.{Given, Goal, Item, Post, Seq, Step, step, lands, ‵, raw, _⊛_, ⋆, some, later, _$_, _∵_, !, qed, move, drop, use1, use2, split, join, pick, fsplit, fjoin, feqL, frame, await, done}
+use types.Kit.{Given, Goal, Item, Post, Seq, Step, step, lands, ‵, raw, _⊛_, ⋆, some, later, _$_}
+use types.Kit.{_∵_, !, qed, move, drop, use1, use2, split, join, pick, fsplit, fjoin, feqL, frame, await, done}
 use denote.RattleType.{owns}
 use denote.Laws.{Is}
 use denote.Builtin.{u32}
@@ -64,13 +65,22 @@ module _ {M : Type 1} (𝓤 : URA M) (H : Heap 𝓤) (A : Atoms 𝓤) (mem : Mem
     abbrev pub to-costs : TakeCosts .Ghost
     to-costs = ((κs, (PosShare·left q, (PosShare·right q, (p, tt))), (meet-⊑-right (a ∷ []) κ, tt), arg, passed), tt)
 
-    goes-costs : (W : Given 𝓤 H A) → ent 𝓤 (⋆ 𝓤 H A ((‵ (flft (a ∷ κ) (PosShare·left q)) ⊛ ‵ (flft κ (PosShare·right q)) ⊛ ‵ (flft ρ p) ⊛ ‵ ftrue) ∷ ‵ (owns (MutRef (named 0) (a ∷ κ) (B κ) ∷ MutSlice (named 2) ρ u32 ∷ []) arg passed) ∷ [])) (TakeCosts .pre to-costs)
-    goes-costs W = qed W ((‵ (flft (a ∷ κ) (PosShare·left q)) ⊛ ‵ (flft κ (PosShare·right q)) ⊛ ‵ (flft ρ p) ⊛ ‵ ftrue) ∷ ‵ (owns (MutRef (named 0) (a ∷ κ) (B κ) ∷ MutSlice (named 2) ρ u32 ∷ []) arg passed) ∷ []) ∵ join ! $ frame ! $ done !
+    goes-costs : (W : Given 𝓤 H A)
+        → ent 𝓤
+        (⋆ 𝓤 H A
+        ((‵ (flft (a ∷ κ) (PosShare·left q)) ⊛ ‵ (flft κ (PosShare·right q)) ⊛ ‵ (flft ρ p) ⊛ ‵ ftrue) ∷ ‵
+        (owns (MutRef (named 0) (a ∷ κ) (B κ) ∷ MutSlice (named 2) ρ u32 ∷ []) arg passed) ∷ [])) (TakeCosts .pre to-costs)
+    goes-costs W =
+        qed W ((‵ (flft (a ∷ κ) (PosShare·left q)) ⊛ ‵ (flft κ (PosShare·right q)) ⊛ ‵ (flft ρ p) ⊛ ‵ ftrue) ∷ ‵
+        (owns (MutRef (named 0) (a ∷ κ) (B κ) ∷ MutSlice (named 2) ρ u32 ∷ []) arg passed) ∷ []) ∵ join ! $ frame ! $ done !
 
 module _ {M : Type 1} {𝓤 : URA M} {H : Heap 𝓤} {A : Atoms 𝓤} {K : Type 0} {W : Given 𝓤 H A} {Γ : List (Item 𝓤)} where
-  pub asks-costs : K → {G : Goal 𝓤 H} (mem : Memory → SProp 𝓤) (run : Routine → Fun 𝓤) (κ : Lft) (q : Share) (c a : ℕ) (γ : GName) (h : Reader) (ρ : Lft) (p : Share) (x : RefT (List ℕ))
+  pub asks-costs : K
+      → {G : Goal 𝓤 H} (mem : Memory → SProp 𝓤) (run : Routine → Fun 𝓤) (κ : Lft) (q : Share) (c a : ℕ) (γ : GName) (h : Reader) (ρ : Lft) (p : Share)
+      (x : RefT (List ℕ))
       → Step K W (raw (TakeCosts 𝓤 H A mem run .pre (to-costs 𝓤 H A mem run κ q c a γ h ρ p x)) ∷ Γ) G
-      (‵ (MutRef (named 0) (a ∷ κ) (B κ) .own (at c γ h) (vptr c 0 ∷ [])) ∷ ‵ (flft (a ∷ κ) (PosShare·left q)) ∷ ‵ (flft κ (PosShare·right q)) ∷ ‵ (MutSlice (named 2) ρ u32 .own x (slice x ∷ [])) ∷ ‵ (flft ρ p) ∷ Γ) G
+      (‵ (MutRef (named 0) (a ∷ κ) (B κ) .own (at c γ h) (vptr c 0 ∷ [])) ∷ ‵ (flft (a ∷ κ) (PosShare·left q)) ∷ ‵ (flft κ (PosShare·right q)) ∷ ‵
+      (MutSlice (named 2) ρ u32 .own x (slice x ∷ [])) ∷ ‵ (flft ρ p) ∷ Γ) G
   asks-costs t mem run κ q c a γ h ρ p x = step (λ s.
       nothing t $ move t (5 ∷ 0 ∷ []) $ join t $ move t (3 ∷ 0 ∷ []) $ join t $ move t (2 ∷ 0 ∷ []) $ join t $
       -- [the tokens; the reference; the places]
@@ -78,15 +88,28 @@ module _ {M : Type 1} {𝓤 : URA M} {H : Heap 𝓤} {A : Atoms 𝓤} {K : Type 
       use2 W (raw (TakeCosts 𝓤 H A mem run .pre (to-costs 𝓤 H A mem run κ q c a γ h ρ p x))) (goes-costs 𝓤 H A mem run κ q c a γ h ρ p x W) $ s)
 
   module _ {C : Calls 𝓤 H} {Λ : Loops 𝓤 H} {F : Env 𝓤 H} {d : Place} {rest : Body} {z : Post 𝓤 H} where
-    pub took-costs : K → (mem : Memory → SProp 𝓤) (run : Routine → Fun 𝓤) (κ : Lft) (q : Share) (c a : ℕ) (γ : GName) (h : Reader) (ρ : Lft) (p : Share) (x : RefT (List ℕ)) (u : Val)
-        → ((r : StoredCosts) (y : Reader) (l : List ℕ) → Left (costsMoved h (x .now)) (y, r) l → length l ≡ length (x .now) → Is (B κ) y (T′.lowered y ∷ []) → Is E.the-row r (costsVal r ∷ [])
-        → Seq K W (‵ (E.the-row .own r (costsVal r ∷ [])) ∷ ‵ (Own κ y) ∷ ‵ (Cell c 0 y) ∷ ‵ (flft κ q) ∷ ‵ (flft ρ p) ∷ ‵ (finally u32 (x .name) l) ∷ Γ) (lands C Λ F d (costsVal r) rest z))
+    pub took-costs : K
+        → (mem : Memory → SProp 𝓤) (run : Routine → Fun 𝓤) (κ : Lft) (q : Share) (c a : ℕ) (γ : GName) (h : Reader) (ρ : Lft) (p : Share)
+        (x : RefT (List ℕ)) (u : Val)
+        → ((r : StoredCosts) (y : Reader) (l : List ℕ) → Left (costsMoved h (x .now)) (y, r) l → length l ≡ length (x .now) → Is (B κ) y (T′.lowered y ∷ [])
+        → Is E.the-row r (costsVal r ∷ [])
+        → Seq K W (‵ (E.the-row .own r (costsVal r ∷ [])) ∷ ‵ (Own κ y) ∷ ‵ (Cell c 0 y) ∷ ‵ (flft κ q) ∷ ‵ (flft ρ p) ∷ ‵ (finally u32 (x .name) l) ∷ Γ)
+        (lands C Λ F d (costsVal r) rest z))
         → Seq K W (raw (TakeCosts 𝓤 H A mem run .post (to-costs 𝓤 H A mem run κ q c a γ h ρ p x) u) ∷ raw (Kept 𝓤 H A κ q c a γ) ∷ Γ) (lands C Λ F d u rest z)
     took-costs t mem run κ q c a γ h ρ p x u k =
-        use1 W (later (some (λ (r : StoredCosts). ((‵ (flft (a ∷ κ) (PosShare·left q)) ⊛ ‵ (flft κ (PosShare·right q)) ⊛ ‵ (flft ρ p) ⊛ ‵ ftrue) ⊛ ‵ (E.the-row .own r (u ∷ []))) ⊛ raw (ensured 𝓤 H A take.ended (take.clauses 𝓤 H A mem run) (κs 𝓤 H A mem run κ q c a γ h ρ p x) (arg 𝓤 H A mem run κ q c a γ h ρ p x) tt r)))) (id⊢ 𝓤 _) $ await t tt $ pick t (λ r.
+        use1 W
+        (later
+        (some
+        (λ (r : StoredCosts).
+        ((‵ (flft (a ∷ κ) (PosShare·left q)) ⊛ ‵ (flft κ (PosShare·right q)) ⊛ ‵ (flft ρ p) ⊛ ‵ ftrue) ⊛ ‵ (E.the-row .own r (u ∷ []))) ⊛ raw
+        (ensured 𝓤 H A take.ended (take.clauses 𝓤 H A mem run) (κs 𝓤 H A mem run κ q c a γ h ρ p x) (arg 𝓤 H A mem run κ q c a γ h ρ p x) tt r))))
+        (id⊢ 𝓤 _) $ await t tt $ pick t (λ r.
         -- what it ensures, at some last reader and some last list
-        split t $ move t (1 ∷ []) $ use1 W (some (λ (ys : Reader × (List ℕ × Unit {0})). ‵ (lasts take.ended (κs 𝓤 H A mem run κ q c a γ h ρ p x) (arg 𝓤 H A mem run κ q c a γ h ρ p x) ys) ⊛ raw (fact 𝓤 (Left (costsMoved h (x .now)) (ys .0, r) (ys .1 .0))))) (id⊢ 𝓤 _) $ pick t (λ ys.
-        split t $ move t (1 ∷ []) $ heard t (Left (costsMoved h (x .now)) (ys .0, r) (ys .1 .0)) (λ m. fsplit t $ move t (1 ∷ []) $ fsplit t $ fsplit t $ move t (1 ∷ []) $ feqL t (λ l. move t (1 ∷ []) $ drop t $
+        split t $ move t (1 ∷ []) $ use1 W (some (λ (ys : Reader × (List ℕ × Unit {0})). ‵
+        (lasts take.ended (κs 𝓤 H A mem run κ q c a γ h ρ p x) (arg 𝓤 H A mem run κ q c a γ h ρ p x) ys) ⊛ raw
+        (fact 𝓤 (Left (costsMoved h (x .now)) (ys .0, r) (ys .1 .0))))) (id⊢ 𝓤 _) $ pick t (λ ys.
+        split t $ move t (1 ∷ []) $ heard t (Left (costsMoved h (x .now)) (ys .0, r) (ys .1 .0))
+        (λ m. fsplit t $ move t (1 ∷ []) $ fsplit t $ fsplit t $ move t (1 ∷ []) $ feqL t (λ l. move t (1 ∷ []) $ drop t $
         -- [the last list; the last reader; the tokens and the table; what the lender keeps; …]
         move t (2 ∷ []) $ split t $ split t $ move t (1 ∷ []) $ split t $ move t (1 ∷ []) $ split t $ move t (1 ∷ []) $ drop t $
         -- [ρ's token; that of κ, a half; the loan's; the table; the last list; the last reader; what the lender keeps; …]

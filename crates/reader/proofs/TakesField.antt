@@ -18,7 +18,8 @@ use ghost.Atoms.{Atoms}
 use contract.BorrowLft.{meet-⊑-right}
 use contract.Lifetimes.{Lfts}
 use contract.Monad.{Fun, fact}
-use types.Kit.{Given, Goal, Item, Post, Seq, Step, step, lands, ‵, raw, _⊛_, ⋆, some, later, _$_, _∵_, !, qed, move, drop, use1, use2, split, join, pick, fsplit, fjoin, frame, await, done}
+use types.Kit.{Given, Goal, Item, Post, Seq, Step, step, lands, ‵, raw, _⊛_, ⋆, some, later, _$_}
+use types.Kit.{_∵_, !, qed, move, drop, use1, use2, split, join, pick, fsplit, fjoin, frame, await, done}
 use denote.RattleType.{owns}
 use denote.Laws.{Is}
 use denote.Builtin.{usize}
@@ -61,11 +62,18 @@ module _ {M : Type 1} (𝓤 : URA M) (H : Heap 𝓤) (A : Atoms 𝓤) (mem : Mem
     abbrev pub to-field : TakeField .Ghost
     to-field = ((κs, (PosShare·left q, (PosShare·right q, tt)), (meet-⊑-right (a ∷ []) κ, tt), arg, passed), tt)
 
-    goes-field : (W : Given 𝓤 H A) → ent 𝓤 (⋆ 𝓤 H A ((‵ (flft (a ∷ κ) (PosShare·left q)) ⊛ ‵ (flft κ (PosShare·right q)) ⊛ ‵ ftrue) ∷ ‵ (owns (MutRef (named 0) (a ∷ κ) (B κ) ∷ usize ∷ []) arg passed) ∷ [])) (TakeField .pre to-field)
-    goes-field W = qed W ((‵ (flft (a ∷ κ) (PosShare·left q)) ⊛ ‵ (flft κ (PosShare·right q)) ⊛ ‵ ftrue) ∷ ‵ (owns (MutRef (named 0) (a ∷ κ) (B κ) ∷ usize ∷ []) arg passed) ∷ []) ∵ join ! $ frame ! $ done !
+    goes-field : (W : Given 𝓤 H A)
+        → ent 𝓤
+        (⋆ 𝓤 H A
+        ((‵ (flft (a ∷ κ) (PosShare·left q)) ⊛ ‵ (flft κ (PosShare·right q)) ⊛ ‵ ftrue) ∷ ‵
+        (owns (MutRef (named 0) (a ∷ κ) (B κ) ∷ usize ∷ []) arg passed) ∷ [])) (TakeField .pre to-field)
+    goes-field W =
+        qed W ((‵ (flft (a ∷ κ) (PosShare·left q)) ⊛ ‵ (flft κ (PosShare·right q)) ⊛ ‵ ftrue) ∷ ‵
+        (owns (MutRef (named 0) (a ∷ κ) (B κ) ∷ usize ∷ []) arg passed) ∷ []) ∵ join ! $ frame ! $ done !
 
 module _ {M : Type 1} {𝓤 : URA M} {H : Heap 𝓤} {A : Atoms 𝓤} {K : Type 0} {W : Given 𝓤 H A} {Γ : List (Item 𝓤)} where
-  pub asks-field : K → {G : Goal 𝓤 H} (mem : Memory → SProp 𝓤) (run : Routine → Fun 𝓤) (κ : Lft) (q : Share) (c a : ℕ) (γ : GName) (h : Reader) (n : ℕ) → n < 2 ^ 64
+  pub asks-field : K → {G : Goal 𝓤 H} (mem : Memory → SProp 𝓤) (run : Routine → Fun 𝓤) (κ : Lft) (q : Share) (c a : ℕ) (γ : GName) (h : Reader) (n : ℕ)
+      → n < 2 ^ 64
       → Step K W (raw (TakeField 𝓤 H A mem run .pre (to-field 𝓤 H A mem run κ q c a γ h n)) ∷ Γ) G
       (‵ (MutRef (named 0) (a ∷ κ) (B κ) .own (at c γ h) (vptr c 0 ∷ [])) ∷ ‵ (flft (a ∷ κ) (PosShare·left q)) ∷ ‵ (flft κ (PosShare·right q)) ∷ Γ) G
   asks-field t mem run κ q c a γ h n fits = step (λ s.
@@ -80,9 +88,15 @@ module _ {M : Type 1} {𝓤 : URA M} {H : Heap 𝓤} {A : Atoms 𝓤} {K : Type 
         → Seq K W (‵ (E.the-row .own r (fieldVal r ∷ [])) ∷ ‵ (Own κ y) ∷ ‵ (Cell c 0 y) ∷ ‵ (flft κ q) ∷ Γ) (lands C Λ F d (fieldVal r) rest z))
         → Seq K W (raw (TakeField 𝓤 H A mem run .post (to-field 𝓤 H A mem run κ q c a γ h n) u) ∷ raw (Kept 𝓤 H A κ q c a γ) ∷ Γ) (lands C Λ F d u rest z)
     took-field t mem run κ q c a γ h n u k =
-        use1 W (later (some (λ (r : Field). ((‵ (flft (a ∷ κ) (PosShare·left q)) ⊛ ‵ (flft κ (PosShare·right q)) ⊛ ‵ ftrue) ⊛ ‵ (E.the-row .own r (u ∷ []))) ⊛ raw (ensured 𝓤 H A take.ended (take.clauses 𝓤 H A mem run) (κs 𝓤 H A mem run κ q c a γ h n) (arg 𝓤 H A mem run κ q c a γ h n) tt r)))) (id⊢ 𝓤 _) $ await t tt $ pick t (λ r.
+        use1 W
+        (later
+        (some (λ (r : Field). ((‵ (flft (a ∷ κ) (PosShare·left q)) ⊛ ‵ (flft κ (PosShare·right q)) ⊛ ‵ ftrue) ⊛ ‵ (E.the-row .own r (u ∷ []))) ⊛ raw
+        (ensured 𝓤 H A take.ended (take.clauses 𝓤 H A mem run) (κs 𝓤 H A mem run κ q c a γ h n) (arg 𝓤 H A mem run κ q c a γ h n) tt r))))
+        (id⊢ 𝓤 _) $ await t tt $ pick t (λ r.
         -- what it ensures, at some last reader
-        split t $ move t (1 ∷ []) $ use1 W (some (λ (ys : Reader × (Unit {0} × Unit {0})). ‵ (lasts take.ended (κs 𝓤 H A mem run κ q c a γ h n) (arg 𝓤 H A mem run κ q c a γ h n) ys) ⊛ raw (fact 𝓤 ((ys .0, r) ≡ fieldMoved h n)))) (id⊢ 𝓤 _) $ pick t (λ ys.
+        split t $ move t (1 ∷ []) $ use1 W (some (λ (ys : Reader × (Unit {0} × Unit {0})). ‵
+        (lasts take.ended (κs 𝓤 H A mem run κ q c a γ h n) (arg 𝓤 H A mem run κ q c a γ h n) ys) ⊛ raw (fact 𝓤 ((ys .0, r) ≡ fieldMoved h n))))
+        (id⊢ 𝓤 _) $ pick t (λ ys.
         split t $ move t (1 ∷ []) $ heard t ((ys .0, r) ≡ fieldMoved h n) (λ m. fsplit t $ move t (1 ∷ []) $ drop t $
         -- [the last reader; the tokens and the field; what the lender keeps; …]
         move t (1 ∷ []) $ split t $ split t $ move t (1 ∷ []) $ split t $ move t (1 ∷ []) $ drop t $

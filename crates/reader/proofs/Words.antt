@@ -15,9 +15,69 @@ pub use prog.Wp.{Heap, Calls, Loops, WpFn, Tables}
 pub use ghost.Atoms.{Atoms, sem}
 pub use contract.Lifetimes.{AllOutlive, Lfts}
 pub use contract.Monad.{Fun, fact}
-pub use types.Kit.{Given, ‵, raw, _⊛_, given, ⋆, some, later, _$_, _∵_, !, qed, by, move, keep, drop, use1, use2, use3, split, join, learn, rewrite, pick, fsplit, fsplit3, fjoin, fjoin3, feqI, feqL, suffices, frame, await, done}
+pub use types.Kit.{
+  Given,
+  ‵,
+  raw,
+  _⊛_,
+  given,
+  ⋆,
+  some,
+  later,
+  _$_,
+  _∵_,
+  !,
+  qed,
+  by,
+  move,
+  keep,
+  drop,
+  use1,
+  use2,
+  use3,
+  split,
+  join,
+  learn,
+  rewrite,
+  pick,
+  fsplit,
+  fsplit3,
+  fjoin,
+  fjoin3,
+  feqI,
+  feqL,
+  suffices,
+  frame,
+  await,
+  done,
+}
 pub use types.Part.{agg, whole, sub, look-in, store-in}
-pub use types.Run.{look, init, forget, stop, hop, addr, fld, from, load, of-opd, and-then, no-more, assigns, land, returns, enter, alloc1, alloc0, params1, pass1, pass0, free1, free0, lit}
+pub use types.Run.{
+  look,
+  init,
+  forget,
+  stop,
+  hop,
+  addr,
+  fld,
+  from,
+  load,
+  of-opd,
+  and-then,
+  no-more,
+  assigns,
+  land,
+  returns,
+  enter,
+  alloc1,
+  alloc0,
+  params1,
+  pass1,
+  pass0,
+  free1,
+  free0,
+  lit,
+}
 pub use sound.WpLaws.{FmC, fmOf, WpFn-mono}
 pub use denote.RattleType.{owns}
 pub use denote.Laws.{Is, shows}
@@ -33,7 +93,22 @@ pub use denote.Triple.Call.{calls-at}
 pub use denote.Triple.Entry.{Vals, onEntry}
 pub use denote.Triple.Spec.{Meets, tripleOf}
 pub use denote.Triple.Table.{entered, cited}
-pub use denote.Triple.Walked.{says, Stays, stay-ref, gave-slice, walkOf, goes-ref, goes-gave-slice, ends-at, walked, walk-meets, stay-none, goes-none, stay-none-slice, goes-none-slice}
+pub use denote.Triple.Walked.{
+  says,
+  Stays,
+  stay-ref,
+  gave-slice,
+  walkOf,
+  goes-ref,
+  goes-gave-slice,
+  ends-at,
+  walked,
+  walk-meets,
+  stay-none,
+  goes-none,
+  stay-none-slice,
+  goes-none-slice,
+}
 pub use denote.Triple.Clauses.{ensured, lasts}
 pub use denote.Exit.{yes}
 pub use lib.Dec.{lit<}

@@ -45,7 +45,8 @@ route-accepted L n N l v i room = (route-passed L n N l v i room, passed-route L
 pub path-answer : (L n N : ℕ) (l v : List ℕ) (i j : ℕ) → PathAsked L n N l v i j → pathOutcome L n N l v i j ≡ Value (path (rowsOf l v) (i - 1) (j - 1))
 path-answer L n N l v i j t = rw (passed-path L n N l v i j t)
 
-pub upper-answer : (L n N : ℕ) (l v o : List ℕ) → UppersAsked L n N l v (length o) → upperOutcome L n N l v o ≡ record { answer = Places N; places = front (uppers l) o }
+pub upper-answer : (L n N : ℕ) (l v o : List ℕ) → UppersAsked L n N l v (length o)
+    → upperOutcome L n N l v o ≡ record { answer = Places N; places = front (uppers l) o }
 upper-answer L n N l v o t = rw (passed-upper L n N l v (length o) t, ← (uppers-length 1 l ∙ t .table .counted))
 
 pub route-answer : (L n N : ℕ) (l v : List ℕ) (i : ℕ) (o : List ℕ) → RouteAsked L n N l v i (length o)

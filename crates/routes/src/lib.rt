@@ -145,7 +145,8 @@ pub fn upper_rows(n: usize, count: usize, fars: &[u64], costs: &[u32], out: &mut
 // Writes the rows from `row` up to the last, from place `at` on, and returns the place behind them: the row, and then the climb from its upper row.
 fn climb(fars: &[u64], row: usize, out: &mut [u32], at: usize) -> usize
     requires { ⌜ (0 < row) × (row ≤ length (now fars)) × (length (now fars) ≤ 125) × (at + (length (now fars) + 1 - row) ≤ length (now out)) ⌝ }
-    ensures { λ e. ⌜ (e ≡ at + length (climbFrom (now (fars .entry)) row)) × (now (out .exit) ≡ sets (now (out .entry)) at (climbFrom (now (fars .entry)) row)) ⌝ }
+    ensures { λ e. ⌜ (e ≡ at + length (climbFrom (now (fars .entry)) row))
+        × (now (out .exit) ≡ sets (now (out .entry)) at (climbFrom (now (fars .entry)) row)) ⌝ }
 {
     out[at] = row as u32;
     let above = upper(fars, row - 1);

@@ -23,13 +23,15 @@ storedA = 0x06 ∷ 0x00 ∷ 0x00 ∷ 0x20 ∷ 0x00 ∷ 0x02 ∷ 0x00 ∷ 0x00 �
 
 -- it is written as document 01's bytes, and these are read as it
 pub example-A : (costBytes oldCosts 3 (cost tableA 3) ≡ storedA) × (judged oldCosts storedA 0 9 ≡ Table 3 9) × (storedTable oldCosts 3 storedA ≡ tableA)
-unfolding tableA storedA costBytes costFields fieldBytes fieldBits packed filled bytesOf bits bitsOf valueOf part fieldValue listed entriesTo rowEntries rowStart entryCost tableOf imagesOf entryOf fillOf checkAll
+unfolding tableA storedA costBytes costFields fieldBytes fieldBits packed filled bytesOf bits bitsOf valueOf part fieldValue listed entriesTo
+    rowEntries rowStart entryCost tableOf imagesOf entryOf fillOf checkAll
 example-A = (refl, refl, refl)
 
 -- an entry of 1,000,000 passes, and 1,000,001 gets 4 at its row and column
 pub entry-limit : (judged oldCosts (costBytes oldCosts 3 (λ i j. 1000000)) 0 9 ≡ Table 3 9)
     × (judged oldCosts (costBytes oldCosts 3 (λ i j. 999999 + j)) 0 9 ≡ stored.Refused (refusal 4 1 3 0 0))
-unfolding costBytes costFields fieldBytes fieldBits packed filled bytesOf bits bitsOf valueOf part fieldValue listed entriesTo rowEntries rowStart entryCost tableOf imagesOf entryOf fillOf checkAll
+unfolding costBytes costFields fieldBytes fieldBits packed filled bytesOf bits bitsOf valueOf part fieldValue listed entriesTo rowEntries rowStart
+    entryCost tableOf imagesOf entryOf fillOf checkAll
 entry-limit = (refl, refl)
 
 -- n 2 and 65 get 1, in one byte

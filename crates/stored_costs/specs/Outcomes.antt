@@ -26,5 +26,7 @@ abbrev pub readOutcome : Form → List ℕ → ℕ → List ℕ → Outcome Stor
 readOutcome form bytes position out =
     record {
       answer = judged form bytes position (length out);
-      places = frontIf (readAtChecks form bytes position (length out)) (storedTable form (imagesOf form (drop (position / 8) bytes)) (drop (position / 8) bytes)) out;
+      places =
+          frontIf (readAtChecks form bytes position (length out))
+          (storedTable form (imagesOf form (drop (position / 8) bytes)) (drop (position / 8) bytes)) out;
     }

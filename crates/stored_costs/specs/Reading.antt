@@ -30,7 +30,8 @@ bodyChecks form n s = endCheck s (costUsed form n) then fillCheck (fillOf form n
 -- 9, 1, 3, 9, 11, 4
 abbrev pub readChecks : Form → List ℕ → ℕ → Check
 readChecks form s room =
-    startChecks form s room then bodyChecks form (imagesOf form s) s then storedCheck (form .limit) (entryCost (entryOf form s) (imagesOf form s)) (imagesOf form s)
+    startChecks form s room then bodyChecks form (imagesOf form s) s then storedCheck (form .limit) (entryCost (entryOf form s) (imagesOf form s))
+    (imagesOf form s)
 
 -- 9 for the position, then those of the bytes from there on
 abbrev pub readAtChecks : Form → List ℕ → ℕ → ℕ → Check

@@ -28,7 +28,8 @@ storedA = 0x06 ∷ 0x0D ∷ 0x00 ∷ 0x00 ∷ 0x0C ∷ 0x00 ∷ 0x00 ∷ 0x1C �
 -- it is written as document 01's bytes, and these are read as it
 pub example-A : (linkBytes oldLinks 3 farsA costsA ≡ storedA) × (judged oldLinks storedA 0 3 ≡ Table 3 3 11)
     × (farsOf oldLinks 3 3 storedA ≡ farsA) × (costsOf oldLinks 3 3 storedA ≡ costsA)
-unfolding farsA costsA storedA linkBytes linkFields rowsTo fieldBytes fieldBits packed filled bytesOf bits bitsOf valueOf part listed imagesOf countOf farAt costAt fillOf first badRow missing ones onesIn
+unfolding farsA costsA storedA linkBytes linkFields rowsTo fieldBytes fieldBits packed filled bytesOf bits bitsOf valueOf part listed imagesOf countOf
+    farAt costAt fillOf first badRow missing ones onesIn
 example-A = (refl, refl, refl, refl)
 
 -- n 2 and 65 get 1, in two bytes; one byte gets 9; a position within a byte gets 9

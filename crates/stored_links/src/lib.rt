@@ -79,7 +79,8 @@ fn cost_at(bytes: &[u8], position: usize, w: usize) -> u32
 // The rows that the bytes say, into the front of both slices.
 fn fill(form: Form, n: usize, count: usize, bytes: &[u8], fars: &mut [u64], costs: &mut [u32])
     requires { ⌜ Held form n count (length (now bytes)) × (count ≤ length (now fars)) × (count ≤ length (now costs)) ⌝ }
-    ensures { λ r. ⌜ (now (fars .exit) ≡ front (farsOf form n count (now (bytes .entry))) (now (fars .entry))) × (now (costs .exit) ≡ front (costsOf form n count (now (bytes .entry))) (now (costs .entry))) ⌝ }
+    ensures { λ r. ⌜ (now (fars .exit) ≡ front (farsOf form n count (now (bytes .entry))) (now (fars .entry)))
+        × (now (costs .exit) ≡ front (costsOf form n count (now (bytes .entry))) (now (costs .entry))) ⌝ }
 {
     let mut k = 0;
     while k < count {
@@ -211,7 +212,8 @@ fn lesser(x: usize, y: usize) -> usize
 
 // The link table at the position, into the lent places: everything is judged before the first store.
 pub fn read_links(bytes: &[u8], position: usize, fars: &mut [u64], costs: &mut [u32]) -> StoredLinks
-    ensures { λ r. ⌜ LeftRows (readOutcome oldLinks (now (bytes .entry)) position (now (fars .entry)) (now (costs .entry))) r (now (fars .exit)) (now (costs .exit)) ⌝ }
+    ensures { λ r. ⌜ LeftRows (readOutcome oldLinks (now (bytes .entry)) position (now (fars .entry)) (now (costs .entry))) r (now (fars .exit))
+        (now (costs .exit)) ⌝ }
 {
     match judge_links(bytes, position, lesser(fars.len(), costs.len())) {
         StoredLinks::Refused(r) => StoredLinks::Refused(r),

@@ -41,7 +41,8 @@ fours n = gather (from 0 n) (fours₁ n)
 -- the largest sum of these four occurs once only
 abbrev pub fails : (ℕ → ℕ → ℕ) → Four → Bool
 fails d q =
-    ltb (timesLargest (d (q .first) (q .second) + d (q .third) (q .fourth)) (d (q .first) (q .third) + d (q .second) (q .fourth)) (d (q .first) (q .fourth) + d (q .second) (q .third))) 2
+    ltb (timesLargest (d (q .first) (q .second) + d (q .third) (q .fourth)) (d (q .first) (q .third) + d (q .second) (q .fourth))
+    (d (q .first) (q .fourth) + d (q .second) (q .third))) 2
 
 -- those that fail, in dictionary order: no wiring, and the first of them shows why
 abbrev pub failing : (ℕ → ℕ → ℕ) → ℕ → List Four

@@ -39,4 +39,5 @@ stays n r = not (inner n (r .0)) || ltb 0 (r .1)
 -- old rows with image k outside, its own link, old rows with image k inside
 abbrev pub step : ℕ → (ℕ → ℕ → ℕ) → ℕ → List Row → List Row
 step L d k T =
-    filter (stays (suc k)) (map (λ r. more L d k (r .0) (r .1)) T) ++ (more L d k (2 ^ k) (2 * L) ∷ filter (stays (suc k)) (map (λ r. more L d k (2 ^ k + r .0) (r .1)) T))
+    filter (stays (suc k)) (map (λ r. more L d k (r .0) (r .1)) T)
+    ++ (more L d k (2 ^ k) (2 * L) ∷ filter (stays (suc k)) (map (λ r. more L d k (2 ^ k + r .0) (r .1)) T))

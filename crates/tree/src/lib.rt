@@ -74,8 +74,10 @@ fn put_rows(
     fars: &mut [u64],
     costs: &mut [u32],
 ) -> usize
-    requires { ⌜ (k < 64) × Given add (now f) (now v) (now slots) (now best) count × PutRoom k (loweredIn limit add (now f) (now v) (now slots) (now best) count) at (now fars) (now costs) ⌝ }
-    ensures { λ r. ⌜ PutAll k (loweredIn limit add (now (f .entry)) (now (v .entry)) (now (slots .entry)) (now (best .entry)) count) at (now (fars .entry)) (now (costs .entry)) r (now (fars .exit)) (now (costs .exit)) ⌝ }
+    requires { ⌜ (k < 64) × Given add (now f) (now v) (now slots) (now best) count × PutRoom k
+        (loweredIn limit add (now f) (now v) (now slots) (now best) count) at (now fars) (now costs) ⌝ }
+    ensures { λ r. ⌜ PutAll k (loweredIn limit add (now (f .entry)) (now (v .entry)) (now (slots .entry)) (now (best .entry)) count) at
+        (now (fars .entry)) (now (costs .entry)) r (now (fars .exit)) (now (costs .exit)) ⌝ }
 {
     let mut place = at;
     let mut i = 0;
@@ -102,7 +104,8 @@ fn grow(
     steps: &mut [u32],
     best: &mut [u32],
 ) -> usize
-    requires { ⌜ CostTable limit n (now t) × (1 ≤ k) × (k < n) × RowsHeld limit (cost (now t) n) k (now f) (now v) count × (length (now fars) ≡ 128) × (length (now costs) ≡ 128) × (length (now steps) ≡ 384) × (length (now best) ≡ 192) ⌝ }
+    requires { ⌜ CostTable limit n (now t) × (1 ≤ k) × (k < n) × RowsHeld limit (cost (now t) n) k (now f) (now v) count × (length (now fars) ≡ 128)
+        × (length (now costs) ≡ 128) × (length (now steps) ≡ 384) × (length (now best) ≡ 192) ⌝ }
     ensures { λ r. ⌜ RowsHeld limit (cost (now (t .entry)) n) (k + 1) (now (fars .exit)) (now (costs .exit)) r ⌝ }
 {
     let mut outs = [0u8; 128];
@@ -118,7 +121,8 @@ fn grow(
 // The first `count` rows, written row by row into the two lent slices.
 fn write_rows(f: &[u64], v: &[u32], count: usize, fars: &mut [u64], costs: &mut [u32])
     requires { ⌜ (count ≤ length (now f)) × (count ≤ length (now v)) × (count ≤ length (now fars)) × (count ≤ length (now costs)) ⌝ }
-    ensures { λ _. ⌜ (now (fars .exit) ≡ over count (now (f .entry)) (now (fars .entry))) × (now (costs .exit) ≡ over count (now (v .entry)) (now (costs .entry))) ⌝ }
+    ensures { λ _. ⌜ (now (fars .exit) ≡ over count (now (f .entry)) (now (fars .entry)))
+        × (now (costs .exit) ≡ over count (now (v .entry)) (now (costs .entry))) ⌝ }
 {
     let mut i = 0;
     while i < count {
@@ -161,7 +165,8 @@ fn measured_rows(n: usize, t: &[u32], f: &mut [u64], v: &mut [u32]) -> usize
 // The measured reading of a cost table, written into slices that have room for it; the number of its rows.
 fn write_reading(n: usize, t: &[u32], fars: &mut [u64], costs: &mut [u32]) -> usize
     requires { ⌜ CostTable limit n (now t) × (2 * n - 3 ≤ length (now fars)) × (2 * n - 3 ≤ length (now costs)) ⌝ }
-    ensures { λ r. ⌜ RowsWritten (measured limit (cost (now (t .entry)) n) n) r (now (fars .entry)) (now (costs .entry)) (now (fars .exit)) (now (costs .exit)) ⌝ }
+    ensures { λ r. ⌜ RowsWritten (measured limit (cost (now (t .entry)) n) n) r (now (fars .entry)) (now (costs .entry)) (now (fars .exit))
+        (now (costs .exit)) ⌝ }
 {
     let mut f = [0u64; 128];
     let mut v = [0u32; 128];

@@ -13,7 +13,8 @@ abbrev begun : tie.After-check-left-over → tie.Start
 begun c = c .before .before .before .before .before
 
 looked : (c : tie.After-check-left-over)
-    → c .check-left-over .result ≡ leftOverChecks (drop (begun c .args .rows) (begun c .args .fars .now)) (drop (begun c .args .rows) (begun c .args .costs .now))
+    → c .check-left-over .result ≡ leftOverChecks (drop (begun c .args .rows) (begun c .args .fars .now))
+    (drop (begun c .args .rows) (begun c .args .costs .now))
 looked c =
     let a = begun c .args in
     rw (rest-part (a .fars .now) (a .rows), rest-part (a .costs .now) (a .rows)) at (c .check-left-over .ensures)

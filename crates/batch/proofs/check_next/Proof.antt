@@ -14,12 +14,14 @@ begun c = c .before .before .before .before .before .before .before .before
 
 -- the sizes passed
 sized : (c : tie.After-enum-told3)
-    → Sized (begun c .args .n) (begun c .args .count) (take (begun c .args .count) (begun c .args .fars .now)) (take (begun c .args .count) (begun c .args .costs .now))
+    → Sized (begun c .args .n) (begun c .args .count) (take (begun c .args .count) (begun c .args .fars .now))
+    (take (begun c .args .count) (begun c .args .costs .now))
 sized c =
     let a = begun c .args in
     let r = c .before .before in
     let k = r .before .before .before in
-    next-sized (a .n) (a .count) (a .fars .now) (a .costs .now) (sym (k .check-count .ensures) ∙ r .before .enum-told .given .1) (sym (r .check-run-out .ensures) ∙ c .enum-told3 .given .1)
+    next-sized (a .n) (a .count) (a .fars .now) (a .costs .now) (sym (k .check-count .ensures) ∙ r .before .enum-told .given .1)
+    (sym (r .check-run-out .ensures) ∙ c .enum-told3 .given .1)
 
 check-count-requires : tie.Need-check-count-requires
 check-count-requires c κs = search needs
@@ -56,15 +58,19 @@ slice-aggregate-check-links-2 c = sym (sized (c .before .before) .costed)
 
 check-links-requires : tie.Need-check-links-requires
 check-links-requires c κs =
-    let s = sized (c .before .before) in
-    (record { short = omega arith; narrow = omega arith; some = s .some; few = s .few; rows = omega (arith, s .few, s .most, s .counted) }, s .costed ∙ sym (s .counted))
+    let s = sized (c .before .before) in (
+      record { short = omega arith; narrow = omega arith; some = s .some; few = s .few; rows = omega (arith, s .few, s .most, s .counted) },
+      s .costed
+          ∙ sym (s .counted),
+    )
 
 returns-3 : tie.Need-returns-3
 returns-3 c =
     let e = c .before .before .before in
     let r = e .before .before in
     let d = r .before in
-    then-goes _ _ (d .enum-told .given .1) (d .before .before .check-count .ensures) (then-goes _ _ (e .enum-told3 .given .1) (r .check-run-out .ensures) (c .check-links .ensures))
+    then-goes _ _ (d .enum-told .given .1) (d .before .before .check-count .ensures)
+    (then-goes _ _ (e .enum-told3 .given .1) (r .check-run-out .ensures) (c .check-links .ensures))
 
 pub check-next-spec : {M : Type 1} → statement M
 check-next-spec =

@@ -33,7 +33,10 @@ turn c = c .before .before .before
 
 -- the table passed
 passed : (c : tie.After-enum-told Inv-loop μ-loop)
-    → Next oldLinks (looked c .before .before .number-at .result) (looked c .before .number-at2 .result) (drop (turn (looked c) .before .loop .rows) (begun (turn (looked c)) .args .fars .now)) (drop (turn (looked c) .before .loop .rows) (begun (turn (looked c)) .args .costs .now)) (begun (turn (looked c)) .args .room - turn (looked c) .before .loop .used)
+    → Next oldLinks (looked c .before .before .number-at .result) (looked c .before .number-at2 .result)
+    (drop (turn (looked c) .before .loop .rows) (begun (turn (looked c)) .args .fars .now))
+    (drop (turn (looked c) .before .loop .rows) (begun (turn (looked c)) .args .costs .now))
+    (begun (turn (looked c)) .args .room - turn (looked c) .before .loop .used)
 passed c = next-passed oldLinks _ _ _ _ _ (sym (looked c .check-from .ensures) ∙ c .enum-told .given .1)
 
 loop-holds : tie.Need-loop-holds Inv-loop μ-loop
@@ -64,7 +67,8 @@ returns c =
     let t = turn k in
     let a = begun t .args in
     let l = t .before .loop in
-    answer-stops oldLinks (a .ns .now) (a .counts .now) (a .fars .now) (a .costs .now) (a .room) (l .used) (l .rows) (l .i) _ _ (begun t .pre) (t .loop-test .taken) (sym (k .before .before .number-at .ensures)) (sym (k .before .number-at2 .ensures)) (r .r .given .1) (k .check-from .ensures)
+    answer-stops oldLinks (a .ns .now) (a .counts .now) (a .fars .now) (a .costs .now) (a .room) (l .used) (l .rows) (l .i) _ _ (begun t .pre)
+    (t .loop-test .taken) (sym (k .before .before .number-at .ensures)) (sym (k .before .number-at2 .ensures)) (r .r .given .1) (k .check-from .ensures)
     ∙ sym (l .inv .4)
 
 enum-told : tie.Need-enum-told Inv-loop μ-loop
@@ -105,8 +109,11 @@ loop-again c =
       omega (arith, z .1, length-drop (l .rows) (a .costs .now), l .inv .2),
       omega (arith, c .links-used .ensures, p .fits, l .inv .3),
       l .inv .4
-          ∙ answer-goes oldLinks (a .ns .now) (a .counts .now) (a .fars .now) (a .costs .now) (a .room) (l .used) (l .rows) (l .i) _ _ (begun t .pre) (t .loop-test .taken) (sym (k .before .before .number-at .ensures)) (sym (k .before .number-at2 .ensures)) (c .before .enum-told .given .1) (k .check-from .ensures)
-          ∙ ap (λ (x : ℕ). answerAt oldLinks (a .ns .now) (a .counts .now) (a .fars .now) (a .costs .now) (a .room) (l .used + x) (l .rows + N) (l .i + 1)) (sym (c .links-used .ensures)),
+          ∙ answer-goes oldLinks (a .ns .now) (a .counts .now) (a .fars .now) (a .costs .now) (a .room) (l .used) (l .rows) (l .i) _ _ (begun t .pre)
+          (t .loop-test .taken) (sym (k .before .before .number-at .ensures)) (sym (k .before .number-at2 .ensures)) (c .before .enum-told .given .1)
+          (k .check-from .ensures)
+          ∙ ap (λ (x : ℕ). answerAt oldLinks (a .ns .now) (a .counts .now) (a .fars .now) (a .costs .now) (a .room) (l .used + x) (l .rows + N) (l .i + 1))
+          (sym (c .links-used .ensures)),
     )
 
 check-end-requires : tie.Need-check-end-requires Inv-loop μ-loop
@@ -119,28 +126,11 @@ returns-2 c =
     let s = d .before .before .before .before .before .before in
     let a = s .args in
     c .check-end .ensures
-    ∙ sym (l .inv .4 ∙ answer-end oldLinks (a .ns .now) (a .counts .now) (a .fars .now) (a .costs .now) (a .room) (l .used) (l .rows) (l .i) (s .pre) (d .loop-test .left))
+    ∙ sym (l .inv .4
+    ∙ answer-end oldLinks (a .ns .now) (a .counts .now) (a .fars .now) (a .costs .now) (a .room) (l .used) (l .rows) (l .i) (s .pre) (d .loop-test .left))
 
 pub check-tables-spec : {M : Type 1} → statement M
 check-tables-spec =
     tie.close
-    (tie.spec
-    Inv-loop
-    μ-loop
-    loop-holds
-    number-at-requires
-    number-at-requires-2
-    sub-check-from
-    check-from-requires
-    enum-known-r
-    add-t15
-    returns
-    enum-told
-    links-used-requires
-    add-used
-    add-rows
-    add-i
-    loop-less
-    loop-again
-    check-end-requires
-    returns-2)
+    (tie.spec Inv-loop μ-loop loop-holds number-at-requires number-at-requires-2 sub-check-from check-from-requires enum-known-r add-t15 returns
+    enum-told links-used-requires add-used add-rows add-i loop-less loop-again check-end-requires returns-2)

@@ -14,7 +14,8 @@ begun c = c .before .before .before
 
 -- the rows are there
 there : (c : tie.After-slice-known)
-    → (begun c .args .rows + begun c .args .count ≤ length (begun c .args .fars .now)) × (begun c .args .rows + begun c .args .count ≤ length (begun c .args .costs .now))
+    → (begun c .args .rows + begun c .args .count ≤ length (begun c .args .fars .now))
+    × (begun c .args .rows + begun c .args .count ≤ length (begun c .args .costs .now))
 there c =
     let a = begun c .args in
     let z = next-length oldLinks _ _ _ _ _ (begun c .pre) in

@@ -39,12 +39,16 @@ count c = c .number-at2 .result
 
 -- the table of this turn, and the tables after it
 next : (c : tie.After-number-at2 Inv-loop μ-loop)
-    → Next oldLinks (images c) (count c) (drop (turn c .before .loop .rows) (begun c .args .fars .now)) (drop (turn c .before .loop .rows) (begun c .args .costs .now)) (length (begun c .args .out .now) - turn c .before .loop .used)
-    × BatchFits oldLinks (drop (turn c .before .loop .table + 1) (tables (begun c .args .ns .now) (begun c .args .counts .now))) (drop (turn c .before .loop .rows + count c) (begun c .args .fars .now)) (drop (turn c .before .loop .rows + count c) (begun c .args .costs .now)) (length (begun c .args .out .now) - (turn c .before .loop .used + linkUsed oldLinks (images c) (count c)))
+    → Next oldLinks (images c) (count c) (drop (turn c .before .loop .rows) (begun c .args .fars .now))
+    (drop (turn c .before .loop .rows) (begun c .args .costs .now)) (length (begun c .args .out .now) - turn c .before .loop .used)
+    × BatchFits oldLinks (drop (turn c .before .loop .table + 1) (tables (begun c .args .ns .now) (begun c .args .counts .now)))
+    (drop (turn c .before .loop .rows + count c) (begun c .args .fars .now)) (drop (turn c .before .loop .rows + count c) (begun c .args .costs .now))
+    (length (begun c .args .out .now) - (turn c .before .loop .used + linkUsed oldLinks (images c) (count c)))
 next c =
     let a = begun c .args in
     let l = turn c .before .loop in
-    fits-step oldLinks (a .ns .now) (a .counts .now) (a .fars .now) (a .costs .now) (length (a .out .now)) (l .used) (l .rows) (l .table) (images c) (count c) (begun c .pre .0) (turn c .loop-test .taken) (sym (c .before .number-at .ensures)) (sym (c .number-at2 .ensures)) (l .inv .4)
+    fits-step oldLinks (a .ns .now) (a .counts .now) (a .fars .now) (a .costs .now) (length (a .out .now)) (l .used) (l .rows) (l .table) (images c)
+    (count c) (begun c .pre .0) (turn c .loop-test .taken) (sym (c .before .number-at .ensures)) (sym (c .number-at2 .ensures)) (l .inv .4)
 
 rows-there : (c : tie.After-number-at2 Inv-loop μ-loop) → turn c .before .loop .rows + count c ≤ length (begun c .args .fars .now)
 rows-there c =
@@ -114,7 +118,9 @@ loop-again c =
       omega (arith, w .0, within t),
       rows-there t,
       rw (w .0) (next t .1),
-      joined-more oldLinks (a .ns .now) (a .counts .now) (a .fars .now) (a .costs .now) (length (a .out .now)) (l .used) (l .rows) (l .table) (images t) (count t) (begun t .pre .0) (turn t .loop-test .taken) (sym (t .before .number-at .ensures)) (sym (t .number-at2 .ensures)) (next t .0) _ (l .out) _ _ (omega (arith, l .inv .1, l .inv .2)) (w .0) (w .1) (l .inv .5),
+      joined-more oldLinks (a .ns .now) (a .counts .now) (a .fars .now) (a .costs .now) (length (a .out .now)) (l .used) (l .rows) (l .table) (images t)
+          (count t) (begun t .pre .0) (turn t .loop-test .taken) (sym (t .before .number-at .ensures)) (sym (t .number-at2 .ensures)) (next t .0) _
+          (l .out) _ _ (omega (arith, l .inv .1, l .inv .2)) (w .0) (w .1) (l .inv .5),
     )
 
 same-length : tie.Need-same-length Inv-loop μ-loop
@@ -125,25 +131,11 @@ returns c =
     let l = c .before .loop in
     let s = c .before .before .before .before .before .before .before in
     let a = s .args in
-    joined-end oldLinks (a .ns .now) (a .counts .now) (a .fars .now) (a .costs .now) _ (l .out) (l .used) (l .rows) (l .table) (s .pre .0) (c .loop-test .left) (l .inv .5)
+    joined-end oldLinks (a .ns .now) (a .counts .now) (a .fars .now) (a .costs .now) _ (l .out) (l .used) (l .rows) (l .table) (s .pre .0)
+    (c .loop-test .left) (l .inv .5)
 
 pub put-tables-spec : {M : Type 1} → statement M
 put-tables-spec =
     tie.close
-    (tie.spec
-    Inv-loop
-    μ-loop
-    loop-holds
-    number-at-requires
-    number-at-requires-2
-    sub-put-next
-    part-put-next-start
-    part-put-next-end
-    put-next-requires
-    add-used
-    add-rows
-    add-table
-    loop-less
-    loop-again
-    same-length
-    returns)
+    (tie.spec Inv-loop μ-loop loop-holds number-at-requires number-at-requires-2 sub-put-next part-put-next-start part-put-next-end put-next-requires
+    add-used add-rows add-table loop-less loop-again same-length returns)

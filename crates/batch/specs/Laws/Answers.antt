@@ -56,7 +56,8 @@ module _ (form : Form) where
   from-fits k used (t ∷ ts) l v room u e =
       let x = linkUsed form (t .0) (t .1) in
       let m = linkBytes form (t .0) (take (t .1) l) (take (t .1) v) in
-      let p = numbered-bytes (k + 1) (nextChecks form (t .0) (t .1) l v room) (batchFrom form (k + 1) (used + x) ts (drop (t .1) l) (drop (t .1) v) (room - x)) u e in
+      let p = numbered-bytes (k + 1) (nextChecks form (t .0) (t .1) l v room)
+      (batchFrom form (k + 1) (used + x) ts (drop (t .1) l) (drop (t .1) v) (room - x)) u e in
       let s = next-passed form (t .0) (t .1) l v room (p .0) in
       let r = from-fits (k + 1) (used + x) ts (drop (t .1) l) (drop (t .1) v) (room - x) u (p .1) in
       ((s, r .0), omega (arith, r .1, length-next form (t .0) (t .1) l v room s, length-append m (batchBytes form ts (drop (t .1) l) (drop (t .1) v))))
@@ -81,7 +82,8 @@ module _ (form : Form) where
         into : batchAnswer form ns counts l v room ≡ Bytes u
             → (length ns ≡ length counts) × BatchFits form (tables ns counts) l v room × (u ≡ length (batchBytes form (tables ns counts) l v))
         into e =
-            let p = numbered-bytes 0 (refuseIf (not (eqb (length ns) (length counts))) (refusal 2 0 0 0 0)) (batchFrom form 0 0 (tables ns counts) l v room) u e in
+            let p = numbered-bytes 0 (refuseIf (not (eqb (length ns) (length counts))) (refusal 2 0 0 0 0))
+            (batchFrom form 0 0 (tables ns counts) l v room) u e in
             let q = from-fits 0 0 (tables ns counts) l v room u (p .1) in
             (eqb-true (length ns) (length counts) (not-false _ (refuseIf-passed (not (eqb (length ns) (length counts))) _ (p .0))), q .0, omega (arith, q .1))
 

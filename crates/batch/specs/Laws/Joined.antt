@@ -46,7 +46,8 @@ pub joined-end : (form : Form) (ns counts l v s b : List ℕ) (used rows i : ℕ
 unfolding batchBytes
 joined-end form ns counts l v s b used rows i e h p = sym (p ∙ rw (tables-end ns counts i e h) (take-append-drop used b))
 
-pub joined-more : (form : Form) (ns counts l v : List ℕ) (room used rows i n N : ℕ) → length ns ≡ length counts → i < length ns → getD ns i 0 ≡ n → getD counts i 0 ≡ N
+pub joined-more : (form : Form) (ns counts l v : List ℕ) (room used rows i n N : ℕ) → length ns ≡ length counts → i < length ns → getD ns i 0 ≡ n
+    → getD counts i 0 ≡ N
     → Next form n N (drop rows l) (drop rows v) (room - used) → (s b m : List ℕ) (k : ℕ) → used ≤ length b → k ≡ linkUsed form n N
     → m ≡ front (linkBytes form n (take N (drop rows l)) (take N (drop rows v))) (take (length b - used) (drop used b))
     → s ≡ joinedAt form ns counts l v b used rows i
@@ -59,4 +60,5 @@ joined-more form ns counts l v room used rows i n N e h en eN t s b m k g ek em 
     q ∙ ap (λ (z : List ℕ). take used b ++ front z (drop used b)) (bytes-step form ns counts l v room used rows i n N e h en eN) in
     let y : d ≡ take used b ++ front a (drop used b) =
     rest-put b m used ∙ ap (λ (z : List ℕ). take used b ++ z) (em ∙ ap (front a) (rest-part b used)) in
-    subst (λ (z : ℕ). s ≡ take (used + z) d ++ front r (drop (used + z) d)) (length-next form n N (drop rows l) (drop rows v) (room - used) t ∙ sym ek) (rest-more s b d a r used g x y)
+    subst (λ (z : ℕ). s ≡ take (used + z) d ++ front r (drop (used + z) d)) (length-next form n N (drop rows l) (drop rows v) (room - used) t ∙ sym ek)
+    (rest-more s b d a r used g x y)

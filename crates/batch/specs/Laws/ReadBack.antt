@@ -33,11 +33,13 @@ module _ (form : Form) (narrow : 2 * form .limit < 2 ^ form .width) (bytes behin
         λ f u h i.
             ap₂ (λ (y : List ℕ) (j : ℕ). readOutcome form y (8 * j) f u) b p
             ∙ written-at form (t .0) (t .1) (take (t .1) l) (take (t .1) v) ahead (r ++ behind) f u (g .0 .links) narrow h i,
-        reads-from (ahead ++ m) (k + x) ts (drop (t .1) l) (drop (t .1) v) (room - x) (g .1) (omega (arith, length-append ahead m, lm)) (omega (arith, e, length-append ahead m, length-append m r))
+        reads-from (ahead ++ m) (k + x) ts (drop (t .1) l) (drop (t .1) v) (room - x) (g .1) (omega (arith, length-append ahead m, lm))
+            (omega (arith, e, length-append ahead m, length-append m r))
             (b ∙ sym (append-assoc ahead m (r ++ behind))),
       )
 
-form-reads-back : (form : Form) (ns counts l v out : List ℕ) (used : ℕ) → 2 * form .limit < 2 ^ form .width → batchAnswer form ns counts l v (length out) ≡ Bytes used
+form-reads-back : (form : Form) (ns counts l v out : List ℕ) (used : ℕ) → 2 * form .limit < 2 ^ form .width
+    → batchAnswer form ns counts l v (length out) ≡ Bytes used
     → ReadsBack form (batchOutcome form ns counts l v out .places) used 0 (tables ns counts) l v
 form-reads-back form ns counts l v out used narrow e =
     let m = batchBytes form (tables ns counts) l v in

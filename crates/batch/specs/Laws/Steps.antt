@@ -59,25 +59,29 @@ pub fits-start : (form : Form) (ns counts l v : List ℕ) (room : ℕ) → Batch
     → BatchFits form (drop 0 (tables ns counts)) (drop 0 l) (drop 0 v) (room - 0)
 fits-start form ns counts l v room f = subst (λ (x : ℕ). BatchFits form (tables ns counts) l v x) (omega arith) f
 
-module _ (form : Form) (ns counts l v : List ℕ) (room used rows i n N : ℕ) (e : length ns ≡ length counts) (h : i < length ns) (en : getD ns i 0 ≡ n) (eN : getD counts i 0 ≡ N) where
+module _ (form : Form) (ns counts l v : List ℕ) (room used rows i n N : ℕ) (e : length ns ≡ length counts) (h : i < length ns) (en : getD ns i 0 ≡ n)
+    (eN : getD counts i 0 ≡ N) where
   table-is : drop i (tables ns counts) ≡ (n, N) ∷ drop (i + 1) (tables ns counts)
   table-is = table-at ns counts i e h ∙ ap₂ (λ (x y : ℕ). (x, y) ∷ drop (i + 1) (tables ns counts)) en eN
 
   answer-step : answerAt form ns counts l v room used rows i
-      ≡ numbered (i + 1) (nextChecks form n N (drop rows l) (drop rows v) (room - used)) (answerAt form ns counts l v room (used + linkUsed form n N) (rows + N) (i + 1))
+      ≡ numbered (i + 1) (nextChecks form n N (drop rows l) (drop rows v) (room - used))
+      (answerAt form ns counts l v room (used + linkUsed form n N) (rows + N) (i + 1))
   unfolding batchFrom
   answer-step =
       let x = linkUsed form n N in
       let c = nextChecks form n N (drop rows l) (drop rows v) (room - used) in
       let q : room - used - x ≡ room - (used + x) = omega arith in
       ap (λ (ts : List Table). batchFrom form i used ts (drop rows l) (drop rows v) (room - used)) table-is
-      ∙ ap₂ (λ (a b : List ℕ). numbered (i + 1) c (batchFrom form (i + 1) (used + x) (drop (i + 1) (tables ns counts)) a b (room - used - x))) (drop-drop N rows l) (drop-drop N rows v)
+      ∙ ap₂ (λ (a b : List ℕ). numbered (i + 1) c (batchFrom form (i + 1) (used + x) (drop (i + 1) (tables ns counts)) a b (room - used - x)))
+      (drop-drop N rows l) (drop-drop N rows v)
       ∙ ap (λ (m : ℕ). numbered (i + 1) c (batchFrom form (i + 1) (used + x) (drop (i + 1) (tables ns counts)) (drop (rows + N) l) (drop (rows + N) v) m)) q
 
   pub answer-stops : {c : Check} {r : Refusal} → c ≡ Refused r → c ≡ nextChecks form n N (drop rows l) (drop rows v) (room - used)
       → batched.Refused (i + 1) r ≡ answerAt form ns counts l v room used rows i
   answer-stops p q =
-      if-stops (batched.Refused (i + 1)) (nextChecks form n N (drop rows l) (drop rows v) (room - used)) (answerAt form ns counts l v room (used + linkUsed form n N) (rows + N) (i + 1)) p q
+      if-stops (batched.Refused (i + 1)) (nextChecks form n N (drop rows l) (drop rows v) (room - used))
+      (answerAt form ns counts l v room (used + linkUsed form n N) (rows + N) (i + 1)) p q
       ∙ sym answer-step
 
   pub answer-goes : {c : Check} → c ≡ Passed → c ≡ nextChecks form n N (drop rows l) (drop rows v) (room - used)
@@ -97,8 +101,10 @@ module _ (form : Form) (ns counts l v : List ℕ) (room used rows i n N : ℕ) (
       (g .0, rw (← (drop-drop N rows l), ← (drop-drop N rows v), ← q) (g .1))
 
   pub bytes-step : batchBytes form (drop i (tables ns counts)) (drop rows l) (drop rows v)
-      ≡ linkBytes form n (take N (drop rows l)) (take N (drop rows v)) ++ batchBytes form (drop (i + 1) (tables ns counts)) (drop (rows + N) l) (drop (rows + N) v)
+      ≡ linkBytes form n (take N (drop rows l)) (take N (drop rows v)) ++ batchBytes form (drop (i + 1) (tables ns counts)) (drop (rows + N) l)
+      (drop (rows + N) v)
   unfolding batchBytes
   bytes-step =
       ap (λ (ts : List Table). batchBytes form ts (drop rows l) (drop rows v)) table-is
-      ∙ ap₂ (λ (a b : List ℕ). linkBytes form n (take N (drop rows l)) (take N (drop rows v)) ++ batchBytes form (drop (i + 1) (tables ns counts)) a b) (drop-drop N rows l) (drop-drop N rows v)
+      ∙ ap₂ (λ (a b : List ℕ). linkBytes form n (take N (drop rows l)) (take N (drop rows v)) ++ batchBytes form (drop (i + 1) (tables ns counts)) a b)
+      (drop-drop N rows l) (drop-drop N rows v)

@@ -22,7 +22,8 @@ whole : (a : tie.Start) → byteWith (a .args .b) (a .args .s) (8 - a .args .off
 whole a = byte-with-lt (a .args .b) (a .args .offset) (a .args .s) _ (a .args .v) (omega arith) (omega arith) (a .pre .1)
 
 made : (c : tie.After-low-bits) → (c .before .before .raised .result + (c .before .raised2 .result + c .low-bits .result))
-    ≡ byteWith (c .before .before .before .before .args .b) (c .before .before .before .before .args .s) (8 - c .before .before .before .before .args .offset - c .before .before .before .before .args .s) (c .before .before .before .before .args .v)
+    ≡ byteWith (c .before .before .before .before .args .b) (c .before .before .before .before .args .s)
+    (8 - c .before .before .before .before .args .offset - c .before .before .before .before .args .s) (c .before .before .before .before .args .v)
 unfolding byteWith
 made c = cc
 
@@ -33,7 +34,11 @@ shr-raised : tie.Need-shr-raised
 shr-raised c = search needs
 
 raised-requires : tie.Need-raised-requires
-raised-requires c κs = (search needs, omega (arith, c .wide-byte .ensures, div-mul-le-self (c .wide-byte .result) (2 ^ (c .before .args .s + (8 - c .before .args .offset - c .before .args .s)))))
+raised-requires c κs = (
+  search needs,
+  omega
+      (arith, c .wide-byte .ensures, div-mul-le-self (c .wide-byte .result) (2 ^ (c .before .args .s + (8 - c .before .args .offset - c .before .args .s)))),
+)
 
 raised-requires-2 : tie.Need-raised-requires-2
 unfolding byteWith

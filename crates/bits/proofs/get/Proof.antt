@@ -35,7 +35,8 @@ get-narrow-requires-3 c κs = search needs
 -- both parts together
 made : (c : tie.After-get-narrow3) →
     c .before .raised .result + c .get-narrow3 .result
-    ≡ numberAt (c .before .before .before .before .before .args .bytes .now) (c .before .before .before .before .before .args .position) (c .before .before .before .before .before .args .width)
+    ≡ numberAt (c .before .before .before .before .before .args .bytes .now) (c .before .before .before .before .before .args .position)
+    (c .before .before .before .before .before .args .width)
 made c =
     let a = c .before .before .before .before .before .args in
     let e : a .width - 32 + 32 ≡ a .width = omega arith in

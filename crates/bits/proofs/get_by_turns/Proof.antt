@@ -19,17 +19,21 @@ abbrev μ-loop : tie.MeasureT-loop
 turn-lt : (c : tie.After-turn-width Inv-loop μ-loop) →
     c .before .before .loop .value * 2 ^ (c .turn-width .result)
     + getD (c .before .before .before .before .args .bytes .now) ((c .before .before .before .before .args .position + c .before .before .loop .done) / 8) 0
-    / 2 ^ (8 - (c .before .before .before .before .args .position + c .before .before .loop .done) % 8 - c .turn-width .result) % 2 ^ (c .turn-width .result) < 2 ^ 64
+    / 2 ^ (8 - (c .before .before .before .before .args .position + c .before .before .loop .done) % 8 - c .turn-width .result)
+    % 2 ^ (c .turn-width .result) < 2 ^ 64
 turn-lt c =
     let a = c .before .before .before .before in
     let l = c .before .before .loop in
-    get-turn-lt (a .args .position) (a .args .width) (l .done) (c .turn-width .result) (a .args .bytes .now) (a .pre) (c .turn-width .ensures) (l .value) (l .inv .1)
+    get-turn-lt (a .args .position) (a .args .width) (l .done) (c .turn-width .result) (a .args .bytes .now) (a .pre) (c .turn-width .ensures) (l .value)
+    (l .inv .1)
 
 made : (c : tie.After-bits-above Inv-loop μ-loop) →
     c .before .raised .result + c .bits-above .result
     ≡ c .before .before .before .before .before .before .loop .value * 2 ^ (c .before .before .before .before .turn-width .result)
-    + getD (c .before .before .before .before .before .before .before .before .args .bytes .now) ((c .before .before .before .before .before .before .before .before .args .position + c .before .before .before .before .before .before .loop .done) / 8) 0
-    / 2 ^ (8 - (c .before .before .before .before .before .before .before .before .args .position + c .before .before .before .before .before .before .loop .done) % 8 - c .before .before .before .before .turn-width .result) % 2 ^ (c .before .before .before .before .turn-width .result)
+    + getD (c .before .before .before .before .before .before .before .before .args .bytes .now)
+    ((c .before .before .before .before .before .before .before .before .args .position + c .before .before .before .before .before .before .loop .done) / 8) 0
+    / 2 ^ (8 - (c .before .before .before .before .before .before .before .before .args .position + c .before .before .before .before .before .before
+    .loop .done) % 8 - c .before .before .before .before .turn-width .result) % 2 ^ (c .before .before .before .before .turn-width .result)
 made c = cc
 
 loop-holds : tie.Need-loop-holds Inv-loop μ-loop
@@ -78,7 +82,9 @@ loop-again c =
     let a = d .before .before .before .before in
     let l = d .before .before .loop in (
       omega arith,
-      made c ∙ get-turn (a .args .position) (a .args .width) (l .done) (d .turn-width .result) (a .args .bytes .now) (a .pre) (d .turn-width .ensures) (l .value) (l .inv .1),
+      made c
+          ∙ get-turn (a .args .position) (a .args .width) (l .done) (d .turn-width .result) (a .args .bytes .now) (a .pre) (d .turn-width .ensures) (l .value)
+          (l .inv .1),
     )
 
 returns : tie.Need-returns Inv-loop μ-loop

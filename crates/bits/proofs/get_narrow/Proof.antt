@@ -29,7 +29,8 @@ returns c =
     let a = c .before .before .before .before .before .args in
     let e : 8 * (a .position / 8) + a .position % 8 ≡ a .position = omega arith in
     rw (c .bits-above .ensures, c .before .eight-bytes .ensures)
-    (number-inside (a .bytes .now) (8 * (a .position / 8)) 64 (a .position % 8) (a .width) (64 - a .position % 8 - a .width) (omega (arith, leb-true)) (omega (arith, leb-true))
+    (number-inside (a .bytes .now) (8 * (a .position / 8)) 64 (a .position % 8) (a .width) (64 - a .position % 8 - a .width) (omega (arith, leb-true))
+    (omega (arith, leb-true))
     ∙ ap (λ (p : ℕ). numberAt (a .bytes .now) p (a .width)) e)
 
 get-by-turns-requires : tie.Need-get-by-turns-requires

@@ -61,7 +61,8 @@ loop-again c =
     let l = d .before .before .loop in (
       omega arith,
       simp length-set (l .inv .1),
-      put-turn (a .args .position) (a .args .width) (l .done) (d .turn-width .result) (l .bytes) (rw (l .inv .1) (a .pre)) (d .turn-width .ensures) (a .args .bytes .now) (a .args .value) (c .byte-with .result)
+      put-turn (a .args .position) (a .args .width) (l .done) (d .turn-width .result) (l .bytes) (rw (l .inv .1) (a .pre)) (d .turn-width .ensures)
+          (a .args .bytes .now) (a .args .value) (c .byte-with .result)
           (l .inv .1) (l .inv .2) (rw (c .before .before .bits-above .ensures) at (c .byte-with .ensures)),
     )
 

@@ -25,7 +25,13 @@ returns : tie.Need-returns
 returns c =
     let a = c .before .before .before .before .before .args in
     let fits = c .before .shared-slice-known3 .given in
-    omega (arith, number-bytes-more (a .bytes .now) (a .q) 1 1 (omega arith), number-byte (a .bytes .now) (a .q) (omega arith) (fits (a .q) .fits), number-byte (a .bytes .now) (a .q + 1) (omega arith) (fits (a .q + 1) .fits))
+    omega (
+      arith,
+      number-bytes-more (a .bytes .now) (a .q) 1 1 (omega arith),
+      number-byte (a .bytes .now) (a .q) (omega arith)
+          (fits (a .q) .fits),
+      number-byte (a .bytes .now) (a .q + 1) (omega arith) (fits (a .q + 1) .fits),
+    )
 
 pub with-two-spec : {M : Type 1} → statement M
 with-two-spec =

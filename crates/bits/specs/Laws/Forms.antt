@@ -13,7 +13,8 @@ use Rattle.bits.specs.Laws.Numbers.{all-bits-append, all-bits-drop, all-
 pub form-append : (a b : List Field) → fieldBits (a ++ b) ≡ fieldBits a ++ fieldBits b
 unfolding fieldBits
 form-append [] b = refl
-form-append (f ∷ a) b = ap (λ (x : List ℕ). bitsOf (f .width) (f .value) ++ x) (form-append a b) ∙ sym (append-assoc (bitsOf (f .width) (f .value)) (fieldBits a) (fieldBits b))
+form-append (f ∷ a) b =
+    ap (λ (x : List ℕ). bitsOf (f .width) (f .value) ++ x) (form-append a b) ∙ sym (append-assoc (bitsOf (f .width) (f .value)) (fieldBits a) (fieldBits b))
 
 pub all-bits-form : (fs : List Field) → AllBits (fieldBits fs)
 unfolding fieldBits

@@ -65,4 +65,5 @@ pub listed-add : (f : ℕ → ℕ) (a b : ℕ) → listed f (a + b) ≡ listed f
 unfolding listed
 listed-add f a zero = ap (listed f) (add-zero a) ∙ sym (append-nil (listed f a))
 listed-add f a (suc b) =
-    ap (listed f) (add-suc a b) ∙ ap (λ (l : List ℕ). l ++ (f (a + b) ∷ [])) (listed-add f a b) ∙ append-assoc (listed f a) (listed (λ k. f (a + k)) b) (f (a + b) ∷ [])
+    ap (listed f) (add-suc a b) ∙ ap (λ (l : List ℕ). l ++ (f (a + b) ∷ [])) (listed-add f a b)
+    ∙ append-assoc (listed f a) (listed (λ k. f (a + k)) b) (f (a + b) ∷ [])

@@ -2,7 +2,8 @@
 use mathlib.Core.List.{List, [], _++_, _∷_}
 use mathlib.Core.Path.{ap, ap₂, refl, subst, sym, _∙_, _≡_}
 use Prim.Native.Nat.{suc, zero, ℕ, _%_, _*_, _+_, _/_, _<_, _^_}
-use native.Mathlib.Nat.{add-assoc, add-comm, add-mul, add-mul-div-right, mod-eq-of-lt, mod-lt, mod-one, mul-add-mod-self-right, mul-assoc, mul-comm, pow-suc, suc-add, zero-add, zero-mul}
+use native.Mathlib.Nat.{add-assoc, add-comm, add-mul, add-mul-div-right, mod-eq-of-lt, mod-lt, mod-one}
+use native.Mathlib.Nat.{mul-add-mod-self-right, mul-assoc, mul-comm, pow-suc, suc-add, zero-add, zero-mul}
 use native.Mathlib.Omega.{arith}
 use lib.Arith.{digits-lt}
 use lib.ListN.{drop, length, length-append, take}
@@ -22,7 +23,9 @@ bitsOf-low (suc w) a c =
     let e : a * 2 ^ suc w + c ≡ a * 2 * 2 ^ w + c =
     ap (λ (x : ℕ). x + c) (ap (λ (x : ℕ). a * x) (pow-suc 2 w ∙ mul-comm (2 ^ w) 2) ∙ sym (mul-assoc a 2 (2 ^ w))) in
     rw e (ap₂ {C = List ℕ} (λ (x : ℕ) (l : List ℕ). x ∷ l)
-    (ap (λ (x : ℕ). x % 2) (ap (λ (x : ℕ). x / 2 ^ w) (add-comm (a * 2 * 2 ^ w) c) ∙ add-mul-div-right c (a * 2) (pow-pos w) ∙ add-comm (c / 2 ^ w) (a * 2)) ∙ mul-add-mod-self-right a 2 (c / 2 ^ w))
+    (ap (λ (x : ℕ). x % 2)
+    (ap (λ (x : ℕ). x / 2 ^ w) (add-comm (a * 2 * 2 ^ w) c) ∙ add-mul-div-right c (a * 2) (pow-pos w) ∙ add-comm (c / 2 ^ w) (a * 2))
+    ∙ mul-add-mod-self-right a 2 (c / 2 ^ w))
     (bitsOf-low w (a * 2) c))
 
 -- a field is its upper bits, then its lower bits

@@ -19,11 +19,13 @@ length-fields w [] = sym (mul-zero w)
 length-fields w (v ∷ vs) = omega (arith, length-append (bitsOf w v) (fieldBits (fieldsOf w vs)), length-bitsOf w v, length-fields w vs, mul-suc w (length vs))
 
 -- field k of them
-pub field-at : (w : ℕ) (a vs r : List ℕ) (position k : ℕ) → length a ≡ position → k < length vs → part (a ++ (fieldBits (fieldsOf w vs) ++ r)) (position + w * k) w ≡ bitsOf w (getD vs k 0)
+pub field-at : (w : ℕ) (a vs r : List ℕ) (position k : ℕ) → length a ≡ position → k < length vs
+    → part (a ++ (fieldBits (fieldsOf w vs) ++ r)) (position + w * k) w ≡ bitsOf w (getD vs k 0)
 unfolding fieldBits
 field-at w a [] r position k e h = absurd (omega arith)
 field-at w a (v ∷ vs) r position zero e h =
-    rw (mul-zero, add-zero, append-assoc (bitsOf w v) (fieldBits (fieldsOf w vs)) r) (part-cut a (bitsOf w v) (fieldBits (fieldsOf w vs) ++ r) position w e (length-bitsOf w v))
+    rw (mul-zero, add-zero, append-assoc (bitsOf w v) (fieldBits (fieldsOf w vs)) r)
+    (part-cut a (bitsOf w v) (fieldBits (fieldsOf w vs) ++ r) position w e (length-bitsOf w v))
 field-at w a (v ∷ vs) r position (suc k) e h =
     let x = bitsOf w v in
     ap₂ (λ (l : List ℕ) (p : ℕ). part l p w)
@@ -32,7 +34,8 @@ field-at w a (v ∷ vs) r position (suc k) e h =
     ∙ field-at w (a ++ x) vs r (position + w) k (omega (arith, length-append a x, length-bitsOf w v)) (omega arith)
 
 -- its value, where it fits the width
-pub field-value : (w : ℕ) (a vs r : List ℕ) (position k : ℕ) → length a ≡ position → k < length vs → getD vs k 0 < 2 ^ w → fieldValue (a ++ (fieldBits (fieldsOf w vs) ++ r)) position w k ≡ getD vs k 0
+pub field-value : (w : ℕ) (a vs r : List ℕ) (position k : ℕ) → length a ≡ position → k < length vs → getD vs k 0 < 2 ^ w
+    → fieldValue (a ++ (fieldBits (fieldsOf w vs) ++ r)) position w k ≡ getD vs k 0
 unfolding fieldValue
 field-value w a vs r position k e h l = ap valueOf (field-at w a vs r position k e h) ∙ value-bits w (getD vs k 0) l
 

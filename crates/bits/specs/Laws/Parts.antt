@@ -23,13 +23,16 @@ part-more l position n s = take-add n s (drop position l) ∙ ap (λ (x : List �
 pub over-at-cut : (a m b : List ℕ) (position : ℕ) (k : List ℕ) → length a ≡ position → length m ≡ length k → overAt (a ++ (m ++ b)) position k ≡ a ++ (k ++ b)
 unfolding overAt
 over-at-cut a m b position k ha hm =
-    let e : drop (position + length k) (a ++ (m ++ b)) ≡ b = sym (drop-drop (length k) position (a ++ (m ++ b))) ∙ rw (drop-at a (m ++ b) position ha) (drop-at m b (length k) hm) in
+    let e : drop (position + length k) (a ++ (m ++ b)) ≡ b = sym (drop-drop (length k) position (a ++ (m ++ b)))
+    ∙ rw (drop-at a (m ++ b) position ha) (drop-at m b (length k) hm) in
     rw (take-at a (m ++ b) position ha, e)
 
 -- l is what stands before, at and behind a part
 pub part-around : (l : List ℕ) (position w : ℕ) → l ≡ take position l ++ (part l position w ++ drop (position + w) l)
 unfolding part
-part-around l position w = sym (ap (λ (x : List ℕ). take position l ++ (take w (drop position l) ++ x)) (sym (drop-drop w position l)) ∙ ap (λ (x : List ℕ). take position l ++ x) (take-append-drop w (drop position l)) ∙ take-append-drop position l)
+part-around l position w =
+    sym (ap (λ (x : List ℕ). take position l ++ (take w (drop position l) ++ x)) (sym (drop-drop w position l))
+    ∙ ap (λ (x : List ℕ). take position l ++ x) (take-append-drop w (drop position l)) ∙ take-append-drop position l)
 
 pub over-at-none : (l : List ℕ) (position : ℕ) → overAt l position [] ≡ l
 unfolding overAt
@@ -40,7 +43,8 @@ unfolding part
 part-and-rest l n w = sym (ap (λ (x : List ℕ). take w (drop n l) ++ x) (sym (drop-drop w n l)) ∙ take-append-drop w (drop n l))
 
 -- two writes, the second directly behind the first, are one
-pub over-at-twice : (l : List ℕ) (position : ℕ) (k m : List ℕ) (n : ℕ) → n ≡ position + length k → n + length m ≤ length l → overAt (overAt l position k) n m ≡ overAt l position (k ++ m)
+pub over-at-twice : (l : List ℕ) (position : ℕ) (k m : List ℕ) (n : ℕ) → n ≡ position + length k → n + length m ≤ length l
+    → overAt (overAt l position k) n m ≡ overAt l position (k ++ m)
 over-at-twice l position k m n e h =
     let a = take position l in
     let p = part l position (length k) in

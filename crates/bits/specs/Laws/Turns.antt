@@ -45,7 +45,8 @@ one-shl w h = ap (λ (x : ℕ). x % 2 ^ 64) (one-mul (2 ^ w)) ∙ mod-eq-of-lt (
 pub value-part-lt : (bs : List ℕ) (position n m : ℕ) → position + n ≤ 8 * length bs → n ≤ m → valueOf (part (bits bs) position n) < 2 ^ m
 value-part-lt bs position n m h k =
     lt-of-lt-of-le
-    (subst (λ (z : ℕ). valueOf (part (bits bs) position n) < 2 ^ z) (length-part (bits bs) position n (rw length-bits h)) (value-lt (all-bits-part position n (all-bits-bytes bs))))
+    (subst (λ (z : ℕ). valueOf (part (bits bs) position n) < 2 ^ z) (length-part (bits bs) position n (rw length-bits h))
+    (value-lt (all-bits-part position n (all-bits-bytes bs))))
     (pow-mono k)
 
 module _ (position width n s : ℕ) (bs : List ℕ) (room : FieldWithin (length bs) position width) (st : Turn ((position + n) % 8) (width - n) s) where
@@ -77,7 +78,8 @@ module _ (position width n s : ℕ) (bs : List ℕ) (room : FieldWithin (length 
       bitsOf-mod s _ ∙ ap (λ (m : ℕ). bitsOf s (x / 2 ^ m)) (omega arith) in
       let g : bitsOf n (x / 2 ^ (width - n)) ++ bitsOf s (x / 2 ^ k) ≡ bitsOf (n + s) (x / 2 ^ k) =
       sym (bitsOf-add n s (x / 2 ^ k) ∙ ap (λ (m : ℕ). bitsOf n m ++ bitsOf s (x / 2 ^ k)) (shr-shr x k s ∙ ap (λ (m : ℕ). x / 2 ^ m) (omega arith))) in
-      over-at-byte bs (position + n) ((position + n) / 8) ((position + n) % 8) s (8 - (position + n) % 8 - s) (omega arith) (omega arith) here (x / 2 ^ (width - n - s) % 2 ^ s) y e
+      over-at-byte bs (position + n) ((position + n) / 8) ((position + n) % 8) s (8 - (position + n) % 8 - s) (omega arith) (omega arith) here
+      (x / 2 ^ (width - n - s) % 2 ^ s) y e
       ∙ ap₂ (λ (l m : List ℕ). overAt l (position + n) m) i f
       ∙ over-at-twice (bits bs₀) position (bitsOf n (x / 2 ^ (width - n))) (bitsOf s (x / 2 ^ k)) (position + n)
       (rw length-bitsOf) (rw length-bitsOf (rw length-bits (omega arith)))

@@ -36,7 +36,8 @@ pub written : (old new l : List ℕ) → AllBits l → AllBytes old → AllBytes
     → bits new ≡ overAt (bits old) 0 (filled l) → new ≡ packed l ++ drop (length (packed l)) old
 written old new l b ho hn h e =
     rw (length-packed l)
-    (bits-inj new (packed l ++ drop (bytesFor (length l)) old) hn (all-bytes-append (packed l) _ (all-bytes-packed l b) (all-bytes-drop (bytesFor (length l)) old ho))
+    (bits-inj new (packed l ++ drop (bytesFor (length l)) old) hn
+    (all-bytes-append (packed l) _ (all-bytes-packed l b) (all-bytes-drop (bytesFor (length l)) old ho))
     (e ∙ over-at-front (bits old) (filled l)
     ∙ ap (λ (n : ℕ). filled l ++ drop n (bits old)) (length-filled l)
     ∙ ap₂ (λ (x y : List ℕ). x ++ y) (sym (bits-packed l b)) (bits-drop (bytesFor (length l)) old h)

@@ -26,7 +26,8 @@ room i =
     let o = i .before .before .before .before .before .before .before .before .before .before in
     let e = o .before .before .before .before in
     let p = start e .pre in
-    chosen-few _ _ _ (formed e) (p .1) (few e) _ _ (e .before .closest .ensures) (e .near-images .ensures) _ _ (p .3) _ _ _ _ (o .choose-out .ensures) _ _ _ _ (i .choose-in .ensures)
+    chosen-few _ _ _ (formed e) (p .1) (few e) _ _ (e .before .closest .ensures) (e .near-images .ensures) _ _ (p .3) _ _ _ _
+    (o .choose-out .ensures) _ _ _ _ (i .choose-in .ensures)
 
 closest-requires : tie.Need-closest-requires
 closest-requires c κs = search needs
@@ -45,14 +46,34 @@ choose-in-requires c κs =
     let o = c .before .before .before .before .before .before .before .before .before in
     let e = o .before .before .before .before in
     let p = start e .pre in
-    let m = o .choose-out .ensures .room in
-    (p .1, few e, p .3, omega (arith, chosen-fit _ _ _ (formed e) (p .1) (few e) _ _ (e .before .closest .ensures) (e .near-images .ensures) _ _ (p .3) _ _ _ _ (o .choose-out .ensures), p .3 .rising .few), record { sides = m .sides; places = p .5; values = m .values })
+    let m = o .choose-out .ensures .room in (
+      p .1,
+      few e,
+      p .3,
+      omega (
+        arith,
+        chosen-fit _ _ _ (formed e) (p .1) (few e) _ _ (e .before .closest .ensures) (e .near-images .ensures) _ _
+            (p .3) _ _ _ _ (o .choose-out .ensures),
+        p .3 .rising .few,
+      ),
+      record { sides = m .sides; places = p .5; values = m .values },
+    )
 
 bit-alone-requires : tie.Need-bit-alone-requires
-bit-alone-requires c κs = few (c .before .before .before .before .before .before .before .before .before .before .before .before .before .before .before .before .before .before .before .before)
+bit-alone-requires c κs =
+    few
+    (c .before .before .before .before .before .before .before .before .before .before .before .before .before .before .before .before .before .before
+    .before .before)
 
 sub-sides : tie.Need-sub-sides
-sub-sides c = omega (arith, c .bit-alone .ensures, pow-pos (c .before .before .before .before .before .before .before .before .before .before .before .before .before .before .before .before .before .before .before .before .before .before .before .before .before .before .before .before .before .before .args .k))
+sub-sides c =
+    omega (
+      arith,
+      c .bit-alone .ensures,
+      pow-pos
+          (c .before .before .before .before .before .before .before .before .before .before .before .before .before .before .before .before .before .before
+          .before .before .before .before .before .before .before .before .before .before .before .before .args .k),
+    )
 
 mul-sides : tie.Need-mul-sides
 mul-sides c = omega (arith, room (c .before .before .before .before .before .before .before))
@@ -70,7 +91,8 @@ mul-best : tie.Need-mul-best
 mul-best c = omega (arith, room (c .before .before .before .before .before .before .before))
 
 slice-write-best-2 : tie.Need-slice-write-best-2
-slice-write-best-2 c = let i = c .before .before .before .before .before .before .before in simp length-set (omega (arith, room i, i .choose-in .ensures .room .values))
+slice-write-best-2 c =
+    let i = c .before .before .before .before .before .before .before in simp length-set (omega (arith, room i, i .choose-in .ensures .room .values))
 
 add-images : tie.Need-add-images
 add-images c = omega (arith, room (c .before .before .before .before .before .before .before .before))
@@ -84,28 +106,47 @@ images-requires c κs =
     let full = ap (λ x. x - 1) (c .before .before .before .bit-alone .ensures) in (
       p .0,
       p .2,
-      chosen-family _ _ _ (formed e) (p .1) (few e) _ _ (e .before .closest .ensures) (e .near-images .ensures) _ _ (p .3) _ _ _ _ (o .choose-out .ensures) _ _ _ _ (i .choose-in .ensures) _ _ _ full refl refl,
+      chosen-family _ _ _ (formed e) (p .1) (few e) _ _ (e .before .closest .ensures) (e .near-images .ensures) _ _ (p .3) _ _ _ _
+          (o .choose-out .ensures) _ _ _ _ (i .choose-in .ensures) _ _ _ full refl refl,
       p .7,
-      chosen-least _ _ _ (formed e) (p .1) (few e) _ _ (e .before .closest .ensures) (e .near-images .ensures) _ _ (p .3) _ _ _ _ (o .choose-out .ensures) _ _ _ _ (i .choose-in .ensures) _ _ _ full refl refl,
+      chosen-least _ _ _ (formed e) (p .1) (few e) _ _ (e .before .closest .ensures) (e .near-images .ensures) _ _ (p .3) _ _ _ _
+          (o .choose-out .ensures) _ _ _ _ (i .choose-in .ensures) _ _ _ full refl refl,
     )
 
 add-result : tie.Need-add-result
 add-result c = omega (arith, room (c .before .before .before .before .before .before .before .before .before .before .before .before .before .before .before))
 
 same-length : tie.Need-same-length
-same-length c = let o = c .before .before .before .before .before .before .before .before .before .before .before .before .before .before .before .before .before .before .before .before .before .before .before .before .before in o .choose-out .ensures .room .places ∙ sym (start (o .before .before .before .before) .pre .4)
+same-length c =
+    let o = c .before .before .before .before .before .before .before .before .before .before .before .before .before .before .before .before .before
+    .before .before .before .before .before .before .before .before in o .choose-out .ensures .room .places
+    ∙ sym (start (o .before .before .before .before) .pre .4)
 
 same-length-2 : tie.Need-same-length-2
-same-length-2 c = c .before .before .before .before .before .before .before .before .before .before .before .before .before .before .before .choose-in .ensures .room .places ∙ sym (c .before .before .before .before .before .before .before .before .before .before .before .before .before .before .before .before .before .before .before .before .before .before .before .before .before .before .before .before .before .before .before .before .before .before .before .before .before .before .pre .5)
+same-length-2 c =
+    c .before .before .before .before .before .before .before .before .before .before .before .before .before .before .before .choose-in .ensures .room
+    .places ∙ sym (c .before .before .before .before .before .before .before .before .before .before .before .before .before .before .before .before
+    .before .before .before .before .before .before .before .before .before .before .before .before .before .before .before .before .before .before
+    .before .before .before .before .pre .5)
 
 same-length-3 : tie.Need-same-length-3
-same-length-3 c = simp length-set (c .before .before .before .before .before .before .before .before .before .before .before .before .before .before .before .choose-in .ensures .room .sides ∙ sym (c .before .before .before .before .before .before .before .before .before .before .before .before .before .before .before .before .before .before .before .before .before .before .before .before .before .before .before .before .before .before .before .before .before .before .before .before .before .before .pre .6))
+same-length-3 c =
+    simp length-set
+    (c .before .before .before .before .before .before .before .before .before .before .before .before .before .before .before .choose-in .ensures .room
+    .sides ∙ sym (c .before .before .before .before .before .before .before .before .before .before .before .before .before .before .before .before
+    .before .before .before .before .before .before .before .before .before .before .before .before .before .before .before .before .before .before
+    .before .before .before .before .pre .6))
 
 same-length-4 : tie.Need-same-length-4
 same-length-4 c = c .before .before .before .before .images .kept .1 .1 .1 .1 .1 .0
 
 same-length-5 : tie.Need-same-length-5
-same-length-5 c = c .before .before .before .before .images .ensures .room ∙ sym (c .before .before .before .before .before .before .before .before .before .before .before .before .before .before .before .before .before .before .before .before .before .before .before .before .before .before .before .before .before .before .before .before .before .before .before .before .before .before .pre .8)
+same-length-5 c =
+    c .before .before .before .before .images .ensures .room
+    ∙ sym
+    (c .before .before .before .before .before .before .before .before .before .before .before .before .before .before .before .before .before .before
+    .before .before .before .before .before .before .before .before .before .before .before .before .before .before .before .before .before .before
+    .before .before .pre .8)
 
 returns : tie.Need-returns
 returns c =
@@ -114,30 +155,13 @@ returns c =
     let o = i .before .before .before .before .before .before .before .before .before .before in
     let e = o .before .before .before .before in
     let p = start e .pre in
-    answered _ _ _ (formed e) (p .1) (few e) _ _ (e .before .closest .ensures) (e .near-images .ensures) _ _ (p .3) _ _ _ _ (o .choose-out .ensures) _ _ _ _ (i .choose-in .ensures) _ _ _ (ap (λ x. x - 1) (y .bit-alone .ensures)) refl refl _ (c .before .before .before .before .images .ensures)
+    answered _ _ _ (formed e) (p .1) (few e) _ _ (e .before .closest .ensures) (e .near-images .ensures) _ _ (p .3) _ _ _ _
+    (o .choose-out .ensures) _ _ _ _ (i .choose-in .ensures) _ _ _ (ap (λ x. x - 1) (y .bit-alone .ensures)) refl refl _
+    (c .before .before .before .before .images .ensures)
 
 pub brought-spec : {M : Type 1} → statement M
 brought-spec =
     tie.close
-    (tie.spec
-    closest-requires
-    near-images-requires
-    choose-out-requires
-    choose-in-requires
-    bit-alone-requires
-    sub-sides
-    mul-sides
-    slice-write-sides
-    slice-write-best
-    add-best
-    mul-best
-    slice-write-best-2
-    add-images
-    images-requires
-    add-result
-    same-length
-    same-length-2
-    same-length-3
-    same-length-4
-    same-length-5
-    returns)
+    (tie.spec closest-requires near-images-requires choose-out-requires choose-in-requires bit-alone-requires sub-sides mul-sides slice-write-sides
+    slice-write-best add-best mul-best slice-write-best-2 add-images images-requires add-result same-length same-length-2 same-length-3 same-length-4
+    same-length-5 returns)

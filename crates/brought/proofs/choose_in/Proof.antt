@@ -69,8 +69,13 @@ loop-again : tie.Need-loop-again Inv-loop μ-loop
 loop-again c =
     let l = c .before .before .before .before .before .before .before .before .before .before .before .before in
     let p = start l .pre in
-    let a = start l .args in
-    (omega (arith, row l), ins-more _ _ _ _ _ _ _ _ _ _ _ _ _ (p .0) (p .2) (row l) (p .3) (gone l) (ap (λ x. x - 1 - getD (a .fars .now) (l .before .loop .i - 1) 0) (l .before .before .bit-alone .ensures)) (c .before .before .before .before .before .before .before .before .before .before .goes-in .ensures) (c .before .before .before .before .before .before .store .ensures))
+    let a = start l .args in (
+      omega (arith, row l),
+      ins-more _ _ _ _ _ _ _ _ _ _ _ _ _ (p .0) (p .2) (row l) (p .3) (gone l)
+          (ap (λ x. x - 1 - getD (a .fars .now) (l .before .loop .i - 1) 0) (l .before .before .bit-alone .ensures))
+          (c .before .before .before .before .before .before .before .before .before .before .goes-in .ensures)
+          (c .before .before .before .before .before .before .store .ensures),
+    )
 
 same-length : tie.Need-same-length Inv-loop μ-loop
 same-length c = c .before .loop .inv .1 .room .sides ∙ sym (c .before .before .before .before .before .before .before .pre .4 .sides)

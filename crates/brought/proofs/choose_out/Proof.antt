@@ -34,8 +34,13 @@ store-requires : tie.Need-store-requires Inv-loop μ-loop
 store-requires c κs =
     let l = c .before .before .before .before .before in
     let p = start l .pre in
-    let o = l .before .loop in
-    (p .1 .some (o .i) (l .loop-test .taken), outs-few _ _ _ _ _ _ _ _ _ _ (p .1) (l .loop-test .taken) (o .inv .1), omega (arith, l .loop-test .taken, p .1 .few), o .inv .1 .room)
+    let o = l .before .loop in (
+      p .1 .some (o .i) (l .loop-test .taken),
+      outs-few _ _ _ _ _ _ _ _ _ _ (p .1) (l .loop-test .taken) (o .inv .1),
+      omega
+          (arith, l .loop-test .taken, p .1 .few),
+      o .inv .1 .room,
+    )
 
 add-i : tie.Need-add-i Inv-loop μ-loop
 add-i c = search needs
@@ -45,8 +50,12 @@ loop-less c = search needs
 
 loop-again : tie.Need-loop-again Inv-loop μ-loop
 loop-again c =
-    let l = c .before .before .before .before .before .before .before .before .before .before .before .before in
-    (search needs, outs-more _ _ _ _ _ _ _ _ _ _ (start l .pre .1) (l .loop-test .taken) (l .before .loop .inv .1) (rw (c .before .before .before .before .before .before .before .before .before .before .goes-out .ensures) at (c .before .before .before .before .before .before .store .ensures)))
+    let l = c .before .before .before .before .before .before .before .before .before .before .before .before in (
+      search needs,
+      outs-more _ _ _ _ _ _ _ _ _ _ (start l .pre .1) (l .loop-test .taken) (l .before .loop .inv .1)
+          (rw (c .before .before .before .before .before .before .before .before .before .before .goes-out .ensures) at
+          (c .before .before .before .before .before .before .store .ensures)),
+    )
 
 same-length : tie.Need-same-length Inv-loop μ-loop
 same-length c = c .before .loop .inv .1 .room .sides ∙ sym (c .before .before .before .before .before .before .pre .2 .sides)

@@ -42,12 +42,14 @@ alone-is S p f e =
     none : bitAnd S (S - 1) ≡ 0
     none = eqb-true (bitAnd S (S - 1)) 0 e
 
-    go : (i : ℕ) → ((i ≡ trailingZeros 64 S) × (bit (bitAnd S (S - 1)) i ≡ 0)) ⊎ ((i ≡ trailingZeros 64 S → ⊥) × (bit (bitAnd S (S - 1)) i ≡ bit S i)) → bit S i ≡ bit (2 ^ trailingZeros 64 S) i
+    go : (i : ℕ) → ((i ≡ trailingZeros 64 S) × (bit (bitAnd S (S - 1)) i ≡ 0)) ⊎ ((i ≡ trailingZeros 64 S → ⊥) × (bit (bitAnd S (S - 1)) i ≡ bit S i))
+        → bit S i ≡ bit (2 ^ trailingZeros 64 S) i
     go i (inl r) = rw (r .0) (lowest-one 64 S p f .1 ∙ sym (bit-pow (trailingZeros 64 S)))
     go i (inr r) = sym (r .1) ∙ ap (λ (m : ℕ). bit m i) none ∙ bit-none i ∙ sym (bit-pow-other (trailingZeros 64 S) i (λ q. r .0 (sym q)))
 
 -- the value at a side's place
-valued : (L : ℕ) (d : ℕ → ℕ → ℕ) (k m : ℕ) (B best : List ℕ) → k < 64 → m ≤ 128 → Brought L d k B m best → {i : ℕ} {live : Bool} {A x : ℕ} → i ≤ m → 0 < A → A < 2 ^ k
+valued : (L : ℕ) (d : ℕ → ℕ → ℕ) (k m : ℕ) (B best : List ℕ) → k < 64 → m ≤ 128 → Brought L d k B m best → {i : ℕ} {live : Bool} {A x : ℕ} → i ≤ m
+    → 0 < A → A < 2 ^ k
     → (live ≡ false → broughtFast L d k (bit A) ≤ 2 * L) → Slot i B live A x → (x < 192) × (getD best x 0 - 2 * L ≡ broughtFast L d k (bit A) - 2 * L)
 valued L d k m B best few most v {i} {live} {A} g p f dead (by-image e t) =
     let h = lowest-below k A 0 p f (omega arith) in
@@ -57,7 +59,8 @@ valued L d k m B best few most v g p f dead (stored j e l t) =
     (omega arith, ap (λ m. m - 2 * L) (ap (λ m. getD best m 0) e ∙ v .sides j (omega arith) ∙ ap (λ (m : ℕ). broughtFast L d k (bit m)) t))
 valued L d k m B best few most v g p f dead (nowhere e t) = (omega arith, omega (arith, ap (λ m. getD best m 0) e, v .none, dead t))
 
-module _ (L : ℕ) (d : ℕ → ℕ → ℕ) (k : ℕ) (w : WellFormed L d (suc k)) (g : 1 ≤ k) (few : k < 64) (b N : ℕ) (p : Closest d k k b) (q : NearImages d k b k N) (f : List ℕ) (count : ℕ) (r : Rowed k f count) where
+module _ (L : ℕ) (d : ℕ → ℕ → ℕ) (k : ℕ) (w : WellFormed L d (suc k)) (g : 1 ≤ k) (few : k < 64) (b N : ℕ) (p : Closest d k k b)
+    (q : NearImages d k b k N) (f : List ℕ) (count : ℕ) (r : Rowed k f count) where
   -- b is a near image, where there is a row
   near-row : 0 < count → bit N b ≡ 1
   near-row h = near-b L d k w b N p q (b-below L d k w b N p q (getD f 0 0) (r .far 0 h))
@@ -76,7 +79,9 @@ module _ (L : ℕ) (d : ℕ → ℕ → ℕ) (k : ℕ) (w : WellFormed L d (suc 
         last-same : Same m B best B′ best′
         last-same = record {
           sides = λ j h. ap (λ l. getD l j 0) eb ∙ getD-set-other B m j full 0 (λ e. omega arith);
-          values = λ j h. ap (λ l. getD l (64 + j) 0) ev ∙ getD-set-other (set best 63 0) (64 + m) (64 + j) (4 * L) 0 (λ e. omega arith) ∙ getD-set-other best 63 (64 + j) 0 0 (λ e. omega arith);
+          values =
+              λ j h. ap (λ l. getD l (64 + j) 0) ev ∙ getD-set-other (set best 63 0) (64 + m) (64 + j) (4 * L) 0 (λ e. omega arith)
+              ∙ getD-set-other best 63 (64 + j) 0 0 (λ e. omega arith);
         }
 
         front-same : Same low B₀ best₀ B′ best′
@@ -95,7 +100,9 @@ module _ (L : ℕ) (d : ℕ → ℕ → ℕ) (k : ℕ) (w : WellFormed L d (suc 
         whole = ap (λ l. getD l m 0) eb ∙ getD-set-same B m full 0 (omega (arith, i .room .sides, chosen-few)) ∙ ef
 
         pub chosen-family : Family k B′ (m + 1)
-        chosen-family = rw add-one (family L k b N f count low m B′ outs ins best′ r near-row out-made in-made whole (rw eb (simp length-set (i .room .sides))) (omega (arith, chosen-few)))
+        chosen-family =
+            rw add-one (family L k b N f count low m B′ outs ins best′ r near-row out-made in-made whole (rw eb (simp length-set (i .room .sides)))
+            (omega (arith, chosen-few)))
 
         pub chosen-least : Least L d k B′ (m + 1) 0 best′
         unfolding leastOn
@@ -103,19 +110,24 @@ module _ (L : ℕ) (d : ℕ → ℕ → ℕ) (k : ℕ) (w : WellFormed L d (suc 
           sides = λ j h. cases (ltb j low) (λ e. out-made .caps j (omega arith) (ltb-true j low e))
               (λ e. cases (eqb j m) (λ t. rw (eqb-true j m t) last-value) (λ t. in-made .caps j (ltb-false j low e) (omega (arith, eqb-false j m t))));
           owns = λ y h. absurd (omega arith);
-          none = ap (λ l. getD l 63 0) ev ∙ getD-set-other (set best 63 0) (64 + m) 63 (4 * L) 0 (λ e. omega arith) ∙ getD-set-same best 63 0 0 (omega (arith, i .room .values));
+          none =
+              ap (λ l. getD l 63 0) ev ∙ getD-set-other (set best 63 0) (64 + m) 63 (4 * L) 0 (λ e. omega arith)
+              ∙ getD-set-same best 63 0 0 (omega (arith, i .room .values));
           room = rw ev (simp length-set (i .room .values));
         }
           where
             last-value : getD best′ (64 + m) 0 ≡ 4 * L
-            last-value = ap (λ l. getD l (64 + m) 0) ev ∙ getD-set-same (set best 63 0) (64 + m) (4 * L) 0 (simp length-set (omega (arith, i .room .values, chosen-few)))
+            last-value =
+                ap (λ l. getD l (64 + m) 0) ev ∙ getD-set-same (set best 63 0) (64 + m) (4 * L) 0 (simp length-set (omega (arith, i .room .values, chosen-few)))
 
         pub answered : (last : List ℕ) → Brought L d k B′ (m + 1) last → Answered L d k f count (64 + m) outs ins last
         answered last v = record {
           outside = record { place = λ j h. out j h .0; value = λ j h. out j h .1 };
           inside = record { place = λ j h. inn j h .0; value = λ j h. inn j h .1 };
           own-place = omega (arith, chosen-few);
-          own = v .sides m (omega arith) ∙ ap (λ (x : ℕ). broughtFast L d k (bit x)) (whole ∙ omega arith) ∙ sym (fast-rest L d k 0 (pow-pos k)) ∙ ap (λ (x : ℕ). broughtFast L d k (bit x)) (omega arith);
+          own =
+              v .sides m (omega arith) ∙ ap (λ (x : ℕ). broughtFast L d k (bit x)) (whole ∙ omega arith) ∙ sym (fast-rest L d k 0 (pow-pos k))
+              ∙ ap (λ (x : ℕ). broughtFast L d k (bit x)) (omega arith);
           room = v .room;
         }
           where
@@ -126,10 +138,12 @@ module _ (L : ℕ) (d : ℕ → ℕ → ℕ) (k : ℕ) (w : WellFormed L d (suc 
             out j h =
                 let t = r .far j h in
                 let z : 0 + getD f j 0 ≡ getD f j 0 = omega arith in
-                rw z (valued L d k (m + 1) B′ last few most v (omega (arith, in-made .order)) (t .some) (t .fits) (out-dead L d k w b N p q (getD f j 0) t) (out-made .slot j (omega arith) h))
+                rw z (valued L d k (m + 1) B′ last few most v (omega (arith, in-made .order)) (t .some) (t .fits) (out-dead L d k w b N p q (getD f j 0) t)
+                (out-made .slot j (omega arith) h))
 
             inn : (j : ℕ) → j < count → (getD ins j 0 < 192) × (getD last (getD ins j 0) 0 - 2 * L ≡ broughtFast L d k (bit (2 ^ k + getD f j 0)) - 2 * L)
             inn j h =
                 let t = r .far j h in
                 let e = fast-rest L d k (getD f j 0) (t .fits) in
-                rw e (valued L d k (m + 1) B′ last few most v (omega arith) (rest-some k (getD f j 0) t g) (rest-lt k (getD f j 0)) (λ l. omega (arith, in-dead L d k w b N p q (getD f j 0) t l)) (in-made .slot j (omega arith) h))
+                rw e (valued L d k (m + 1) B′ last few most v (omega arith) (rest-some k (getD f j 0) t g) (rest-lt k (getD f j 0))
+                (λ l. omega (arith, in-dead L d k w b N p q (getD f j 0) t l)) (in-made .slot j (omega arith) h))

@@ -34,7 +34,9 @@ both-ways b N S n o i = go (or-cases (eqb (bit S b) 0) (eqb (bitAnd S N) S) o)
 module _ (k b N : ℕ) (f : List ℕ) (n : bit N b ≡ 1) where
   -- one side of a row that is not the near images
   one : (i : ℕ) → (getD f i 0 ≡ N → ⊥) → one-if (taken (outLive b N f i) (outSide f i)) + one-if (taken (inLive N f i) (inSide k f i)) ≤ 1
-  one i o = go (one-if (taken (outLive b N f i) (outSide f i))) (one-if (taken (inLive N f i) (inSide k f i))) (took (outLive b N f i) (outSide f i)) (took (inLive N f i) (inSide k f i))
+  one i o =
+      go (one-if (taken (outLive b N f i) (outSide f i))) (one-if (taken (inLive N f i) (inSide k f i))) (took (outLive b N f i) (outSide f i))
+      (took (inLive N f i) (inSide k f i))
     where
       go : (x y : ℕ) → Took x (outLive b N f i) (outSide f i) → Took y (inLive N f i) (inSide k f i) → x + y ≤ 1
       go x y (put e l a) (put g m c) = absurd (o (both-ways b N (getD f i 0) n l m))
@@ -47,12 +49,19 @@ module _ (k b N : ℕ) (f : List ℕ) (n : bit N b ≡ 1) where
   few-none zero o = omega arith
   few-none (suc i) o = omega (arith, few-none i (λ j h. o j (omega arith)), one i (o i (omega arith)))
 
-  few-both : (count : ℕ) → ((i j : ℕ) → i < j → j < count → getD f i 0 < getD f j 0) → storedOf (outSide f) (outLive b N f) count + storedOf (inSide k f) (inLive N f) count ≤ count + 1
+  few-both : (count : ℕ) → ((i j : ℕ) → i < j → j < count → getD f i 0 < getD f j 0)
+      → storedOf (outSide f) (outLive b N f) count + storedOf (inSide k f) (inLive N f) count ≤ count + 1
   unfolding storedOf
   few-both zero up = omega arith
   few-both (suc i) up =
       cases (eqb (getD f i 0) N)
-      (λ e. omega (arith, few-none i (λ j h t. omega (arith, up j i h (omega arith), eqb-true (getD f i 0) N e)), one-most (outSide f) (outLive b N f) i, one-most (inSide k f) (inLive N f) i))
+      (λ e. omega (
+        arith,
+        few-none i (λ j h t. omega (arith, up j i h (omega arith), eqb-true (getD f i 0) N e)),
+        one-most (outSide f)
+            (outLive b N f) i,
+        one-most (inSide k f) (inLive N f) i,
+      ))
       (λ e. omega (arith, few-both i (λ j l h g. up j l h (omega arith)), one i (eqb-false (getD f i 0) N e)))
 
 -- where there is no row, there need be no near image either

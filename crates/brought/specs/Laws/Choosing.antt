@@ -51,17 +51,24 @@ same-none m B best = record { sides = λ j h. refl; values = λ j h. refl }
 
 module _ (L b N : ℕ) (f : List ℕ) where
   pub outs-none : (B outs best : List ℕ) → Room B outs best → Outs L b N f 0 0 B outs best
-  outs-none B outs best r = record { room = r; counted = sym (of-none (outSide f) (outLive b N f)); made = stored-none L (outSide f) (outLive b N f) 0 0 B outs best }
+  outs-none B outs best r = record {
+    room = r;
+    counted = sym (of-none (outSide f) (outLive b N f));
+    made = stored-none L (outSide f) (outLive b N f) 0 0 B outs best;
+  }
 
   module _ (count i m : ℕ) (B outs best : List ℕ) (c : Rising f count) (h : i < count) (o : Outs L b N f i m B outs best) where
     pub outs-few : m < 128
     outs-few = omega (arith, o .counted, of-most (outSide f) (outLive b N f) i, c .few)
 
-    pub outs-more : {r : ℕ} {B′ outs′ best′ : List ℕ} → Put L (outLive b N f i) (getD f i 0) m i B outs best r B′ outs′ best′ → Outs L b N f (i + 1) r B′ outs′ best′
+    pub outs-more : {r : ℕ} {B′ outs′ best′ : List ℕ} → Put L (outLive b N f i) (getD f i 0) m i B outs best r B′ outs′ best′
+        → Outs L b N f (i + 1) r B′ outs′ best′
     outs-more {r} {B′} {outs′} {best′} u = record {
       room = put-room L (outLive b N f i) (getD f i 0) m i B outs best r B′ outs′ best′ (o .room) outs-few few u;
       counted = u .counted ∙ omega (arith, o .counted, of-more (outSide f) (outLive b N f) i);
-      made = stored-more L (outLive b N f i) (getD f i 0) m i B outs best r B′ outs′ best′ (o .room) outs-few few u (outSide f) (outLive b N f) 0 i 0 (i + 1) 0 refl refl
+      made =
+          stored-more L (outLive b N f i) (getD f i 0) m i B outs best r B′ outs′ best′ (o .room) outs-few few u (outSide f) (outLive b N f) 0 i 0
+          (i + 1) 0 refl refl
           (omega arith) (omega arith) (omega arith, omega arith) (λ j x y e. (omega arith, omega arith)) (λ j x y. (c .up j i y h, λ e. omega arith)) (o .made);
     }
       where
@@ -82,7 +89,8 @@ module _ (L k N : ℕ) (f : List ℕ) (count low : ℕ) (B₀ best₀ : List ℕ
     pub ins-some : 0 < inSide k f i
     ins-some = rest-some k (getD f i 0) (c .far i h) g
 
-    pub ins-more : {r s : ℕ} {live : Bool} {B′ ins′ best′ : List ℕ} → s ≡ inSide k f i → live ≡ inLive N f i → Put L live s m i B ins best r B′ ins′ best′ → Ins L k N f i count low r B₀ best₀ B′ ins′ best′
+    pub ins-more : {r s : ℕ} {live : Bool} {B′ ins′ best′ : List ℕ} → s ≡ inSide k f i → live ≡ inLive N f i → Put L live s m i B ins best r B′ ins′ best′
+        → Ins L k N f i count low r B₀ best₀ B′ ins′ best′
     ins-more {r} {s} {live} {B′} {ins′} {best′} es el u = record {
       room = put-room L live s m i B ins best r B′ ins′ best′ (o .room) ins-few few u;
       counted = omega (arith, u .counted ∙ ap₂ (λ l x. m + one-if (taken l x)) el es, o .counted, of-more (inSide k f) (inLive N f) i);
@@ -90,7 +98,8 @@ module _ (L k N : ℕ) (f : List ℕ) (count low : ℕ) (B₀ best₀ : List ℕ
           (omega arith) (omega arith) (omega arith, h) (λ j x y e. (omega arith, y)) (λ j x y. (rw es (less j x y), λ e. omega arith)) (o .made);
       same = record {
         sides = λ j l. put-same L live s m i B ins best r B′ ins′ best′ (o .room) ins-few few u .sides j (omega (arith, o .made .order)) ∙ o .same .sides j l;
-        values = λ j l. put-same L live s m i B ins best r B′ ins′ best′ (o .room) ins-few few u .values j (omega (arith, o .made .order)) ∙ o .same .values j l;
+        values =
+            λ j l. put-same L live s m i B ins best r B′ ins′ best′ (o .room) ins-few few u .values j (omega (arith, o .made .order)) ∙ o .same .values j l;
       };
     }
       where

@@ -41,7 +41,8 @@ rows-within k S R f g (inr (inl w)) l z s r y = absurd (omega (arith, bits-le k 
 rows-within k S R f g (inr (inr w)) l z s r y = absurd (omega (arith, holds-false R z (w z (one-below S k z f s) (bit-holds S z s))))
 
 -- a row S with image k outside and a row R with it inside: what S holds R does not, where S holds something that R does not
-rows-apart : (k b N S R : ℕ) → S < 2 ^ k → R < 2 ^ k → bit N b ≡ 1 → Nested k S R → goesOut b N S ≡ true → goesIn N R ≡ true → (z : ℕ) → bit S z ≡ 1 → bit R z ≡ 0
+rows-apart : (k b N S R : ℕ) → S < 2 ^ k → R < 2 ^ k → bit N b ≡ 1 → Nested k S R → goesOut b N S ≡ true → goesIn N R ≡ true → (z : ℕ) → bit S z ≡ 1
+    → bit R z ≡ 0
     → (y : ℕ) → bit S y ≡ 1 → bit R y ≡ 0
 rows-apart k b N S R f g n (inl w) o i z s r y t = absurd (omega (arith, within-bits k S R f w z))
 rows-apart k b N S R f g n (inr (inl w)) o i z s r y t = absurd (go (or-cases (eqb (bit S b) 0) (eqb (bitAnd S N) S) o))
@@ -55,7 +56,8 @@ rows-apart k b N S R f g n (inr (inl w)) o i z s r y t = absurd (go (or-cases (e
 rows-apart k b N S R f g n (inr (inr w)) o i z s r y t = holds-false R y (w y (one-below S k y f t) (bit-holds S y t))
 
 module _ (L k b N : ℕ) (f : List ℕ) (count low m : ℕ) (B outs ins best : List ℕ) (r : Rowed k f count) (n : 0 < count → bit N b ≡ 1)
-    (l : Stored L (outSide f) (outLive b N f) 0 count 0 low B outs best) (h : Stored L (inSide k f) (inLive N f) 0 count low m B ins best) (whole : getD B m 0 ≡ 2 ^ k - 1) where
+    (l : Stored L (outSide f) (outLive b N f) 0 count 0 low B outs best) (h : Stored L (inSide k f) (inLive N f) 0 count low m B ins best)
+    (whole : getD B m 0 ≡ 2 ^ k - 1) where
   -- the side at place j: a row, what a row does not hold, or the whole
   data Kind (j : ℕ) : Type 0 where
     front : j < low → Kind j
@@ -84,7 +86,12 @@ module _ (L k b N : ℕ) (f : List ℕ) (count low m : ℕ) (B outs ins best : L
       let s′ = rw (a .3) at s in
       let u′ = rw (e .3) at u in
       let v′ = rw (a .3) at v in
-      rw (e .3) (omega (arith, bit-lt (getD f (e .0) 0) y, rows-within k (getD f (a .0) 0) (getD f (e .0) 0) (r .far (a .0) (a .2) .fits) (r .far (e .0) (e .2) .fits) (r .nested (a .0) (e .0) (a .2) (e .2)) x z s′ u′ y))
+      rw (e .3) (omega (
+        arith,
+        bit-lt (getD f (e .0) 0) y,
+        rows-within k (getD f (a .0) 0) (getD f (e .0) 0) (r .far (a .0) (a .2) .fits)
+            (r .far (e .0) (e .2) .fits) (r .nested (a .0) (e .0) (a .2) (e .2)) x z s′ u′ y,
+      ))
   grows i j z y (front g) (back t c) q s u v =
       let a = l .from i (omega arith) g in
       let e = h .from j t c in
@@ -96,7 +103,12 @@ module _ (L k b N : ℕ) (f : List ℕ) (count low m : ℕ) (B outs ins best : L
       let fs = r .far (a .0) (a .2) .fits in
       let fr = r .far (e .0) (e .2) .fits in
       let zr : bit R z ≡ 0 = omega (arith, bit-rest k R z fr (one-below S k z fs s′)) in
-      rw (e .3) (omega (arith, bit-rest k R y fr (one-below S k y fs v′), rows-apart k b N S R fs fr (n (omega (arith, a .2))) (r .nested (a .0) (e .0) (a .2) (e .2)) (a .4) (e .4) z s′ zr y v′))
+      rw (e .3) (omega (
+        arith,
+        bit-rest k R y fr (one-below S k y fs v′),
+        rows-apart k b N S R fs fr (n (omega (arith, a .2)))
+            (r .nested (a .0) (e .0) (a .2) (e .2)) (a .4) (e .4) z s′ zr y v′,
+      ))
   grows i j z y (back g p) (front t) q s u v = absurd (omega arith)
   grows i j z y (back g p) (back t c) q s u v =
       let a = h .from i g p in
@@ -112,7 +124,9 @@ module _ (L k b N : ℕ) (f : List ℕ) (count low m : ℕ) (B outs ins best : L
       let nb = n (omega (arith, a .2)) in
       let bs : bit S b ≡ 1 = omega (arith, bit-and b S N, ap (λ (w : ℕ). bit w b) (eqb-true (bitAnd S N) N (a .4)), bit-lt S b) in
       let br : bit R b ≡ 1 = omega (arith, bit-and b R N, ap (λ (w : ℕ). bit w b) (eqb-true (bitAnd R N) N (e .4)), bit-lt R b) in
-      rw (e .3) (omega (arith, bit-rest k S y fs yk, bit-rest k R y fr yk, bit-lt S y, rows-within k R S fr fs (r .nested (e .0) (a .0) (e .2) (a .2)) (omega arith) b br bs y))
+      rw (e .3)
+      (omega
+      (arith, bit-rest k S y fs yk, bit-rest k R y fr yk, bit-lt S y, rows-within k R S fr fs (r .nested (e .0) (a .0) (e .2) (a .2)) (omega arith) b br bs y))
   grows i j z y (front g) (all e) q s t v = to-all i j y (front g) e v
   grows i j z y (back g p) (all e) q s t v = to-all i j y (back g p) e v
   grows i j z y (all p) (front t) q s u v = absurd (omega (arith, h .order))

@@ -41,7 +41,8 @@ stored-same s t = record {
   caps = λ j g h. s .values j h ∙ t .caps j g h;
 }
 
-module _ (L : ℕ) (live : Bool) (s m i : ℕ) (B slots best : List ℕ) (r : ℕ) (B′ slots′ best′ : List ℕ) (room : Room B slots best) (g : m < 128) (h : i < 128) (u : Put L live s m i B slots best r B′ slots′ best′) where
+module _ (L : ℕ) (live : Bool) (s m i : ℕ) (B slots best : List ℕ) (r : ℕ) (B′ slots′ best′ : List ℕ) (room : Room B slots best) (g : m < 128)
+    (h : i < 128) (u : Put L live s m i B slots best r B′ slots′ best′) where
   pub put-room : Room B′ slots′ best′
   put-room = record {
     sides = rw (u .side) (simp length-set (room .sides));
@@ -116,7 +117,8 @@ module _ (L : ℕ) (live : Bool) (s m i : ℕ) (B slots best : List ℕ) (r : �
                   (λ q. let k = eqb-true j m q in (i, here .0, here .1, rw (k, ea) side-here, el ∙ l))
                   (λ q. from-old j x (omega (arith, eqb-false j m q)));
               up = λ j k x y z. cases (eqb k m)
-                  (λ q. let o = eqb-true k m q in let f = t .from j x (omega arith) in rw (o, side-here, put-same .sides j (omega arith), f .3) (above (f .0) (f .1) (f .2) .0))
+                  (λ q. let o = eqb-true k m q in let f = t .from j x (omega arith) in rw (o, side-here, put-same .sides j (omega arith), f .3)
+                  (above (f .0) (f .1) (f .2) .0))
                   (λ q. let h : k < m = omega (arith, eqb-false k m q) in rw (put-same .sides j (omega arith), put-same .sides k h) (t .up j k x y h));
               slot = slots-more;
               caps = λ j x y. cases (eqb j m)

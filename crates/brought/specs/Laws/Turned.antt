@@ -15,7 +15,8 @@ use Rattle.theory.specs.FarSides.{FarSide}
 use Rattle.theory.specs.OneMore.{broughtFast, broughtNear, broughtSide}
 use Rattle.chains.specs.Laws.Parts.{bit-minus}
 
-leastOn-alike : (n : ℕ) (s t : ℕ → ℕ) (g h cap : ℕ) (f e : ℕ → ℕ) → ((a : ℕ) → On n s g a → On n t h a) → ((a : ℕ) → On n t h a → On n s g a) → ((a : ℕ) → a < n → f a ≡ e a)
+leastOn-alike : (n : ℕ) (s t : ℕ → ℕ) (g h cap : ℕ) (f e : ℕ → ℕ) → ((a : ℕ) → On n s g a → On n t h a) → ((a : ℕ) → On n t h a → On n s g a)
+    → ((a : ℕ) → a < n → f a ≡ e a)
     → leastOn n s g cap f ≡ leastOn n t h cap e
 leastOn-alike n s t g h cap f e up down same =
     le-antisymm
@@ -35,7 +36,8 @@ module _ (L : ℕ) (d : ℕ → ℕ → ℕ) (k : ℕ) (s t : ℕ → ℕ) (two 
   side-turned z =
       leastOn-alike (suc k) s t (s k) (t k) (4 * L) _ _
       (λ a o. (o .0, omega (arith, o .1, turned a (o .0), turned k (omega arith), two a (o .0), two k (omega arith))))
-      (λ a o. (o .0, omega (arith, o .1, turned a (o .0), turned k (omega arith), two a (o .0), two k (omega arith)))) (λ a h. ap (λ x. x + (L + d a z - d k a)) (near-turned z))
+      (λ a o. (o .0, omega (arith, o .1, turned a (o .0), turned k (omega arith), two a (o .0), two k (omega arith))))
+      (λ a h. ap (λ x. x + (L + d a z - d k a)) (near-turned z))
 
   fast-turned : broughtFast L d k s ≡ broughtFast L d k t
   unfolding broughtFast
@@ -49,7 +51,8 @@ pub bit-rest : (k S i : ℕ) → S < 2 ^ k → i < k → bit (2 ^ k - 1 - S) i �
 bit-rest k S i f h = bit-minus i k S (2 ^ k - 1) f (rest-within k S f) ∙ ap (λ x. x - bit S i) (bit-full k i h)
   where
     rest-within : (k S : ℕ) → S < 2 ^ k → (j : ℕ) → bit S j ≤ bit (2 ^ k - 1) j
-    rest-within k S f j = cases (ltb j k) (λ t. omega (arith, bit-full k j (ltb-true j k t), bit-lt S j)) (λ t. omega (arith, bit-above S k j f (ltb-false j k t)))
+    rest-within k S f j =
+        cases (ltb j k) (λ t. omega (arith, bit-full k j (ltb-true j k t), bit-lt S j)) (λ t. omega (arith, bit-above S k j f (ltb-false j k t)))
 
 pub rest-lt : (k S : ℕ) → 2 ^ k - 1 - S < 2 ^ k
 rest-lt k S = omega (arith, pow-pos k)

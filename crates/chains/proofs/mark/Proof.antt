@@ -52,7 +52,8 @@ loop-again c =
     let x = l .before .loop .rest in (
       rw (c .without-lowest .ensures) (without-fits 64 _ 0 (some l) (i .0) (omega arith)),
       λ z. rw (c .without-lowest .ensures) (omega (arith, bit-and z x (x - 1), i .1 z)),
-      rw (c .before .before .byte .ensures) (marked-more _ _ _ _ _ (some l) (i .0) (i .1) (l .before .before .before .pre .1) (c .before .lowest .ensures) (c .without-lowest .ensures) (i .2)),
+      rw (c .before .before .byte .ensures)
+          (marked-more _ _ _ _ _ (some l) (i .0) (i .1) (l .before .before .before .pre .1) (c .before .lowest .ensures) (c .without-lowest .ensures) (i .2)),
     )
 
 same-length : tie.Need-same-length Inv-loop μ-loop

@@ -40,8 +40,12 @@ loop-less c = search needs
 loop-again : tie.Need-loop-again Inv-loop μ-loop
 loop-again c =
     let l = c .before .before .before .before in
-    let a = l .before .before .args in
-    (search needs, search needs, passed-more (a .sides .now) (a .s) (a .from) (l .loop .j) (l .loop .inv .2) (eqb-false _ _ (sym (c .before .contains .ensures) ∙ c .if1 .left)))
+    let a = l .before .before .args in (
+      search needs,
+      search needs,
+      passed-more (a .sides .now) (a .s) (a .from) (l .loop .j) (l .loop .inv .2)
+          (eqb-false _ _ (sym (c .before .contains .ensures) ∙ c .if1 .left)),
+    )
 
 returns-2 : tie.Need-returns-2 Inv-loop μ-loop
 returns-2 c =

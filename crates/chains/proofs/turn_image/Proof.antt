@@ -39,7 +39,9 @@ add-alone : tie.Need-add-alone Inv-loop μ-loop
 add-alone c = search needs
 
 loop-holds : tie.Need-loop-holds Inv-loop μ-loop
-loop-holds c = let p = start c .pre in down-none _ _ _ _ (formed c) (p .2) _ _ (p .3) _ (c .before .before .before .up .ensures .deep) (ap (λ x. limit + x) (c .entry .ensures .0))
+loop-holds c =
+    let p = start c .pre in down-none _ _ _ _ (formed c) (p .2) _ _ (p .3) _ (c .before .before .before .up .ensures .deep)
+    (ap (λ x. limit + x) (c .entry .ensures .0))
 
 sub-q : tie.Need-sub-q Inv-loop μ-loop
 sub-q c = search needs
@@ -87,7 +89,8 @@ returns c =
     let e = c .before .before in
     let p = start e .pre in
     let z : c .before .loop .q ≡ 0 = omega arith in
-    least-more _ _ _ _ (formed e) (p .2) _ _ _ _ _ (rw z at (c .before .loop .inv)) _ (ap (λ x. limit + x) (e .entry .ensures .0)) (omega (arith, p .0 .few)) (p .6)
+    least-more _ _ _ _ (formed e) (p .2) _ _ _ _ _ (rw z at (c .before .loop .inv)) _ (ap (λ x. limit + x) (e .entry .ensures .0))
+    (omega (arith, p .0 .few)) (p .6)
 
 pub turn-image-spec : {M : Type 1} → statement M
 turn-image-spec =

@@ -42,7 +42,8 @@ returns : tie.Need-returns
 returns c =
     let b = c .before .before .before .before .before .before .before .before .before in
     let p = b .pre in
-    linking-more _ _ _ _ _ (p .1) (p .2) (fits b) (p .3) _ _ (rw (c .before .before .before .before .byte .ensures) (c .before .before .before .before .before .next .ensures)) (c .before .before .mark .ensures)
+    linking-more _ _ _ _ _ (p .1) (p .2) (fits b) (p .3) _ _
+    (rw (c .before .before .before .before .byte .ensures) (c .before .before .before .before .before .next .ensures)) (c .before .before .mark .ensures)
 
 pub turn-link-spec : {M : Type 1} → statement M
 turn-link-spec =

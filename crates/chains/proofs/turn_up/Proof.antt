@@ -45,7 +45,8 @@ mul-steps-4 : tie.Need-mul-steps-4
 mul-steps-4 c = let b = c .before .before .before .before .before .before in omega (arith, deep b, b .pre .3)
 
 slice-write-steps-2 : tie.Need-slice-write-steps-2
-slice-write-steps-2 c = let b = c .before .before .before .before .before .before in simp length-set (omega (arith, deep b, b .pre .3, b .pre .7 .climbed .room))
+slice-write-steps-2 c =
+    let b = c .before .before .before .before .before .before in simp length-set (omega (arith, deep b, b .pre .3, b .pre .7 .climbed .room))
 
 number-of-requires : tie.Need-number-of-requires
 number-of-requires c κs = search needs
@@ -60,7 +61,8 @@ mul-steps-6 : tie.Need-mul-steps-6
 mul-steps-6 c = let b = c .before .before .before .before .before .before .before in omega (arith, deep b, b .pre .3)
 
 slice-write-steps-3 : tie.Need-slice-write-steps-3
-slice-write-steps-3 c = let b = c .before .before .before .before .before .before .before in simp length-set (omega (arith, deep b, b .pre .3, b .pre .7 .climbed .room))
+slice-write-steps-3 c =
+    let b = c .before .before .before .before .before .before .before in simp length-set (omega (arith, deep b, b .pre .3, b .pre .7 .climbed .room))
 
 add-t13 : tie.Need-add-t13
 add-t13 c = let b = c .before .before .before .before .before .before .before in omega (arith, deep b, b .pre .3)

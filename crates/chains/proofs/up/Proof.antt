@@ -27,7 +27,9 @@ abbrev start : tie.In-loop Inv-loop μ-loop → tie.Start Inv-loop μ-loop
 start l = l .before .before .before .before .before .before .before .before .before .before
 
 -- the next place that holds z
-upper : (c : tie.After-wide2 Inv-loop μ-loop) → let l = c .before .before .before .before .before .before in let a = start l .args in Holder (a .sides .now) (a .count) (a .z) (l .before .loop .i + 1) (c .wide2 .result)
+upper : (c : tie.After-wide2 Inv-loop μ-loop)
+    → let l = c .before .before .before .before .before .before in let a = start l .args in Holder (a .sides .now) (a .count) (a .z)
+    (l .before .loop .i + 1) (c .wide2 .result)
 upper c =
     let l = c .before .before .before .before .before .before in
     let p = start l .pre in
@@ -59,7 +61,8 @@ loop-holds c =
     let w = well-formed-less _ _ _ _ (p .1) (p .0 .formed) in (
       h .few,
       h .holds,
-      up-past _ _ _ _ _ _ _ _ _ _ _ (h .from) (h .none) (rw own (up-none _ _ _ _ _ _ _ (ap (λ x. limit + x) (c .before .before .entry .ensures .0) ∙ sym (near-own _ _ _ w _ (p .2))) (p .5))),
+      up-past _ _ _ _ _ _ _ _ _ _ _ (h .from) (h .none)
+          (rw own (up-none _ _ _ _ _ _ _ (ap (λ x. limit + x) (c .before .before .entry .ensures .0) ∙ sym (near-own _ _ _ w _ (p .2))) (p .5))),
     )
 
 turn-up-requires : tie.Need-turn-up-requires Inv-loop μ-loop
@@ -71,7 +74,8 @@ turn-up-requires c κs =
     (p .0, p .1, p .2, omega (arith, p .3 .few), p .3 .room, chained-less _ _ _ _ (omega arith) (p .3 .chained), i .1 t, i .2)
 
 shared-slice-read-wide-2 : tie.Need-shared-slice-read-wide-2 Inv-loop μ-loop
-shared-slice-read-wide-2 c = let l = c .before .before .before .before .before in omega (arith, l .loop-test .taken, start l .pre .4 .room, start l .pre .3 .few)
+shared-slice-read-wide-2 c =
+    let l = c .before .before .before .before .before in omega (arith, l .loop-test .taken, start l .pre .4 .room, start l .pre .3 .few)
 
 wide-requires-2 : tie.Need-wide-requires-2 Inv-loop μ-loop
 wide-requires-2 c κs = search needs
@@ -88,7 +92,9 @@ same-length : tie.Need-same-length Inv-loop μ-loop
 same-length c = c .before .loop .inv .2 .climbed .room ∙ sym (c .before .before .before .before .before .before .before .before .before .before .pre .5)
 
 returns : tie.Need-returns Inv-loop μ-loop
-returns c = let e : c .before .loop .i ≡ c .before .before .before .before .before .before .before .before .before .before .args .count = omega (arith, c .before .loop .inv .0) in rw e at (c .before .loop .inv .2 .climbed)
+returns c =
+    let e : c .before .loop .i ≡ c .before .before .before .before .before .before .before .before .before .before .args .count = omega
+    (arith, c .before .loop .inv .0) in rw e at (c .before .loop .inv .2 .climbed)
 
 pub up-spec : {M : Type 1} → statement M
 up-spec =

@@ -78,4 +78,5 @@ module _ (k : ℕ) (B : List ℕ) (m : ℕ) (c : Chained k B m) (z : ℕ) (hz : 
     -- beside the one before it: beside the side, and what it adds
     pub apart-more : apartOn L d k z (heldAt B z i) ≡ min (apartOn L d k z (getD B i 0)) (gapOn L d k z (getD B i 0 - heldAt B z i))
     unfolding apartOn gapOn
-    apart-more = least-beside k (heldAt B z i) (getD B i 0) (4 * L) (held-fits i (omega arith)) (c .fits i h) (held-within i i (omega arith) h t) (ahead L d z k)
+    apart-more =
+        least-beside k (heldAt B z i) (getD B i 0) (4 * L) (held-fits i (omega arith)) (c .fits i h) (held-within i i (omega arith) h t) (ahead L d z k)

@@ -65,14 +65,16 @@ module _ (L : ℕ) (d : ℕ → ℕ → ℕ) (k z : ℕ) (B : List ℕ) where
       };
     }
 
-    up-by : (i m : ℕ) → ((j : ℕ) → i ≤ j → j < i + m → bit (getD B j 0) z ≡ 1 → ⊥) → Up L d k z B i held near depth steps → Up L d k z B (i + m) held near depth steps
+    up-by : (i m : ℕ) → ((j : ℕ) → i ≤ j → j < i + m → bit (getD B j 0) z ≡ 1 → ⊥) → Up L d k z B i held near depth steps
+        → Up L d k z B (i + m) held near depth steps
     up-by i zero h u = let q : i + 0 ≡ i = omega arith in rw q u
     up-by i (suc m) h u =
         let q : i + suc m ≡ suc (i + m) = omega arith in
         rw q (up-out (i + m) (h (i + m) (omega arith) (omega arith)) (up-by i m (λ j a b. h j a (omega arith)) u))
 
     -- past all up to place j
-    pub up-past : (i j : ℕ) → i ≤ j → ((l : ℕ) → i ≤ l → l < j → bit (getD B l 0) z ≡ 1 → ⊥) → Up L d k z B i held near depth steps → Up L d k z B j held near depth steps
+    pub up-past : (i j : ℕ) → i ≤ j → ((l : ℕ) → i ≤ l → l < j → bit (getD B l 0) z ≡ 1 → ⊥) → Up L d k z B i held near depth steps
+        → Up L d k z B j held near depth steps
     up-past i j h none u =
         let q : j ≡ i + (j - i) = omega arith in rw q (up-by i (j - i) (λ l a b. none l a (omega arith)) u)
 
@@ -83,7 +85,8 @@ module _ (L : ℕ) (d : ℕ → ℕ → ℕ) (k z : ℕ) (B : List ℕ) where
 
       pub up-less : held ≤ getD B i 0
       up-less =
-          rw (u .held-is) (bits-le k (heldAt B z i) (getD B i 0) (held-fits k B (i + 1) c z hz i (omega arith)) (held-within k B (i + 1) c z hz i i (omega arith) h t))
+          rw (u .held-is)
+          (bits-le k (heldAt B z i) (getD B i 0) (held-fits k B (i + 1) c z hz i (omega arith)) (held-within k B (i + 1) c z hz i i (omega arith) h t))
 
       pub up-cap : near ≤ 4 * L
       unfolding nearOn
@@ -92,7 +95,8 @@ module _ (L : ℕ) (d : ℕ → ℕ → ℕ) (k z : ℕ) (B : List ℕ) where
       pub up-deep : depth ≤ i
       up-deep = omega (arith, u .climbed .deep, depth-le B z i)
 
-      pub up-in : {x y r : ℕ} → i < 128 → x ≡ min near (leastOn k (bit (getD B i 0 - held)) 1 (4 * L) (ahead L d k z)) → y ≡ gapOn L d k z (getD B i 0 - held) → r ≡ i
+      pub up-in : {x y r : ℕ} → i < 128 → x ≡ min near (leastOn k (bit (getD B i 0 - held)) 1 (4 * L) (ahead L d k z))
+          → y ≡ gapOn L d k z (getD B i 0 - held) → r ≡ i
           → Up L d k z B (i + 1) (getD B i 0) x (depth + 1) (kept3 steps depth x y r)
       up-in {x} {y} {r} few ex ey er =
           let q : i + 1 ≡ suc i = omega arith in

@@ -88,7 +88,9 @@ module _ (L : ℕ) (d : ℕ → ℕ → ℕ) (k z : ℕ) (w : WellFormed L d (su
       value-is : getD steps (3 * q) 0 + a ≡ broughtSide L d k (bit (getD B p 0)) z
       value-is = rw (near-is, a-is) (sym (side-sum L d k w z hz (getD B p 0) (c .fits p h) t))
 
-      down-more : length best ≡ 192 → DownTo L d k z B m (lastAt B z p) q (min a (getD steps (3 * q + 1) 0)) best (set best′ (64 + p) (min (getD best′ (64 + p) 0) (getD steps (3 * q) 0 + a)))
+      down-more : length best ≡ 192
+          → DownTo L d k z B m (lastAt B z p) q (min a (getD steps (3 * q + 1) 0)) best
+          (set best′ (64 + p) (min (getD best′ (64 + p) 0) (getD steps (3 * q) 0 + a)))
       down-more room = let low = last-le B z p in record {
         few = omega (arith, n .few);
         here = last-again B z p;
@@ -96,7 +98,8 @@ module _ (L : ℕ) (d : ℕ → ℕ → ℕ) (k z : ℕ) (w : WellFormed L d (su
         apart = rw (← (held-last B z p), deep, u .kept p h t .apart, a-is) (sym (apart-more k B m c z hz L d p h t));
         done = λ j g l. cases (eqb j p)
             (λ e. let q = eqb-true j p e in
-            rw q (getD-set-same best′ (64 + p) _ 0 (omega (arith, n .room)) ∙ rw (eq-eqb (bit (getD B p 0) z) 1 t, value-is, n .todo p (omega arith)) (omega arith)))
+            rw q
+            (getD-set-same best′ (64 + p) _ 0 (omega (arith, n .room)) ∙ rw (eq-eqb (bit (getD B p 0) z) 1 t, value-is, n .todo p (omega arith)) (omega arith)))
             (λ e. getD-set-other best′ (64 + p) (64 + j) _ 0 (λ q. eqb-false j p e (omega arith)) ∙ other j g l (eqb-false j p e));
         todo = λ j g. getD-set-other best′ (64 + p) (64 + j) _ 0 (λ q. omega arith) ∙ n .todo j (omega arith);
         front = λ j g. getD-set-other best′ (64 + p) j _ 0 (λ q. omega arith) ∙ n .front j g;
@@ -126,7 +129,8 @@ module _ (L : ℕ) (d : ℕ → ℕ → ℕ) (k z : ℕ) (w : WellFormed L d (su
       at = rw (place .1) at (n .to)
 
       pub down-turn : length best ≡ 192 → {r : ℕ} {next : List ℕ} → r ≡ min a (getD steps (3 * q + 1) 0)
-          → next ≡ set best′ (64 + getD steps (3 * q + 2) 0) (min (getD best′ (64 + getD steps (3 * q + 2) 0) 0) (getD steps (3 * q) 0 + a)) → Down L d k z B m q r best next
+          → next ≡ set best′ (64 + getD steps (3 * q + 2) 0) (min (getD best′ (64 + getD steps (3 * q + 2) 0) 0) (getD steps (3 * q) 0 + a))
+          → Down L d k z B m q r best next
       down-turn room er en = record { p = lastAt B z (place .0); to = rw (er, en, place-is (place .0) at) (down-more (place .0) at room) }
 
       -- what the turn asks

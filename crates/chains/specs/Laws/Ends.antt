@@ -23,7 +23,13 @@ module _ (L : ℕ) (d : ℕ → ℕ → ℕ) (k : ℕ) (w : WellFormed L d (suc 
 
   apart-cap : (B : ℕ) → B < 2 ^ k → apartOn L d k z B ≤ L + d k z
   unfolding apartOn
-  apart-cap B f = omega (arith, leastOn-le (bit B) 0 (4 * L) (ahead L d z k) (suc k) k (omega arith, bit-above B k k f (omega arith)), w .same {i = k} {j = z} (omega arith) (omega arith))
+  apart-cap B f =
+      omega (
+        arith,
+        leastOn-le (bit B) 0 (4 * L) (ahead L d z k) (suc k) k (omega arith, bit-above B k k f (omega arith)),
+        w .same {i = k} {j = z}
+            (omega arith) (omega arith),
+      )
 
   -- z alone
   pub near-own : nearOn L d k z (2 ^ z) ≡ L + d k z
@@ -50,7 +56,13 @@ module _ (L : ℕ) (d : ℕ → ℕ → ℕ) (k : ℕ) (w : WellFormed L d (suc 
       omega (arith, apart-le)
     where
       apart-le : leastOn (suc k) (bit (2 ^ k - 1)) 0 (4 * L) (ahead L d z k) ≤ L + d k z
-      apart-le = omega (arith, leastOn-le (bit (2 ^ k - 1)) 0 (4 * L) (ahead L d z k) (suc k) k (omega arith, bit-above (2 ^ k - 1) k k (omega (arith, pow-pos k)) (omega arith)), w .same {i = k} {j = z} (omega arith) (omega arith))
+      apart-le =
+          omega (
+            arith,
+            leastOn-le (bit (2 ^ k - 1)) 0 (4 * L) (ahead L d z k) (suc k) k
+                (omega arith, bit-above (2 ^ k - 1) k k (omega (arith, pow-pos k)) (omega arith)),
+            w .same {i = k} {j = z} (omega arith) (omega arith),
+          )
 
       only : (a : ℕ) → a < suc k → bit (2 ^ k - 1) a ≡ 0 → L + d k z ≤ ahead L d z k a
       only a h e =
@@ -72,7 +84,8 @@ module _ (L : ℕ) (d : ℕ → ℕ → ℕ) (k : ℕ) (w : WellFormed L d (suc 
     -- beside B some image has the least value
     apart-at : (a : ℕ) × On (suc k) (bit B) 0 a × (apartOn L d k z B ≡ ahead L d z k a)
     unfolding apartOn
-    apart-at = leastOn-at (bit B) 0 (4 * L) (ahead L d z k) (suc k) k (omega arith, outside) (omega (arith, w .small {i = z} {j = k} (omega arith) (omega arith)))
+    apart-at =
+        leastOn-at (bit B) 0 (4 * L) (ahead L d z k) (suc k) k (omega arith, outside) (omega (arith, w .small {i = z} {j = k} (omega arith) (omega arith)))
 
     apart-le : (a : ℕ) → On (suc k) (bit B) 0 a → apartOn L d k z B ≤ ahead L d z k a
     unfolding apartOn

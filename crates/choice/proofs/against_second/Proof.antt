@@ -35,7 +35,8 @@ enum-known-m c = search needs
 
 -- the far sides of the second table, where it was accepted
 listed : (c : tie.After-m)
-    → Listed oldLinks (begun c .args .second .now) (c .m .given .0 .0) (c .m .given .0 .1 .0) (c .m .given .0 .1 .1 .0) (c .before .before .before .read .last .1 .0)
+    → Listed oldLinks (begun c .args .second .now) (c .m .given .0 .0) (c .m .given .0 .1 .0) (c .m .given .0 .1 .1 .0)
+    (c .before .before .before .read .last .1 .0)
 listed c = read-listed oldLinks (begun c .args .second .now) (c .before .before .before .read .ensures) (c .m .given .1)
 
 plain-requires : tie.Need-plain-requires
@@ -68,7 +69,8 @@ take-one-requires c κs =
 returns-2 : tie.Need-returns-2
 returns-2 c =
     let e = c .before .before .before .before in
-    if-stops (answer.Refused 2) _ _ (read-refused oldLinks (e .before .before .before .before .args .second .now) (e .read .ensures) (c .before .r .given .1)) refl
+    if-stops (answer.Refused 2) _ _
+    (read-refused oldLinks (e .before .before .before .before .args .second .now) (e .read .ensures) (c .before .r .given .1)) refl
 
 returns-3 : tie.Need-returns-3
 returns-3 c =

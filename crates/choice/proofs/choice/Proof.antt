@@ -31,7 +31,8 @@ enum-known-n c = search needs
 
 -- the far sides of the first table, where it was accepted
 listed : (c : tie.After-n)
-    → Listed oldLinks (begun c .args .first .now) (c .n .given .0 .0) (c .n .given .0 .1 .0) (c .n .given .0 .1 .1 .0) (c .before .before .before .read .last .1 .0)
+    → Listed oldLinks (begun c .args .first .now) (c .n .given .0 .0) (c .n .given .0 .1 .0) (c .n .given .0 .1 .1 .0)
+    (c .before .before .before .read .last .1 .0)
 listed c = read-listed oldLinks (begun c .args .first .now) (c .before .before .before .read .ensures) (c .n .given .1)
 
 array-share-prefix-fars : tie.Need-array-share-prefix-fars
@@ -47,7 +48,8 @@ against-second-requires c κs = let q = listed (c .before .before) in (q .least,
 returns : tie.Need-returns
 returns c =
     let e = c .before .before .before .before in
-    if-stops (answer.Refused 1) _ _ (read-refused oldLinks (e .before .before .before .before .args .first .now) (e .read .ensures) (c .before .r .given .1)) refl
+    if-stops (answer.Refused 1) _ _
+    (read-refused oldLinks (e .before .before .before .before .args .first .now) (e .read .ensures) (c .before .r .given .1)) refl
 
 returns-2 : tie.Need-returns-2
 returns-2 c =

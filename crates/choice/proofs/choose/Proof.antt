@@ -27,7 +27,8 @@ enum-known-number c = search needs
 
 -- the choice names a table
 named : (c : tie.After-number)
-    → choiceOf oldLinks (begun (c .before .before) .args .first .now) (begun (c .before .before) .args .second .now) ≡ Table (c .number .given .0 .0) (c .number .given .0 .1 .0)
+    → choiceOf oldLinks (begun (c .before .before) .args .first .now) (begun (c .before .before) .args .second .now) ≡ Table (c .number .given .0 .0)
+    (c .number .given .0 .1 .0)
 named c = sym (c .before .before .choice .ensures) ∙ c .number .given .1
 
 -- the first
@@ -40,7 +41,8 @@ slice-aggregate-result-2 : tie.Need-slice-aggregate-result-2
 slice-aggregate-result-2 c =
     let n = c .before .before .before in
     let a = begun (n .before .before) .args in
-    sym (length-take-le (n .number .given .0 .1 .0) (a .first .now) (first-fits oldLinks (a .first .now) (a .second .now) (n .number .given .0 .1 .0) (named-first (c .before))))
+    sym (length-take-le (n .number .given .0 .1 .0) (a .first .now)
+    (first-fits oldLinks (a .first .now) (a .second .now) (n .number .given .0 .1 .0) (named-first (c .before))))
 
 returns : tie.Need-returns
 returns c =

@@ -23,7 +23,8 @@ returns-2 c =
     let d = c .before .before .before .before in
     let s = d .before .before .before in
     let a = s .args in
-    takes-second (a .n) (2 ^ (a .n)) (a .first .now) (a .second .now) (s .pre .2) (s .pre .3) (a .i) (a .j) (d .differ .ensures) (c .before .before .if1 .left) (c .if2 .taken)
+    takes-second (a .n) (2 ^ (a .n)) (a .first .now) (a .second .now) (s .pre .2) (s .pre .3) (a .i) (a .j) (d .differ .ensures)
+    (c .before .before .if1 .left) (c .if2 .taken)
 
 plain-requires : tie.Need-plain-requires
 plain-requires c κs = search needs
@@ -35,7 +36,8 @@ returns-3 c =
     let s = d .before .before .before in
     let a = s .args in
     ap (λ (r : Refusal). answer.Refused 0 r) (c .plain .ensures)
-    ∙ takes-none (a .n) (2 ^ (a .n)) (a .first .now) (a .second .now) (s .pre .2) (s .pre .3) (a .i) (a .j) (d .differ .ensures) (o .before .before .if1 .left) (o .if2 .left)
+    ∙ takes-none (a .n) (2 ^ (a .n)) (a .first .now) (a .second .now) (s .pre .2) (s .pre .3) (a .i) (a .j) (d .differ .ensures)
+    (o .before .before .if1 .left) (o .if2 .left)
 
 pub take-one-spec : {M : Type 1} → statement M
 take-one-spec =

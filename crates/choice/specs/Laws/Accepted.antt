@@ -70,7 +70,12 @@ module _ (form : Form) (s t : List ℕ) where
   reached : Begins form s → Begins form t → imagesOf form s ≡ imagesOf form t
       → choiceOf form s t ≡ taken (innersOf form s) (usedOf form s) (innersOf form t) (usedOf form t)
   reached a b e =
-      rw (passed-table form s (imagesOf form s) (countOf form s) a, passed-table form t (imagesOf form t) (countOf form t) b, eq-eqb (imagesOf form s) (imagesOf form t) e)
+      rw (
+        passed-table form s (imagesOf form s) (countOf form s) a,
+        passed-table form t (imagesOf form t) (countOf form t) b,
+        eq-eqb (imagesOf form s)
+            (imagesOf form t) e,
+      )
 
   -- the first if both do
   pub first-taken : Begins form s → Begins form t → imagesOf form s ≡ imagesOf form t → Includes form s t

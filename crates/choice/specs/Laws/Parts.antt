@@ -74,7 +74,8 @@ module _ (form : Form) (s t : List ℕ) where
       → partOf (choiceOf form s t) s t ≡ linkBytes form (imagesOf form t) (sidesOf form t) (costsOf form (imagesOf form t) (countOf form t) t)
   second-form u b m e =
       let a = choice-accepted form s t 2 u e in
-      part-second 2 u e (λ z. omega (arith, z)) ∙ ap (λ x. take x t) (used (a .chosen)) ∙ sym (read-written form (imagesOf form t) (countOf form t) t (a .second) m b)
+      part-second 2 u e (λ z. omega (arith, z)) ∙ ap (λ x. take x t) (used (a .chosen))
+      ∙ sym (read-written form (imagesOf form t) (countOf form t) t (a .second) m b)
     where
       used : Taken form s t 2 u → u ≡ usedOf form t
       used (the-first p q h) = absurd (omega (arith, p))

@@ -25,7 +25,8 @@ module _ (form : Form) (s t : List ℕ) where
   pub choice-refused : (m : ℕ) (r : Refusal) → choiceOf form s t ≡ answer.Refused m r → FirstRefusal form s t m r
   choice-refused m r e = first (tableChecks form s) refl e
     where
-      other : Begins form s → Begins form t → (imagesOf form s ≡ imagesOf form t → ⊥) → answer.Refused 0 (refusal 15 0 0 0 0) ≡ answer.Refused m r → FirstRefusal form s t m r
+      other : Begins form s → Begins form t → (imagesOf form s ≡ imagesOf form t → ⊥) → answer.Refused 0 (refusal 15 0 0 0 0) ≡ answer.Refused m r
+          → FirstRefusal form s t m r
       other a b n h = let k : m ≡ 0 = cc in let p : r ≡ refusal 15 0 0 0 0 = cc in of-images k p a b n
 
       none : Begins form s → Begins form t → imagesOf form s ≡ imagesOf form t → (Includes form s t → ⊥) → (Includes form t s → ⊥)
@@ -45,7 +46,9 @@ module _ (form : Form) (s t : List ℕ) where
           (λ z. none a b n (not-includes form s t x) (not-includes form t s z) (rw (x, z) at h)))
 
       second : (c : Check) → tableChecks form t ≡ c → Begins form s
-          → numbered 2 c (numbered 0 (imagesAgree (imagesOf form s) (imagesOf form t)) (taken (innersOf form s) (usedOf form s) (innersOf form t) (usedOf form t))) ≡ answer.Refused m r
+          → numbered 2 c
+          (numbered 0 (imagesAgree (imagesOf form s) (imagesOf form t)) (taken (innersOf form s) (usedOf form s) (innersOf form t) (usedOf form t)))
+          ≡ answer.Refused m r
           → FirstRefusal form s t m r
       second Passed q a h =
           let b = table-stored form t q in

@@ -13,7 +13,8 @@ use Rattle.cost_writer.proofs.check_write.Tie as tie
 sized : (c : tie.After-enum-told) → Sized (c .before .before .before .before .args .n) (c .before .before .before .before .args .t .now)
 sized c = size-passed _ _ (sym (c .before .before .check-size .ensures) ∙ c .enum-told .given .1)
 
-small : (c : tie.After-enum-told3) → Small (c .before .before .before .before .before .before .before .args .form) (c .before .before .before .before .before .before .before .args .n)
+small : (c : tie.After-enum-told3)
+    → Small (c .before .before .before .before .before .before .before .args .form) (c .before .before .before .before .before .before .before .args .n)
 small c =
     let d = c .before .before .before in
     let a = d .before .before .before .before in
@@ -43,7 +44,8 @@ enum-told-4 c = search needs
 returns-2 : tie.Need-returns-2
 returns-2 c =
     let d = c .before .before .before in
-    then-goes _ _ (d .enum-told .given .1) (d .before .before .check-size .ensures) (then-stops _ _ (c .enum-told4 .given .1) (c .before .before .check-costs .ensures))
+    then-goes _ _ (d .enum-told .given .1) (d .before .before .check-size .ensures)
+    (then-stops _ _ (c .enum-told4 .given .1) (c .before .before .check-costs .ensures))
 
 row-at-requires : tie.Need-row-at-requires
 row-at-requires c κs = (small c, omega arith)

@@ -26,8 +26,10 @@ abbrev μ-loop : tie.MeasureT-loop
 
 -- the entry of this turn ends before the end of the row
 ends : (c : tie.In-loop Inv-loop μ-loop)
-    → c .before .before .before .before .args .position + c .before .before .before .before .args .w * c .before .loop .k + c .before .before .before .before .args .w
-    ≤ c .before .before .before .before .args .position + c .before .before .before .before .args .w * (c .before .before .before .before .args .n - (c .before .before .before .before .args .i + 1))
+    → c .before .before .before .before .args .position + c .before .before .before .before .args .w * c .before .loop .k + c .before .before .before
+    .before .args .w
+    ≤ c .before .before .before .before .args .position + c .before .before .before .before .args .w
+    * (c .before .before .before .before .args .n - (c .before .before .before .before .args .i + 1))
 ends c = let a = c .before .before .before .before .args in field-end (a .position) (a .w) (a .n - (a .i + 1)) (c .before .loop .k) (c .loop-test .taken)
 
 add-count : tie.Need-add-count Inv-loop μ-loop

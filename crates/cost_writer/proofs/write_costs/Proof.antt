@@ -21,7 +21,9 @@ abbrev begun : tie.After-enum-told → tie.Start
 begun c = c .before .before .before .before .before .before
 
 -- the checks are those of document 01's form
-checked : (c : tie.After-check-write) → c .check-write .result ≡ writeChecks oldCosts (c .before .before .before .before .args .n) (c .before .before .before .before .args .t .now) (length (c .before .before .before .before .args .out .now))
+checked : (c : tie.After-check-write)
+    → c .check-write .result ≡ writeChecks oldCosts (c .before .before .before .before .args .n) (c .before .before .before .before .args .t .now)
+    (length (c .before .before .before .before .args .out .now))
 checked c = rw (c .before .old-form .ensures) at (c .check-write .ensures)
 
 told : (c : tie.After-enum-told)
@@ -75,7 +77,8 @@ returns-2 c =
     let k = d .before .before in
     record {
       answered = if-goes written.Refused _ _ (d .enum-told .given .1) (checked k) (ap Places (rw (c .row-at .ensures, k .before .old-form .ensures)));
-      left = front-goes _ _ _ _ (sym (checked k) ∙ d .enum-told .given .1) (rw (k .before .old-form .ensures) at (c .before .before .before .put-form .ensures));
+      left =
+          front-goes _ _ _ _ (sym (checked k) ∙ d .enum-told .given .1) (rw (k .before .old-form .ensures) at (c .before .before .before .put-form .ensures));
     }
 
 pub write-costs-spec : {M : Type 1} → statement M

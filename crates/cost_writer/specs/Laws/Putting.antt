@@ -17,7 +17,8 @@ module _ (d : ℕ → ℕ → ℕ) (n w position : ℕ) (l : List ℕ) where
   unfolding listed
   row-put-none i = over-at-fields-none l position w
 
-  pub row-put-end : (i k : ℕ) (m : List ℕ) → k ≡ n - (i + 1) → m ≡ overAt l position (fieldBits (fieldsOf w (listed (λ k. d i (i + 1 + k)) k))) → m ≡ overAt l position (fieldBits (fieldsOf w (rowEntries d n i)))
+  pub row-put-end : (i k : ℕ) (m : List ℕ) → k ≡ n - (i + 1) → m ≡ overAt l position (fieldBits (fieldsOf w (listed (λ k. d i (i + 1 + k)) k)))
+      → m ≡ overAt l position (fieldBits (fieldsOf w (rowEntries d n i)))
   unfolding rowEntries
   row-put-end i k m e q = rw (← e) q
 
@@ -28,7 +29,8 @@ module _ (d : ℕ → ℕ → ℕ) (n w position : ℕ) (l : List ℕ) where
   rows-put-none = over-at-fields-none l position w
 
   pub rows-put-more : (i p : ℕ) → p ≡ position + w * rowStart n i → p + w * (n - (i + 1)) ≤ length l
-      → overAt (overAt l position (fieldBits (fieldsOf w (entriesTo d n i)))) p (fieldBits (fieldsOf w (rowEntries d n i))) ≡ overAt l position (fieldBits (fieldsOf w (entriesTo d n (i + 1))))
+      → overAt (overAt l position (fieldBits (fieldsOf w (entriesTo d n i)))) p (fieldBits (fieldsOf w (rowEntries d n i))) ≡ overAt l position
+      (fieldBits (fieldsOf w (entriesTo d n (i + 1))))
   rows-put-more i p e h =
       over-at-append l position w p (entriesTo d n i) (rowEntries d n i)
       (e ∙ ap (λ (x : ℕ). position + w * x) (sym (length-entries d n i))) (rw (length-row d n i) h)

@@ -80,7 +80,8 @@ loop-again c =
     let p = l .before .before .before .pre in
     let q : c .before .advance .result ≤ 1 = rw (c .before .advance .ensures) (advance-le _ _) in
     let s : c .advance2 .result ≤ 1 = rw (c .advance2 .ensures) (advance-le _ _) in
-    let u : c .before .before .one-common .result ≤ c .before .advance .result = rw (c .before .advance .ensures, c .before .before .one-common .ensures) (oneCommon-le _ _ _) in
+    let u : c .before .before .one-common .result ≤ c .before .advance .result = rw (c .before .advance .ensures, c .before .before .one-common .ensures)
+    (oneCommon-le _ _ _) in
     let h = second-left e in (
       omega (arith, q),
       omega (arith, s, h),

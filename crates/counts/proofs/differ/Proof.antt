@@ -18,19 +18,42 @@ add-t7 : tie.Need-add-t7
 add-t7 c =
     let s = c .before .before .before .before .before in
     let a = s .args in
-    omega (arith, c .before .before .inner-rows .ensures, c .before .inner-rows2 .ensures, inners-le (a .n) (a .first .now), inners-le (a .n) (a .second .now), s .pre)
+    omega (
+      arith,
+      c .before .before .inner-rows .ensures,
+      c .before .inner-rows2 .ensures,
+      inners-le (a .n) (a .first .now),
+      inners-le (a .n)
+          (a .second .now),
+      s .pre,
+    )
 
 mul-t8 : tie.Need-mul-t8
 mul-t8 c =
     let s = c .before .before .before .before .before in
     let a = s .args in
-    omega (arith, c .common-rows .ensures, inners-le (a .n) (a .first .now), inners-le (a .n) (a .second .now), s .pre, formula (a .n) _ (a .first .now) (a .second .now) (s .pre .2) (s .pre .3))
+    omega (
+      arith,
+      c .common-rows .ensures,
+      inners-le (a .n) (a .first .now),
+      inners-le (a .n) (a .second .now),
+      s .pre,
+      formula (a .n) _ (a .first .now)
+          (a .second .now) (s .pre .2) (s .pre .3),
+    )
 
 sub-t9 : tie.Need-sub-t9
 sub-t9 c =
     let s = c .before .before .before .before .before in
     let a = s .args in
-    omega (arith, c .before .before .inner-rows .ensures, c .before .inner-rows2 .ensures, c .common-rows .ensures, formula (a .n) _ (a .first .now) (a .second .now) (s .pre .2) (s .pre .3))
+    omega (
+      arith,
+      c .before .before .inner-rows .ensures,
+      c .before .inner-rows2 .ensures,
+      c .common-rows .ensures,
+      formula (a .n) _ (a .first .now)
+          (a .second .now) (s .pre .2) (s .pre .3),
+    )
 
 over-of-requires : tie.Need-over-of-requires
 over-of-requires c κs = search needs

@@ -32,5 +32,6 @@ module _ (n k : ℕ) (l r : List ℕ) (a : Between 1 l k) (b : Between 1 r k) wh
       → v ≡ overOf n
       → _≡_ {A = Difference} (record { first = x; second = y; common = z; count = x + y - 2 * z; over = v }) (differ n l r)
   difference-is e f g h =
-      let q : length (inners n l) + length (inners n r) - 2 * length (common (inners n l) (inners n r)) ≡ differing (inners n l) (inners n r) = omega (arith, formula) in
+      let q : length (inners n l) + length (inners n r) - 2 * length (common (inners n l) (inners n r)) ≡ differing (inners n l) (inners n r) = omega
+      (arith, formula) in
       rw (e, f, g, h, q)

@@ -50,7 +50,11 @@ pub filter-once : (p : ℕ → Bool) (m k : ℕ) (l : List ℕ) → Between m l 
 filter-once p m k [] b h = omega arith
 filter-once p m k (x ∷ l) b h =
     cases (p x)
-    (λ e. rw (e, filter-none p l (λ y t. cases (p y) (λ f. absurd (h x y (List·Memᴰ·head refl) (List·Memᴰ·tail t) (between-mem (suc x) k l (b .1) y t .0) e f)) (λ f. f))) (omega arith))
+    (λ e. rw (
+      e,
+      filter-none p l
+          (λ y t. cases (p y) (λ f. absurd (h x y (List·Memᴰ·head refl) (List·Memᴰ·tail t) (between-mem (suc x) k l (b .1) y t .0) e f)) (λ f. f)),
+    ) (omega arith))
     (λ e. rw e (filter-once p (suc x) k l (b .1) (λ u v s t. h u v (List·Memᴰ·tail s) (List·Memᴰ·tail t))))
 
 -- two ascending lists with the same elements are one
@@ -68,7 +72,8 @@ between-ext m k (x ∷ l) (y ∷ r) a b p q =
     low x y r b (inr t) = omega (arith, between-mem (suc y) k r b x t)
 
     same : x ≡ y
-    same = omega (arith, low x y r (b .1) (List·Memᴰ·cases-cons (p x (List·Memᴰ·head refl))), low y x l (a .1) (List·Memᴰ·cases-cons (q y (List·Memᴰ·head refl))))
+    same =
+        omega (arith, low x y r (b .1) (List·Memᴰ·cases-cons (p x (List·Memᴰ·head refl))), low y x l (a .1) (List·Memᴰ·cases-cons (q y (List·Memᴰ·head refl))))
 
     tail : (z y : ℕ) (r : List ℕ) → y < z → (z ≡ y) ⊎ List·Memᴰ z r → List·Memᴰ z r
     tail z y r h (inl e) = absurd (omega arith)

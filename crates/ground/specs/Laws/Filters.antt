@@ -67,7 +67,8 @@ pub any : {A : Type 0} (p : A → Bool) (l : List A) → ((x : A) × List·Mem�
 any p [] = inr (λ x m. absurd (List·Memᴰ·not-nil m))
 any {A} p (x ∷ l) = cases (p x) (λ e. inl (x, List·Memᴰ·head refl, e)) (λ e. go e (any p l))
   where
-    go : p x ≡ false → ((y : A) × List·Memᴰ y l × (p y ≡ true)) ⊎ Each l (λ y. p y ≡ false) → ((y : A) × List·Memᴰ y (x ∷ l) × (p y ≡ true)) ⊎ Each (x ∷ l) (λ y. p y ≡ false)
+    go : p x ≡ false → ((y : A) × List·Memᴰ y l × (p y ≡ true)) ⊎ Each l (λ y. p y ≡ false)
+        → ((y : A) × List·Memᴰ y (x ∷ l) × (p y ≡ true)) ⊎ Each (x ∷ l) (λ y. p y ≡ false)
     go e (inl r) = inl (r .0, List·Memᴰ·tail (r .1), r .2)
     go e (inr h) = inr (λ y m. each y (List·Memᴰ·cases-cons m))
       where

@@ -49,7 +49,8 @@ ones-one (suc k) x b e =
 
 pub ones-all : (k x : ℕ) → x < 2 ^ k → ones x ≡ k → x + 1 ≡ 2 ^ k
 ones-all zero x b e = omega arith
-ones-all (suc k) x b e = omega (arith, ones-step x, ones-le k (x / 2) (omega arith), ones-all k (x / 2) (omega arith) (omega (arith, ones-step x, ones-le k (x / 2) (omega arith))))
+ones-all (suc k) x b e =
+    omega (arith, ones-step x, ones-le k (x / 2) (omega arith), ones-all k (x / 2) (omega arith) (omega (arith, ones-step x, ones-le k (x / 2) (omega arith))))
 
 -- one bit more
 pub ones-pow : (k x : ℕ) → x < 2 ^ k → ones (2 ^ k + x) ≡ ones x + 1

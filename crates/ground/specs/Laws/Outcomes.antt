@@ -25,7 +25,10 @@ written-stops y m o e f = record { answered = if-stops written.Refused y (Places
 
 pub written-goes : {x : Check} {k : ℕ} {d : List ℕ} (y : Check) (m o : List ℕ) → x ≡ Passed → x ≡ y → k ≡ length m → d ≡ front m o
     → Left (writtenIf y m o) (Places k) d
-written-goes {d = d} y m o e f g h = record { answered = if-goes written.Refused y (Places (length m)) e f (ap Places g); left = front-goes y m o d (sym f ∙ e) h }
+written-goes {d = d} y m o e f g h = record {
+  answered = if-goes written.Refused y (Places (length m)) e f (ap Places g);
+  left = front-goes y m o d (sym f ∙ e) h;
+}
 
 -- no second answer meets a promise that is an equation
 pub answer-once : {A : Type 0} {o a b : A} → a ≡ o → b ≡ o → a ≡ b

@@ -1,5 +1,6 @@
 -- Laws of ranges, and of lists joined one after another. Assumes nothing.
-use mathlib.Core.List.{List, List·Memᴰ, List·Memᴰ·append-cases, List·Memᴰ·cases-cons, List·Memᴰ·head, List·Memᴰ·not-nil, List·Memᴰ·tail, Memᴰ·append-left, Memᴰ·append-right, [], _∷_}
+use mathlib.Core.List.{List, List·Memᴰ, List·Memᴰ·append-cases, List·Memᴰ·cases-cons, List·Memᴰ·head}
+use mathlib.Core.List.{List·Memᴰ·not-nil, List·Memᴰ·tail, Memᴰ·append-left, Memᴰ·append-right, [], _∷_}
 use mathlib.Core.Logic.{inl, inr, _⊎_}
 use mathlib.Core.Path.{refl, subst, _≡_}
 use Prim.Native.Nat.{suc, zero, ℕ, _+_, _<_, _≤_}
@@ -12,7 +13,8 @@ use Rattle.ground.specs.Ranges.{from, gather}
 
 pub mem-from : (i m x : ℕ) → i ≤ x → x < i + m → List·Memᴰ x (from i m)
 mem-from i zero x h l = absurd (omega arith)
-mem-from i (suc m) x h l = cases (eqb x i) (λ e. List·Memᴰ·head (eqb-true x i e)) (λ e. List·Memᴰ·tail (mem-from (suc i) m x (omega (arith, eqb-false)) (omega arith)))
+mem-from i (suc m) x h l =
+    cases (eqb x i) (λ e. List·Memᴰ·head (eqb-true x i e)) (λ e. List·Memᴰ·tail (mem-from (suc i) m x (omega (arith, eqb-false)) (omega arith)))
 
 pub from-mem : (i m : ℕ) → Each (from i m) (λ x. (i ≤ x) × (x < i + m))
 from-mem i zero x t = absurd (List·Memᴰ·not-nil t)
@@ -31,6 +33,7 @@ module _ {A B : Type 0} where
   gather-mem f [] y m = absurd (List·Memᴰ·not-nil m)
   gather-mem f (a ∷ l) y m = go (List·Memᴰ·append-cases (f a) m) (gather-mem f l y)
     where
-      go : List·Memᴰ y (f a) ⊎ List·Memᴰ y (gather l f) → (List·Memᴰ y (gather l f) → (x : A) × List·Memᴰ x l × List·Memᴰ y (f x)) → (x : A) × List·Memᴰ x (a ∷ l) × List·Memᴰ y (f x)
+      go : List·Memᴰ y (f a) ⊎ List·Memᴰ y (gather l f) → (List·Memᴰ y (gather l f) → (x : A) × List·Memᴰ x l × List·Memᴰ y (f x)) → (x : A)
+          × List·Memᴰ x (a ∷ l) × List·Memᴰ y (f x)
       go (inl t) ih = (a, List·Memᴰ·head refl, t)
       go (inr t) ih = let r = ih t in (r .0, List·Memᴰ·tail (r .1), r .2)

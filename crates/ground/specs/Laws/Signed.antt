@@ -19,11 +19,13 @@ less : (a b c e : ℕ) → ltZ (subℕ a b) (subℕ c e) ≡ ltb (a + e) (c + b)
 less a b c e =
     cases (ltb a b)
     (λ s. cases (ltb c e)
-    (λ t. rw (s, t) (same-test (e - suc c) (b - suc a) (a + e) (c + b) (λ h. omega (arith, ltb-true a b s, ltb-true c e t)) (λ h. omega (arith, ltb-true a b s, ltb-true c e t))))
+    (λ t. rw (s, t) (same-test (e - suc c) (b - suc a) (a + e) (c + b) (λ h. omega (arith, ltb-true a b s, ltb-true c e t))
+    (λ h. omega (arith, ltb-true a b s, ltb-true c e t))))
     (λ t. rw (s, t) (sym (lt-ltb (a + e) (c + b) (omega (arith, ltb-true a b s, ltb-false c e t))))))
     (λ s. cases (ltb c e)
     (λ t. rw (s, t) (sym (le-ltb (a + e) (c + b) (omega (arith, ltb-false a b s, ltb-true c e t)))))
-    (λ t. rw (s, t) (same-test (a - b) (c - e) (a + e) (c + b) (λ h. omega (arith, ltb-false a b s, ltb-false c e t)) (λ h. omega (arith, ltb-false a b s, ltb-false c e t)))))
+    (λ t. rw (s, t)
+    (same-test (a - b) (c - e) (a + e) (c + b) (λ h. omega (arith, ltb-false a b s, ltb-false c e t)) (λ h. omega (arith, ltb-false a b s, ltb-false c e t)))))
 
 -- a - b is below c - e, as signed numbers, exactly when a + e is below c + b
 pub signed-less : (a b c e : ℕ) → ltZ (pos a -ℤ pos b) (pos c -ℤ pos e) ≡ ltb (a + e) (c + b)

@@ -33,7 +33,8 @@ total-zero (suc n) = omega (arith, total-zero n)
 pub total-occurs : (n : ℕ) (l : List ℕ) → Each l (λ i. i < n) → total n (λ t. occurs t l) ≡ length l
 total-occurs n [] h = total-zero n
 total-occurs n (y ∷ l) h =
-    omega (arith, total-add n (λ t. one-if (eqb t y)) (λ t. occurs t l), total-one n y (h y (List·Memᴰ·head refl)), total-occurs n l (λ i m. h i (List·Memᴰ·tail m)))
+    omega
+    (arith, total-add n (λ t. one-if (eqb t y)) (λ t. occurs t l), total-one n y (h y (List·Memᴰ·head refl)), total-occurs n l (λ i m. h i (List·Memᴰ·tail m)))
 
 pub total-most : (n : ℕ) (g : ℕ → ℕ) → ((t : ℕ) → t < n → g t ≤ 1) → total n g ≤ n
 total-most zero g h = omega arith

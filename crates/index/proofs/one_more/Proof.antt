@@ -13,11 +13,15 @@ use Rattle.index.proofs.one_more.Statement.{statement}
 use Rattle.index.proofs.one_more.Tie as tie
 
 -- the two lists are the two sides of the division
-split : (c : tie.After-sides) → let a = c .before .before .before .before .before .args in Split (bit (a .s)) (bit (a .s) (a .k)) (a .k + 1) (c .sides .result) (c .sides .last .1 .1 .1 .0) (c .sides .last .1 .1 .1 .1 .0)
+split : (c : tie.After-sides)
+    → let a = c .before .before .before .before .before .args in Split (bit (a .s)) (bit (a .s) (a .k)) (a .k + 1) (c .sides .result)
+    (c .sides .last .1 .1 .1 .0) (c .sides .last .1 .1 .1 .1 .0)
 split c = rw (c .before .before .before .side .ensures) at (c .sides .ensures)
 
 -- image k's choices are those of the theory
-brought : (c : tie.After-least-more) → let a = c .before .before .before .before .before .before .before .before .before .before .args in c .least-more .result ≡ broughtFast limit (cost (a .t .now) (a .n)) (a .k) (bit (a .s))
+brought : (c : tie.After-least-more)
+    → let a = c .before .before .before .before .before .before .before .before .before .before .args in c .least-more .result ≡ broughtFast limit
+    (cost (a .t .now) (a .n)) (a .k) (bit (a .s))
 brought c =
     let a = c .before .before .before .before .before .before .before .before .before .before .args in
     c .least-more .ensures ∙ more-at limit _ (a .k) (bit (a .s)) _ _ _ (bit-lt (a .s) (a .k)) (split (c .before .before .before .before .before))
@@ -32,7 +36,14 @@ slice-aggregate-sides-2 : tie.Need-slice-aggregate-sides-2
 slice-aggregate-sides-2 c = search needs
 
 sides-requires : tie.Need-sides-requires
-sides-requires c κs = let a = c .before .before .before .before .args in (search needs, omega (arith, c .before .before .side .ensures, bit-lt (a .s) (a .k)), search needs, search needs)
+sides-requires c κs =
+    let a = c .before .before .before .before .args in (
+      search needs,
+      omega
+          (arith, c .before .before .side .ensures, bit-lt (a .s) (a .k)),
+      search needs,
+      search needs,
+    )
 
 slice-aggregate-least-more : tie.Need-slice-aggregate-least-more
 slice-aggregate-least-more c = search needs

@@ -11,7 +11,8 @@ use Rattle.index.proofs.sides.Statement.{statement}
 use Rattle.index.proofs.sides.Tie as tie
 
 abbrev Inv-loop : tie.InvT-loop
-Inv-loop s h k own₀ other₀ count₀ b₀ own other count b = (b ≤ suc k) × (length own ≡ length own₀) × (length other ≡ length other₀) × Split (bit s) h b count own other
+Inv-loop s h k own₀ other₀ count₀ b₀ own other count b =
+    (b ≤ suc k) × (length own ≡ length own₀) × (length other ≡ length other₀) × Split (bit s) h b count own other
 
 abbrev μ-loop : tie.MeasureT-loop
 μ-loop s h k own₀ other₀ count₀ b₀ own other count b = suc k - b

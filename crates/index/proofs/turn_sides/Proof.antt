@@ -41,7 +41,8 @@ returns c =
     let a = b .args in
     let p = b .pre in
     rw (c .before .before .before .byte .ensures, c .before .before .byte2 .ensures)
-    (split-mine (bit (a .s)) (a .h) (a .b) (a .count) (a .own .now) (a .other .now) (p .1) (omega (arith, p .4 .few)) (omega (arith, p .4 .few)) (p .4) (sym (c .before .side .ensures) ∙ c .if1 .taken))
+    (split-mine (bit (a .s)) (a .h) (a .b) (a .count) (a .own .now) (a .other .now) (p .1) (omega (arith, p .4 .few)) (omega (arith, p .4 .few)) (p .4)
+    (sym (c .before .side .ensures) ∙ c .if1 .taken))
 
 same-length-3 : tie.Need-same-length-3
 same-length-3 c = search needs
@@ -55,7 +56,8 @@ returns-2 c =
     let a = b .args in
     let p = b .pre in
     rw (c .before .before .before .byte .ensures, c .before .before .byte2 .ensures)
-    (split-rest (bit (a .s)) (a .h) (a .b) (a .count) (a .own .now) (a .other .now) (p .1) (omega (arith, p .4 .few)) (omega (arith, p .4 .few)) (p .4) (bit-lt (a .s) (a .b)) (λ e. c .if1 .left (c .before .side .ensures ∙ e)))
+    (split-rest (bit (a .s)) (a .h) (a .b) (a .count) (a .own .now) (a .other .now) (p .1) (omega (arith, p .4 .few)) (omega (arith, p .4 .few)) (p .4)
+    (bit-lt (a .s) (a .b)) (λ e. c .if1 .left (c .before .side .ensures ∙ e)))
 
 pub turn-sides-spec : {M : Type 1} → statement M
 turn-sides-spec =

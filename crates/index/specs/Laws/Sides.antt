@@ -35,7 +35,8 @@ gathered-skip n s g c x l e p = record {
   least = λ cap f. rw (add-one, e) (behind c x cap l f ∙ p .least cap f);
 }
 
-pub gathered-more : (n : ℕ) (s : ℕ → ℕ) (g c : ℕ) (l : List ℕ) → c < length l → eqb (s n) g ≡ true → Gathered n s g c l → Gathered (n + 1) s g (c + 1) (set l c n)
+pub gathered-more : (n : ℕ) (s : ℕ → ℕ) (g c : ℕ) (l : List ℕ) → c < length l → eqb (s n) g ≡ true → Gathered n s g c l
+    → Gathered (n + 1) s g (c + 1) (set l c n)
 unfolding leastOn
 gathered-more n s g c l r e p = record {
   images = record {

@@ -23,8 +23,11 @@ check-links-requires : tie.Need-check-links-requires
 check-links-requires c κs =
     let e = c .before .before in
     let a = e .before .before .before .args in
-    let s = sizes-passed (a .n) (a .count) (a .fars .now) (a .costs .now) (sym (e .check-rows-size .ensures) ∙ c .enum-told .given .1) in
-    (record { short = omega arith; narrow = omega arith; some = s .some; few = s .few; rows = omega (arith, s .few, s .most, s .counted) }, omega (arith, s .counted, s .costed))
+    let s = sizes-passed (a .n) (a .count) (a .fars .now) (a .costs .now) (sym (e .check-rows-size .ensures) ∙ c .enum-told .given .1) in (
+      record { short = omega arith; narrow = omega arith; some = s .some; few = s .few; rows = omega (arith, s .few, s .most, s .counted) },
+      omega
+          (arith, s .counted, s .costed),
+    )
 
 returns-2 : tie.Need-returns-2
 returns-2 c =

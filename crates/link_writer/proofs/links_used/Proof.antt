@@ -13,7 +13,9 @@ row-at-requires : tie.Need-row-at-requires
 row-at-requires c κs = rw (c .old-form .ensures) (c .before .pre)
 
 add-result : tie.Need-add-result
-add-result c = rw (c .row-at .ensures, c .before .old-form .ensures) (omega (arith, end-le oldLinks (c .before .before .args .n) (c .before .before .args .count) (c .before .before .pre)))
+add-result c =
+    rw (c .row-at .ensures, c .before .old-form .ensures)
+    (omega (arith, end-le oldLinks (c .before .before .args .n) (c .before .before .args .count) (c .before .before .pre)))
 
 returns : tie.Need-returns
 returns c = rw (c .row-at .ensures, c .before .old-form .ensures)

@@ -31,7 +31,8 @@ returns c =
     let p = u .before .before .before .before in
     let s = p .before .before .before in
     let a = s .args in
-    row-over (a .w) (a .n) (a .s) (a .c) (a .position) (bits (a .out .now)) (bits (p .put .last .0)) _ (omega (arith, length-bits (a .out .now), s .pre .3)) (p .put .ensures) (u .put2 .ensures)
+    row-over (a .w) (a .n) (a .s) (a .c) (a .position) (bits (a .out .now)) (bits (p .put .last .0)) _
+    (omega (arith, length-bits (a .out .now), s .pre .3)) (p .put .ensures) (u .put2 .ensures)
 
 pub put-row-spec : {M : Type 1} → statement M
 put-row-spec =

@@ -27,7 +27,8 @@ begun c = c .before .before .before .before .before .before
 
 -- the row of this turn stands within the bytes, and its place is a small number
 placed : (c : tie.After-row-at Inv-loop μ-loop)
-    → (c .row-at .result + rowWidth (begun c .args .form .width) (begun c .args .n) ≤ 8 * length (begun c .args .out .now)) × (c .row-at .result + rowWidth (begun c .args .form .width) (begun c .args .n) ≤ lastRowEnd)
+    → (c .row-at .result + rowWidth (begun c .args .form .width) (begun c .args .n) ≤ 8 * length (begun c .args .out .now))
+    × (c .row-at .result + rowWidth (begun c .args .form .width) (begun c .args .n) ≤ lastRowEnd)
 placed c =
     let s = begun c in
     let a = s .args in
@@ -78,7 +79,8 @@ loop-again c =
       search needs,
       u .put-row .kept .1 .1 .1 .1 .1 .0 ∙ l .inv .1,
       u .put-row .ensures
-          ∙ rows-over-more (a .form .width) (a .n) (λ j. getD (a .fars .now) j 0) (λ j. getD (a .costs .now) j 0) (bits (a .out .now)) (bits (l .out)) (a .form .head + 14) (r .row-at .result) (l .k) (r .row-at .ensures)
+          ∙ rows-over-more (a .form .width) (a .n) (λ j. getD (a .fars .now) j 0) (λ j. getD (a .costs .now) j 0) (bits (a .out .now)) (bits (l .out))
+          (a .form .head + 14) (r .row-at .result) (l .k) (r .row-at .ensures)
           (omega (arith, length-bits (a .out .now), placed r .0)) (l .inv .2),
     )
 
@@ -89,7 +91,9 @@ returns : tie.Need-returns Inv-loop μ-loop
 returns c =
     let a = c .before .before .before .before .before .args in
     let q : c .before .loop .k ≡ length (a .fars .now) = omega (arith, c .before .loop .inv .0, c .loop-test .left) in
-    c .before .loop .inv .2 ∙ ap (λ (x : ℕ). overAt (bits (a .out .now)) (a .form .head + 14) (fieldBits (rowsTo (a .form .width) (a .n) (λ j. getD (a .fars .now) j 0) (λ j. getD (a .costs .now) j 0) x))) q
+    c .before .loop .inv .2
+    ∙ ap (λ (x : ℕ). overAt (bits (a .out .now)) (a .form .head + 14)
+    (fieldBits (rowsTo (a .form .width) (a .n) (λ j. getD (a .fars .now) j 0) (λ j. getD (a .costs .now) j 0) x))) q
 
 pub put-rows-spec : {M : Type 1} → statement M
 put-rows-spec =

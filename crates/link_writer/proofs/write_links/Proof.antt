@@ -26,12 +26,16 @@ put-links-requires c κs =
     let d = c .before in
     let k = d .before .before in
     let a = k .before .before .before .before .args in
-    passed-room oldLinks (a .n) (a .count) (a .fars .now) (a .costs .now) (length (a .out .now)) (omega arith) (omega arith) (sym (k .check-write .ensures) ∙ d .enum-told .given .1)
+    passed-room oldLinks (a .n) (a .count) (a .fars .now) (a .costs .now) (length (a .out .now)) (omega arith) (omega arith)
+    (sym (k .check-write .ensures) ∙ d .enum-told .given .1)
 
 returns : tie.Need-returns
 returns c =
     let k = c .before .before .before .check-write in
-    record { answered = if-stops written.Refused _ _ (c .before .r .given .1) (k .ensures); left = front-stops _ _ _ (sym (k .ensures) ∙ c .before .r .given .1) }
+    record {
+      answered = if-stops written.Refused _ _ (c .before .r .given .1) (k .ensures);
+      left = front-stops _ _ _ (sym (k .ensures) ∙ c .before .r .given .1);
+    }
 
 same-length : tie.Need-same-length
 same-length c = search needs

@@ -39,7 +39,9 @@ refuse-if-requires-2 : tie.Need-refuse-if-requires-2
 refuse-if-requires-2 c κs = search needs
 
 -- what the check of the rows answers
-rows : (c : tie.After-refuse-if) → let a = c .before .before .before .before .args in c .refuse-if .result ≡ firstCheck 12 (badRow (a .most) (a .n) (a .fars .now) (a .costs .now)) (length (a .fars .now))
+rows : (c : tie.After-refuse-if)
+    → let a = c .before .before .before .before .args in c .refuse-if .result ≡ firstCheck 12 (badRow (a .most) (a .n) (a .fars .now) (a .costs .now))
+    (length (a .fars .now))
 rows c = rw (c .before .first-bad-row .ensures) at (c .refuse-if .ensures)
 
 returns : tie.Need-returns

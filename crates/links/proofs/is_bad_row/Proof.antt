@@ -49,7 +49,15 @@ unfolding badRow
 returns-3 c =
     let b = c .before in
     let d = b .before .before .before .before in
-    rw (← d .before .before .before .row-before .ensures, ← d .before .is-bad-side .ensures, d .if1 .left, ← b .before .is-bad-cost .ensures, b .if2 .left, ← c .first-crossed .ensures)
+    rw (
+      ← d .before .before .before .row-before .ensures,
+      ← d .before .is-bad-side .ensures,
+      d .if1 .left,
+      ← b .before .is-bad-cost .ensures,
+      b .if2 .left,
+      ←
+          c .first-crossed .ensures,
+    )
 
 pub is-bad-row-spec : {M : Type 1} → statement M
 is-bad-row-spec =

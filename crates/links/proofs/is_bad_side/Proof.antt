@@ -15,7 +15,8 @@ returns-2 c = rw (lt-leb _ _ (c .before .if1 .left), eq-eqb _ _ (c .if2 .taken))
 returns-3 : tie.Need-returns-3
 returns-3 c =
     let s = c .before .before .before in
-    rw (lt-leb _ _ (c .before .before .if1 .left), ne-eqb _ _ (c .before .if2 .left), lt-leb (2 ^ s .args .n) (s .args .s) (rw (c .if3 .taken) (s .fits .s .fits)))
+    rw
+    (lt-leb _ _ (c .before .before .if1 .left), ne-eqb _ _ (c .before .if2 .left), lt-leb (2 ^ s .args .n) (s .args .s) (rw (c .if3 .taken) (s .fits .s .fits)))
 
 shr-result : tie.Need-shr-result
 shr-result c = search needs

@@ -26,7 +26,8 @@ use Rattle.links.specs.BadRows.{badRow, missing}
 use Rattle.links.specs.Checks.{countChecks, lengthChecks, rowChecks, sizeChecks}
 use Rattle.links.specs.FirstChecks.{firstCheck}
 use Rattle.links.specs.Laws.FirstChecks.{first-passed, passed-first}
-use Rattle.links.specs.Laws.RowTests.{GoodRow, between-steps, clear-nested, good-row, mem-rows, nested-clear, nested-sym, row-good, rows-mem, steps-between}
+use Rattle.links.specs.Laws.RowTests.{GoodRow, between-steps, clear-nested, good-row, mem-rows}
+use Rattle.links.specs.Laws.RowTests.{nested-clear, nested-sym, row-good, rows-mem, steps-between}
 use denote.RattleType.{owns}
 use Rattle.links.specs.Links.{Links}
 
@@ -96,8 +97,11 @@ count-passed n N e =
 
 pub length-passed : (N : ℕ) (l v : List ℕ) → lengthChecks N l v ≡ Passed → (length l ≡ N) × (length v ≡ N)
 length-passed N l v e =
-    let p = then-passed (refuseIf (not (eqb (length l) N)) (refusal 2 0 0 0 0)) _ e in
-    (eqb-true (length l) N (not-false _ (refuseIf-passed (not (eqb (length l) N)) _ (p .0))), eqb-true (length v) N (not-false _ (refuseIf-passed (not (eqb (length v) N)) _ (p .1))))
+    let p = then-passed (refuseIf (not (eqb (length l) N)) (refusal 2 0 0 0 0)) _ e in (
+      eqb-true (length l) N (not-false _ (refuseIf-passed (not (eqb (length l) N)) _ (p .0))),
+      eqb-true (length v) N
+          (not-false _ (refuseIf-passed (not (eqb (length v) N)) _ (p .1))),
+    )
 
 pub sizes-passed : (n N : ℕ) (l v : List ℕ) → sizeChecks n N l v ≡ Passed → Sized n N l v
 sizes-passed n N l v e =
@@ -108,7 +112,15 @@ sizes-passed n N l v e =
 
 pub passed-sizes : (n N : ℕ) (l v : List ℕ) → Sized n N l v → sizeChecks n N l v ≡ Passed
 passed-sizes n N l v s =
-    rw (le-ltb n 3 (s .some), le-ltb 64 n (s .few), le-ltb N n (s .least), le-ltb (2 * n - 3) N (s .most), eq-eqb (length l) N (s .counted), eq-eqb (length v) N (s .costed))
+    rw (
+      le-ltb n 3 (s .some),
+      le-ltb 64 n (s .few),
+      le-ltb N n (s .least),
+      le-ltb (2 * n - 3) N (s .most),
+      eq-eqb (length l) N (s .counted),
+      eq-eqb
+          (length v) N (s .costed),
+    )
 
 -- the checks pass exactly when n is 3 to 64, the lengths fit, and the rows are a link table
 pub link-checks : (L n N : ℕ) (l v : List ℕ) → ((sizeChecks n N l v then rowChecks L n l v) ≡ Passed) ↔ Links L n N l v

@@ -66,15 +66,18 @@ put-number-add-put-byte-2 t c = search needs
 
 -- behind the call of `put_number` the last digit is left to write
 last-left : (t : ℕ) (c : put-number-lts.After-put-number (claims t) (put-number-at t) put-number.Post)
-    → Rest (digit (c .before .before .before .before .args .x % 10) ∷ []) (c .put-number .result) (c .put-number .last .0) (decimal (c .before .before .before .before .args .x)) (c .before .before .before .before .args .at) (c .before .before .before .before .args .out .now)
+    → Rest (digit (c .before .before .before .before .args .x % 10) ∷ []) (c .put-number .result) (c .put-number .last .0)
+    (decimal (c .before .before .before .before .args .x)) (c .before .before .before .before .args .at) (c .before .before .before .before .args .out .now)
 last-left t c =
     let s = c .before .before .before .before in
     let x = s .args .x in
     let e = decimal-more x (c .before .before .if1 .left) (search needs) in
-    rest-step (decimal (x / 10)) (digit (x % 10) ∷ []) (rest-same e (rest-begin (decimal x) (s .args .at) (s .args .out .now))) (s .pre .1) (c .put-number .ensures)
+    rest-step (decimal (x / 10)) (digit (x % 10) ∷ []) (rest-same e (rest-begin (decimal x) (s .args .at) (s .args .out .now))) (s .pre .1)
+    (c .put-number .ensures)
 
 put-number-put-byte-requires-2 : (t : ℕ) → put-number-lts.Need-put-byte-requires-2 (claims t) (put-number-at t) put-number.Post
-put-number-put-byte-requires-2 t c κs = byte-last-fits (last-left t (c .before .before .before)) (c .before .before .before .before .before .before .before .pre .1)
+put-number-put-byte-requires-2 t c κs =
+    byte-last-fits (last-left t (c .before .before .before)) (c .before .before .before .before .before .before .before .pre .1)
 
 put-number-same-length-2 : (t : ℕ) → put-number-lts.Need-same-length-2 (claims t) (put-number-at t) put-number.Post
 put-number-same-length-2 t c = search needs

@@ -9,7 +9,9 @@ use Rattle.listing_text.proofs.put_field.Statement.{statement}
 use Rattle.listing_text.proofs.put_field.Tie as tie
 
 -- what is left to write behind call 1
-left-1 : (c : tie.After-put-byte) → Rest (decimal (c .before .before .before .args .x)) (c .put-byte .result) (c .put-byte .last .0) (field (c .before .before .before .args .x)) (c .before .before .before .args .at) (c .before .before .before .args .out .now)
+left-1 : (c : tie.After-put-byte)
+    → Rest (decimal (c .before .before .before .args .x)) (c .put-byte .result) (c .put-byte .last .0) (field (c .before .before .before .args .x))
+    (c .before .before .before .args .at) (c .before .before .before .args .out .now)
 unfolding field
 left-1 c =
     let s = c .before .before .before in

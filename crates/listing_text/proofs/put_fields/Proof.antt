@@ -31,7 +31,8 @@ put-field-requires : tie.Need-put-field-requires Inv-loop μ-loop
 put-field-requires c κs =
     let l = c .before .before .before in
     let s = l .before .before .before .before in
-    rw (c .wide .ensures) (rest-fits (field (getD (s .args .l .now) (l .before .loop .i) 0)) _ (rest-same (fields-turn (s .args .l .now) (l .before .loop .i) (l .loop-test .taken)) (l .before .loop .inv .1)) (s .pre))
+    rw (c .wide .ensures) (rest-fits (field (getD (s .args .l .now) (l .before .loop .i) 0)) _
+    (rest-same (fields-turn (s .args .l .now) (l .before .loop .i) (l .loop-test .taken)) (l .before .loop .inv .1)) (s .pre))
 
 add-i : tie.Need-add-i Inv-loop μ-loop
 add-i c = search needs
@@ -43,8 +44,12 @@ loop-again : tie.Need-loop-again Inv-loop μ-loop
 loop-again c =
     let w = c .before .before .before in
     let l = w .before .before .before in
-    let s = l .before .before .before .before in
-    (search needs, rest-step (field (getD (s .args .l .now) (l .before .loop .i) 0)) _ (rest-same (fields-turn (s .args .l .now) (l .before .loop .i) (l .loop-test .taken)) (l .before .loop .inv .1)) (s .pre) (rw (w .wide .ensures) at (c .before .before .put-field .ensures)))
+    let s = l .before .before .before .before in (
+      search needs,
+      rest-step (field (getD (s .args .l .now) (l .before .loop .i) 0)) _
+          (rest-same (fields-turn (s .args .l .now) (l .before .loop .i) (l .loop-test .taken)) (l .before .loop .inv .1)) (s .pre)
+          (rw (w .wide .ensures) at (c .before .before .put-field .ensures)),
+    )
 
 same-length : tie.Need-same-length Inv-loop μ-loop
 same-length c = c .before .loop .inv .1 .size

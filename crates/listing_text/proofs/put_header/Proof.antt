@@ -8,28 +8,51 @@ use Rattle.listing_text.proofs.put_header.Statement.{statement}
 use Rattle.listing_text.proofs.put_header.Tie as tie
 
 -- what is left to write behind call 1
-left-1 : (c : tie.After-put-word) → Rest (field (c .before .before .before .before .args .n) ++ (rowsWord ++ (field (c .before .before .before .before .args .rows) ++ (10 ∷ [])))) (c .put-word .result) (c .put-word .last .0) (header (c .before .before .before .before .args .n) (c .before .before .before .before .args .rows)) (c .before .before .before .before .args .at) (c .before .before .before .before .args .out .now)
+left-1 : (c : tie.After-put-word)
+    → Rest (field (c .before .before .before .before .args .n) ++ (rowsWord ++ (field (c .before .before .before .before .args .rows) ++ (10 ∷ []))))
+    (c .put-word .result) (c .put-word .last .0) (header (c .before .before .before .before .args .n) (c .before .before .before .before .args .rows))
+    (c .before .before .before .before .args .at) (c .before .before .before .before .args .out .now)
 unfolding header imagesWord rowsWord
 left-1 c =
     let s = c .before .before .before .before in
-    rest-step (imagesWord) (field (s .args .n) ++ (rowsWord ++ (field (s .args .rows) ++ (10 ∷ [])))) (rest-begin (header (s .args .n) (s .args .rows)) (s .args .at) (s .args .out .now)) (s .pre) (c .put-word .ensures)
+    rest-step (imagesWord) (field (s .args .n) ++ (rowsWord ++ (field (s .args .rows) ++ (10 ∷ []))))
+    (rest-begin (header (s .args .n) (s .args .rows)) (s .args .at) (s .args .out .now)) (s .pre) (c .put-word .ensures)
 
 -- what is left to write behind call 2
-left-2 : (c : tie.After-put-field) → Rest (rowsWord ++ (field (c .before .before .before .before .before .before .before .before .args .rows) ++ (10 ∷ []))) (c .put-field .result) (c .put-field .last .0) (header (c .before .before .before .before .before .before .before .before .args .n) (c .before .before .before .before .before .before .before .before .args .rows)) (c .before .before .before .before .before .before .before .before .args .at) (c .before .before .before .before .before .before .before .before .args .out .now)
+left-2 : (c : tie.After-put-field)
+    → Rest (rowsWord ++ (field (c .before .before .before .before .before .before .before .before .args .rows) ++ (10 ∷ []))) (c .put-field .result)
+    (c .put-field .last .0) (header (c .before .before .before .before .before .before .before .before .args .n)
+    (c .before .before .before .before .before .before .before .before .args .rows))
+    (c .before .before .before .before .before .before .before .before .args .at)
+    (c .before .before .before .before .before .before .before .before .args .out .now)
 unfolding header imagesWord rowsWord
 left-2 c =
     let s = c .before .before .before .before .before .before .before .before in
-    rest-step (field (s .args .n)) (rowsWord ++ (field (s .args .rows) ++ (10 ∷ []))) (left-1 (c .before .before .before .before)) (s .pre) (c .put-field .ensures)
+    rest-step (field (s .args .n)) (rowsWord ++ (field (s .args .rows) ++ (10 ∷ []))) (left-1 (c .before .before .before .before)) (s .pre)
+    (c .put-field .ensures)
 
 -- what is left to write behind call 3
-left-3 : (c : tie.After-put-word2) → Rest (field (c .before .before .before .before .before .before .before .before .before .before .before .before .before .args .rows) ++ (10 ∷ [])) (c .put-word2 .result) (c .put-word2 .last .0) (header (c .before .before .before .before .before .before .before .before .before .before .before .before .before .args .n) (c .before .before .before .before .before .before .before .before .before .before .before .before .before .args .rows)) (c .before .before .before .before .before .before .before .before .before .before .before .before .before .args .at) (c .before .before .before .before .before .before .before .before .before .before .before .before .before .args .out .now)
+left-3 : (c : tie.After-put-word2)
+    → Rest (field (c .before .before .before .before .before .before .before .before .before .before .before .before .before .args .rows) ++ (10 ∷ []))
+    (c .put-word2 .result) (c .put-word2 .last .0) (header
+    (c .before .before .before .before .before .before .before .before .before .before .before .before .before .args .n)
+    (c .before .before .before .before .before .before .before .before .before .before .before .before .before .args .rows))
+    (c .before .before .before .before .before .before .before .before .before .before .before .before .before .args .at)
+    (c .before .before .before .before .before .before .before .before .before .before .before .before .before .args .out .now)
 unfolding header imagesWord rowsWord
 left-3 c =
     let s = c .before .before .before .before .before .before .before .before .before .before .before .before .before in
     rest-step (rowsWord) (field (s .args .rows) ++ (10 ∷ [])) (left-2 (c .before .before .before .before .before)) (s .pre) (c .put-word2 .ensures)
 
 -- what is left to write behind call 4
-left-4 : (c : tie.After-put-field2) → Rest ((10 ∷ [])) (c .put-field2 .result) (c .put-field2 .last .0) (header (c .before .before .before .before .before .before .before .before .before .before .before .before .before .before .before .before .before .args .n) (c .before .before .before .before .before .before .before .before .before .before .before .before .before .before .before .before .before .args .rows)) (c .before .before .before .before .before .before .before .before .before .before .before .before .before .before .before .before .before .args .at) (c .before .before .before .before .before .before .before .before .before .before .before .before .before .before .before .before .before .args .out .now)
+left-4 : (c : tie.After-put-field2)
+    → Rest ((10 ∷ [])) (c .put-field2 .result) (c .put-field2 .last .0)
+    (header
+    (c .before .before .before .before .before .before .before .before .before .before .before .before .before .before .before .before .before .args .n)
+    (c .before .before .before .before .before .before .before .before .before .before .before .before .before .before .before .before .before .args
+    .rows)) (c .before .before .before .before .before .before .before .before .before .before .before .before .before .before .before .before .before
+    .args .at) (c .before .before .before .before .before .before .before .before .before .before .before .before .before .before .before .before
+    .before .args .out .now)
 unfolding header imagesWord rowsWord
 left-4 c =
     let s = c .before .before .before .before .before .before .before .before .before .before .before .before .before .before .before .before .before in
@@ -42,7 +65,8 @@ put-word-requires : tie.Need-put-word-requires
 unfolding header imagesWord rowsWord
 put-word-requires c κs =
     let s = c .before .before .before in
-    rest-fits (imagesWord) (field (s .args .n) ++ (rowsWord ++ (field (s .args .rows) ++ (10 ∷ [])))) (rest-begin (header (s .args .n) (s .args .rows)) (s .args .at) (s .args .out .now)) (s .pre)
+    rest-fits (imagesWord) (field (s .args .n) ++ (rowsWord ++ (field (s .args .rows) ++ (10 ∷ []))))
+    (rest-begin (header (s .args .n) (s .args .rows)) (s .args .at) (s .args .out .now)) (s .pre)
 
 put-field-requires : tie.Need-put-field-requires
 unfolding header imagesWord rowsWord
@@ -68,7 +92,8 @@ put-field-requires-2 c κs =
 put-byte-requires : tie.Need-put-byte-requires
 unfolding header imagesWord rowsWord
 put-byte-requires c κs =
-    let s = c .before .before .before .before .before .before .before .before .before .before .before .before .before .before .before .before .before .before .before .before in
+    let s = c .before .before .before .before .before .before .before .before .before .before .before .before .before .before .before .before .before
+    .before .before .before in
     byte-last-fits (left-4 (c .before .before .before)) (s .pre)
 
 same-length : tie.Need-same-length

@@ -8,14 +8,22 @@ use Rattle.listing_text.proofs.put_order.Statement.{statement}
 use Rattle.listing_text.proofs.put_order.Tie as tie
 
 -- what is left to write behind call 1
-left-1 : (c : tie.After-put-word) → Rest (fields (c .before .before .before .before .before .args .around .now) ++ (10 ∷ [])) (c .put-word .result) (c .put-word .last .0) (orderLine (c .before .before .before .before .before .args .around .now)) (c .before .before .before .before .before .args .at) (c .before .before .before .before .before .args .out .now)
+left-1 : (c : tie.After-put-word)
+    → Rest (fields (c .before .before .before .before .before .args .around .now) ++ (10 ∷ [])) (c .put-word .result) (c .put-word .last .0)
+    (orderLine (c .before .before .before .before .before .args .around .now)) (c .before .before .before .before .before .args .at)
+    (c .before .before .before .before .before .args .out .now)
 unfolding orderLine orderWord
 left-1 c =
     let s = c .before .before .before .before .before in
-    rest-step (orderWord) (fields (s .args .around .now) ++ (10 ∷ [])) (rest-begin (orderLine (s .args .around .now)) (s .args .at) (s .args .out .now)) (s .pre) (c .put-word .ensures)
+    rest-step (orderWord) (fields (s .args .around .now) ++ (10 ∷ [])) (rest-begin (orderLine (s .args .around .now)) (s .args .at) (s .args .out .now))
+    (s .pre) (c .put-word .ensures)
 
 -- what is left to write behind call 2
-left-2 : (c : tie.After-put-fields) → Rest ((10 ∷ [])) (c .put-fields .result) (c .put-fields .last .0) (orderLine (c .before .before .before .before .before .before .before .before .before .args .around .now)) (c .before .before .before .before .before .before .before .before .before .args .at) (c .before .before .before .before .before .before .before .before .before .args .out .now)
+left-2 : (c : tie.After-put-fields)
+    → Rest ((10 ∷ [])) (c .put-fields .result) (c .put-fields .last .0)
+    (orderLine (c .before .before .before .before .before .before .before .before .before .args .around .now))
+    (c .before .before .before .before .before .before .before .before .before .args .at)
+    (c .before .before .before .before .before .before .before .before .before .args .out .now)
 unfolding orderLine orderWord
 left-2 c =
     let s = c .before .before .before .before .before .before .before .before .before in
@@ -28,7 +36,8 @@ put-word-requires : tie.Need-put-word-requires
 unfolding orderLine orderWord
 put-word-requires c κs =
     let s = c .before .before .before .before in
-    rest-fits (orderWord) (fields (s .args .around .now) ++ (10 ∷ [])) (rest-begin (orderLine (s .args .around .now)) (s .args .at) (s .args .out .now)) (s .pre)
+    rest-fits (orderWord) (fields (s .args .around .now) ++ (10 ∷ []))
+    (rest-begin (orderLine (s .args .around .now)) (s .args .at) (s .args .out .now)) (s .pre)
 
 put-fields-requires : tie.Need-put-fields-requires
 unfolding orderLine orderWord

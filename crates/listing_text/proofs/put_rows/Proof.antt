@@ -42,7 +42,9 @@ put-row-requires c κs =
     let l = c .before .before .before .before in
     let s = l .before .before .before .before .before .before in
     let a = s .args in
-    rest-fits (rowLine _ _ _) _ (rest-same (rows-turn (a .fars .now) (a .costs .now) (a .above .now) (l .before .loop .i) (l .loop-test .taken) (s .pre .0) (s .pre .1)) (l .before .loop .inv .1)) (s .pre .2)
+    rest-fits (rowLine _ _ _) _
+    (rest-same (rows-turn (a .fars .now) (a .costs .now) (a .above .now) (l .before .loop .i) (l .loop-test .taken) (s .pre .0) (s .pre .1))
+    (l .before .loop .inv .1)) (s .pre .2)
 
 add-i : tie.Need-add-i Inv-loop μ-loop
 add-i c = search needs
@@ -54,8 +56,12 @@ loop-again : tie.Need-loop-again Inv-loop μ-loop
 loop-again c =
     let l = c .before .before .before .before .before .before .before in
     let s = l .before .before .before .before .before .before in
-    let a = s .args in
-    (search needs, rest-step (rowLine _ _ _) _ (rest-same (rows-turn (a .fars .now) (a .costs .now) (a .above .now) (l .before .loop .i) (l .loop-test .taken) (s .pre .0) (s .pre .1)) (l .before .loop .inv .1)) (s .pre .2) (c .before .before .put-row .ensures))
+    let a = s .args in (
+      search needs,
+      rest-step (rowLine _ _ _) _ (rest-same
+          (rows-turn (a .fars .now) (a .costs .now) (a .above .now) (l .before .loop .i) (l .loop-test .taken) (s .pre .0) (s .pre .1))
+          (l .before .loop .inv .1)) (s .pre .2) (c .before .before .put-row .ensures),
+    )
 
 same-length : tie.Need-same-length Inv-loop μ-loop
 same-length c = c .before .loop .inv .1 .size

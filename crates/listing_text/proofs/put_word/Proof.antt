@@ -36,8 +36,11 @@ loop-less c = search needs
 loop-again : tie.Need-loop-again Inv-loop μ-loop
 loop-again c =
     let l = c .before .before .before .before .before in
-    let s = l .before .before .before .before in
-    (search needs, rest-step (_ ∷ []) _ (rest-same (word-turn (s .args .word .now) (l .before .loop .i) (l .loop-test .taken)) (l .before .loop .inv .1)) (s .pre) (c .before .before .put-byte .ensures))
+    let s = l .before .before .before .before in (
+      search needs,
+      rest-step (_ ∷ []) _ (rest-same (word-turn (s .args .word .now) (l .before .loop .i) (l .loop-test .taken)) (l .before .loop .inv .1))
+          (s .pre) (c .before .before .put-byte .ensures),
+    )
 
 same-length : tie.Need-same-length Inv-loop μ-loop
 same-length c = c .before .loop .inv .1 .size

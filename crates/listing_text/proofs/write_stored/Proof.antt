@@ -25,20 +25,26 @@ refused-is : (c : tie.After-q) → listingText (c .before .before .before .befor
 refused-is c =
     let s = c .before .before .before .before .before .before .before in
     let e = c .before .before .before .read-costs in
-    stored-refused (s .args .bytes .now) (replicate 4096 0) (e .last .1 .1 .0) (omega (arith, length-replicate {A = ℕ} 4096 0)) _ (rw (c .q .given .1) at (e .ensures))
+    stored-refused (s .args .bytes .now) (replicate 4096 0) (e .last .1 .1 .0) (omega (arith, length-replicate {A = ℕ} 4096 0)) _
+    (rw (c .q .given .1) at (e .ensures))
 
 -- read
-table-is : (c : tie.After-n) → StoredTable (c .before .before .before .before .before .before .before .args .bytes .now) (replicate 4096 0) (c .before .before .before .read-costs .last .1 .1 .0) (omega (arith, length-replicate {A = ℕ} 4096 0)) (c .n .given .0 .0)
+table-is : (c : tie.After-n)
+    → StoredTable (c .before .before .before .before .before .before .before .args .bytes .now) (replicate 4096 0)
+    (c .before .before .before .read-costs .last .1 .1 .0) (omega (arith, length-replicate {A = ℕ} 4096 0)) (c .n .given .0 .0)
 table-is c =
     let s = c .before .before .before .before .before .before .before in
     let e = c .before .before .before .read-costs in
-    stored-table (s .args .bytes .now) (replicate 4096 0) (e .last .1 .1 .0) (omega (arith, length-replicate {A = ℕ} 4096 0)) _ _ (rw (c .n .given .1) at (e .ensures))
+    stored-table (s .args .bytes .now) (replicate 4096 0) (e .last .1 .1 .0) (omega (arith, length-replicate {A = ℕ} 4096 0)) _ _
+    (rw (c .n .given .1) at (e .ensures))
 
 enum-known-q : tie.Need-enum-known-q
 enum-known-q c = search needs
 
 put-refusal-requires : tie.Need-put-refusal-requires
-put-refusal-requires c κs = refused-fits (c .before .before .q .given .0 .0) (c .before .before .before .before .before .before .before .before .before .args .out .now) (c .before .before .before .before .before .before .before .before .before .pre)
+put-refusal-requires c κs =
+    refused-fits (c .before .before .q .given .0 .0) (c .before .before .before .before .before .before .before .before .before .args .out .now)
+    (c .before .before .before .before .before .before .before .before .before .pre)
 
 enum-known-n : tie.Need-enum-known-n
 enum-known-n c = search needs
@@ -50,10 +56,14 @@ array-share-prefix-t : tie.Need-array-share-prefix-t
 array-share-prefix-t c = omega (arith, square-le (table-is (c .before .before) .few), c .before .before .before .before .before .read-costs .kept .1 .1 .0)
 
 slice-aggregate-write-table : tie.Need-slice-aggregate-write-table
-slice-aggregate-write-table c = sym (length-take-le _ _ (omega (arith, square-le (table-is (c .before .before .before) .few), c .before .before .before .before .before .before .read-costs .kept .1 .1 .0)))
+slice-aggregate-write-table c =
+    sym
+    (length-take-le _ _
+    (omega (arith, square-le (table-is (c .before .before .before) .few), c .before .before .before .before .before .before .read-costs .kept .1 .1 .0)))
 
 write-table-requires : tie.Need-write-table-requires
-write-table-requires c κs = (table-is (c .before .before .before) .table, c .before .before .before .before .before .before .before .before .before .before .pre)
+write-table-requires c κs =
+    (table-is (c .before .before .before) .table, c .before .before .before .before .before .before .before .before .before .before .pre)
 
 same-length : tie.Need-same-length
 same-length c = search needs

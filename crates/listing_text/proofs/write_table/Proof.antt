@@ -22,26 +22,36 @@ exact-requires : tie.Need-exact-requires
 exact-requires c κs = search needs
 
 -- refused with 7
-refused-is : (c : tie.After-q) → tableText (c .before .before .before .before .before .before .before .before .before .args .n) (c .before .before .before .before .before .before .before .before .before .args .t .now) ≡ refusedLine (c .q .given .0 .0)
+refused-is : (c : tie.After-q)
+    → tableText (c .before .before .before .before .before .before .before .before .before .args .n)
+    (c .before .before .before .before .before .before .before .before .before .args .t .now) ≡ refusedLine (c .q .given .0 .0)
 refused-is c =
     let s = c .before .before .before .before .before .before .before .before .before in
     let e = c .before .before .before .before .exact in
     let z = length-replicate {A = ℕ} 128 0 in
-    table-refused (s .args .n) (s .args .t .now) (replicate 128 0) (replicate 128 0) (e .last .1 .1 .0) (e .last .1 .1 .1 .0) _ (s .pre .0) (omega (arith, z)) (omega (arith, z)) (rw (c .q .given .1) at (e .ensures))
+    table-refused (s .args .n) (s .args .t .now) (replicate 128 0) (replicate 128 0) (e .last .1 .1 .0) (e .last .1 .1 .1 .0) _ (s .pre .0)
+    (omega (arith, z)) (omega (arith, z)) (rw (c .q .given .1) at (e .ensures))
 
 -- accepted
-read-is : (c : tie.After-count) → Read (c .before .before .before .before .before .before .before .before .before .args .n) (c .before .before .before .before .before .before .before .before .before .args .t .now) (c .count .given .0 .0) (c .before .before .before .before .exact .last .1 .1 .0) (c .before .before .before .before .exact .last .1 .1 .1 .0)
+read-is : (c : tie.After-count)
+    → Read (c .before .before .before .before .before .before .before .before .before .args .n)
+    (c .before .before .before .before .before .before .before .before .before .args .t .now) (c .count .given .0 .0)
+    (c .before .before .before .before .exact .last .1 .1 .0) (c .before .before .before .before .exact .last .1 .1 .1 .0)
 read-is c =
     let s = c .before .before .before .before .before .before .before .before .before in
     let e = c .before .before .before .before .exact in
     let z = length-replicate {A = ℕ} 128 0 in
-    table-read (s .args .n) (s .args .t .now) (replicate 128 0) (replicate 128 0) (e .last .1 .1 .0) (e .last .1 .1 .1 .0) _ (s .pre .0) (omega (arith, z)) (omega (arith, z)) (rw (c .count .given .1) at (e .ensures))
+    table-read (s .args .n) (s .args .t .now) (replicate 128 0) (replicate 128 0) (e .last .1 .1 .0) (e .last .1 .1 .1 .0) _ (s .pre .0)
+    (omega (arith, z)) (omega (arith, z)) (rw (c .count .given .1) at (e .ensures))
 
 enum-known-q : tie.Need-enum-known-q
 enum-known-q c = search needs
 
 put-refusal-requires : tie.Need-put-refusal-requires
-put-refusal-requires c κs = refused-fits (c .before .before .q .given .0 .0) (c .before .before .before .before .before .before .before .before .before .before .before .args .out .now) (c .before .before .before .before .before .before .before .before .before .before .before .pre .1)
+put-refusal-requires c κs =
+    refused-fits (c .before .before .q .given .0 .0)
+    (c .before .before .before .before .before .before .before .before .before .before .before .args .out .now)
+    (c .before .before .before .before .before .before .before .before .before .before .before .pre .1)
 
 enum-known-count : tie.Need-enum-known-count
 enum-known-count c = search needs
@@ -53,7 +63,8 @@ slice-aggregate-write-links : tie.Need-slice-aggregate-write-links
 slice-aggregate-write-links c = sym (read-is (c .before .before .before) .far-length)
 
 array-share-prefix-costs : tie.Need-array-share-prefix-costs
-array-share-prefix-costs c = omega (arith, read-is (c .before .before .before) .few, c .before .before .before .before .before .before .before .exact .kept .1 .1 .1 .0)
+array-share-prefix-costs c =
+    omega (arith, read-is (c .before .before .before) .few, c .before .before .before .before .before .before .before .exact .kept .1 .1 .1 .0)
 
 slice-aggregate-write-links-2 : tie.Need-slice-aggregate-write-links-2
 slice-aggregate-write-links-2 c = sym (read-is (c .before .before .before .before) .cost-length)

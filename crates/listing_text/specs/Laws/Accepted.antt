@@ -88,17 +88,20 @@ pub record Read (n : ℕ) (t : List ℕ) (r : ℕ) (f v : List ℕ) : Type 0 whe
   pub links : Links limit n (length (take r f)) (take r f) (take r v)
   pub text : tableText n t ≡ readingText n (take r f) (take r v) (uppers (take r f)) (images n t 1 n)
 
-pub table-read : (n : ℕ) (t f v f′ v′ : List ℕ) (r : ℕ) → CostTable limit n t → 125 ≤ length f → 125 ≤ length v → LeftRows (exactOutcome limit n t f v) (Places r) f′ v′ → Read n t r f′ v′
+pub table-read : (n : ℕ) (t f v f′ v′ : List ℕ) (r : ℕ) → CostTable limit n t → 125 ≤ length f → 125 ≤ length v
+    → LeftRows (exactOutcome limit n t f v) (Places r) f′ v′ → Read n t r f′ v′
 table-read n t f v f′ v′ r c a b l =
     let T = exactRows limit n t in
-    let g = go (treeCheck limit n t) _ (rw (only-tree n t f v c a b) at (l .answered)) (rw (only-tree n t f v c a b) at (l .far-sides)) (rw (only-tree n t f v c a b) at (l .doubled)) in
+    let g = go (treeCheck limit n t) _ (rw (only-tree n t f v c a b) at (l .answered)) (rw (only-tree n t f v c a b) at (l .far-sides))
+    (rw (only-tree n t f v c a b) at (l .doubled)) in
     let x : length (take r f′) ≡ r = ap length (g .1) ∙ length-map T far ∙ sym (g .0) in
     let y : length (take r v′) ≡ r = ap length (g .2) ∙ length-map T (λ q. q .1) ∙ sym (g .0) in
     let k : Links limit n (length (take r f′)) (take r f′) (take r v′) =
     record { some = c .some; few = c .few; counted = refl; costed = y ∙ sym x; table = exact-answer limit n t f v r f′ v′ l .exact .tree } in
     record { few = omega (arith, x, links-few n (take r f′) (take r v′) k); far-length = x; cost-length = y; links = k; text = g .3 ∙ rw (g .1, g .2) refl }
   where
-    go : (k : Check) (m : List ℕ) → Places r ≡ outcome k (exactRows limit n t) f v .answer → f′ ≡ outcome k (exactRows limit n t) f v .far-list → v′ ≡ outcome k (exactRows limit n t) f v .cost-list
+    go : (k : Check) (m : List ℕ) → Places r ≡ outcome k (exactRows limit n t) f v .answer → f′ ≡ outcome k (exactRows limit n t) f v .far-list
+        → v′ ≡ outcome k (exactRows limit n t) f v .cost-list
         → (r ≡ length (exactRows limit n t)) × (take r f′ ≡ fars (exactRows limit n t)) × (take r v′ ≡ costs (exactRows limit n t)) × (textIf k m ≡ m)
     go Passed m e x y =
         let T = exactRows limit n t in

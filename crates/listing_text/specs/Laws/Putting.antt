@@ -36,7 +36,9 @@ pub rest-step : (s m : List ℕ) {p : ℕ} {o text : List ℕ} {p₀ : ℕ} {o�
 rest-step s m {p} {o} {text} {p₀} {o₀} {p′} {o′} r f t =
     record {
       ends = omega (arith, t .behind, r .ends, length-append s m);
-      whole = ap (λ (x : List ℕ). overAt x p′ m) (t .left) ∙ over-at-twice o p s m p′ (t .behind) (omega (arith, t .behind, r .ends, r .size, length-append s m)) ∙ r .whole;
+      whole =
+          ap (λ (x : List ℕ). overAt x p′ m) (t .left)
+          ∙ over-at-twice o p s m p′ (t .behind) (omega (arith, t .behind, r .ends, r .size, length-append s m)) ∙ r .whole;
       size = put-length (rest-fits s m r f) t ∙ r .size;
     }
 

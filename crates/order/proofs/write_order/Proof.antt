@@ -53,7 +53,9 @@ loop-less c = search needs
 
 loop-again : tie.Need-loop-again Inv-loop μ-loop
 loop-again c =
-    walked-more _ _ _ _ _ _ _ _ _ _ _ _ (c .before .before .before .before .before .before .before .before .before .before .before .before .before .before .before .before .pre .1) (c .before .before .before .before .before .before .before .loop .inv) (c .before .before .before .before .before .before .loop-test .taken)
+    walked-more _ _ _ _ _ _ _ _ _ _ _ _
+    (c .before .before .before .before .before .before .before .before .before .before .before .before .before .before .before .before .pre .1)
+    (c .before .before .before .before .before .before .before .loop .inv) (c .before .before .before .before .before .before .loop-test .taken)
     (c .before .before .before .before .before .next-left .ensures) (c .before .before .before .before .mark3 .ensures) (c .before .before .put2 .ensures)
 
 put-requires-3 : tie.Need-put-requires-3 Inv-loop μ-loop
@@ -73,7 +75,9 @@ same-length c =
 
 returns : tie.Need-returns Inv-loop μ-loop
 returns c =
-    walked-ends _ _ _ _ _ _ _ _ _ _ (c .before .before .before .before .before .before .before .before .before .before .before .before .before .before .args .out .now) (c .before .before .before .before .before .loop .inv) (c .before .before .before .before .loop-test .left)
+    walked-ends _ _ _ _ _ _ _ _ _ _
+    (c .before .before .before .before .before .before .before .before .before .before .before .before .before .before .args .out .now)
+    (c .before .before .before .before .before .loop .inv) (c .before .before .before .before .loop-test .left)
     (c .before .before .before .before .before .before .before .before .put .ensures) (c .before .before .put3 .ensures)
 
 pub write-order-spec : {M : Type 1} → statement M

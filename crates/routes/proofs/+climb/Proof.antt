@@ -68,7 +68,8 @@ climb-same-length t c = search needs
 climb-returns : (t : ℕ) → climb-lts.Need-returns (claims t) (climb-at t) climb.Post
 climb-returns t c =
     let s = c .before .before .before .before in
-    let q : climbFrom (s .args .fars .now) (s .args .row) ≡ s .args .row ∷ [] = climb-last (s .args .fars .now) (s .args .row) (s .pre .1 .0) (s .pre .1 .1) (sym (c .before .upper .ensures) ∙ c .if1 .taken) in
+    let q : climbFrom (s .args .fars .now) (s .args .row) ≡ s .args .row ∷ [] = climb-last (s .args .fars .now) (s .args .row) (s .pre .1 .0)
+    (s .pre .1 .1) (sym (c .before .upper .ensures) ∙ c .if1 .taken) in
     (rw q (omega arith), rw q)
 
 climb-same-length-2 : (t : ℕ) → climb-lts.Need-same-length-2 (claims t) (climb-at t) climb.Post
@@ -79,7 +80,8 @@ climb-returns-2 t c =
     let s = c .before .before .before .before .before .before .before .before in
     let u = c .before .before .before .before .before .upper in
     let m = c .before .before .climb in
-    let q : climbFrom (s .args .fars .now) (s .args .row) ≡ s .args .row ∷ climbFrom (s .args .fars .now) (u .result) = rw (u .ensures) (climb-next (s .args .fars .now) (s .args .row) (s .pre .1 .0) (s .pre .1 .1)) in
+    let q : climbFrom (s .args .fars .now) (s .args .row) ≡ s .args .row ∷ climbFrom (s .args .fars .now) (u .result) = rw (u .ensures)
+    (climb-next (s .args .fars .now) (s .args .row) (s .pre .1 .0) (s .pre .1 .1)) in
     (rw q (omega (arith, m .ensures .0)), rw q (rw (add-one (s .args .at)) at (m .ensures .1)))
 
 pub +climb-spec : {M : Type 1} → statement M

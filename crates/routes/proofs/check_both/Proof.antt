@@ -28,7 +28,8 @@ returns c = then-stops _ _ (c .enum-told .given .1) (rw (c .before .before .befo
 returns-2 : tie.Need-returns-2
 returns-2 c =
     let d = c .before .before in
-    then-goes _ _ (d .enum-told2 .given .1) (rw (d .before .before .before .is-outside .ensures) at (d .before .before .refuse-if .ensures)) (rw (c .before .is-outside2 .ensures) at (c .refuse-if2 .ensures))
+    then-goes _ _ (d .enum-told2 .given .1) (rw (d .before .before .before .is-outside .ensures) at (d .before .before .refuse-if .ensures))
+    (rw (c .before .is-outside2 .ensures) at (c .refuse-if2 .ensures))
 
 pub check-both-spec : {M : Type 1} → statement M
 check-both-spec =

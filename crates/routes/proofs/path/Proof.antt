@@ -14,7 +14,8 @@ use Rattle.routes.specs.Asked.{PathAsked}
 use Rattle.routes.proofs.path.Tie as tie
 
 -- what the checks say once they have passed
-taken : (c : tie.After-enum-told) → let a = c .before .before .before .before .before .args in PathAsked limit (a .n) (a .count) (a .fars .now) (a .costs .now) (a .i) (a .j)
+taken : (c : tie.After-enum-told)
+    → let a = c .before .before .before .before .before .args in PathAsked limit (a .n) (a .count) (a .fars .now) (a .costs .now) (a .i) (a .j)
 taken c = path-passed _ _ _ _ _ _ _ (rw (c .before .before .check-path .ensures) at (c .enum-told .given .1))
 
 check-path-requires : tie.Need-check-path-requires
@@ -33,7 +34,14 @@ sub-path-cost-2 : tie.Need-sub-path-cost-2
 sub-path-cost-2 c = taken c .low′
 
 path-cost-requires : tie.Need-path-cost-requires
-path-cost-requires c κs = let t = taken c in (omega (arith, t .table .few), omega (arith, t .table .few), omega (arith, t .table .counted, t .table .costed), path-fits _ _ _ _ (t .table) (c .before .before .before .before .before .args .i - 1) (c .before .before .before .before .before .args .j - 1))
+path-cost-requires c κs =
+    let t = taken c in (
+      omega (arith, t .table .few),
+      omega (arith, t .table .few),
+      omega (arith, t .table .counted, t .table .costed),
+      path-fits _ _ _ _
+          (t .table) (c .before .before .before .before .before .args .i - 1) (c .before .before .before .before .before .args .j - 1),
+    )
 
 returns : tie.Need-returns
 returns c = if-stops answer.Refused _ _ (c .before .check .given .1) (c .before .before .before .check-path .ensures)

@@ -17,11 +17,13 @@ abbrev μ-loop : tie.MeasureT-loop
 
 -- one row more
 more : (c : tie.After-row-part Inv-loop μ-loop) → let b = c .before .before .before .before in let a = b .before .before .before .args in
-    b .loop .sum + c .row-part .result + path (rowsOf (drop (b .loop .k + 1) (a .fars .now)) (drop (b .loop .k + 1) (a .costs .now))) (a .i) (a .j) ≡ path (rowsOf (a .fars .now) (a .costs .now)) (a .i) (a .j)
+    b .loop .sum + c .row-part .result + path (rowsOf (drop (b .loop .k + 1) (a .fars .now)) (drop (b .loop .k + 1) (a .costs .now))) (a .i) (a .j) ≡ path
+    (rowsOf (a .fars .now) (a .costs .now)) (a .i) (a .j)
 more c =
     let b = c .before .before .before .before in
     let a = b .before .before .before .args in
-    rw (c .row-part .ensures) (path-more (a .fars .now) (a .costs .now) (search needs) (a .i) (a .j) (b .loop .k) (b .loop .sum) _ (b .loop .inv .1) (c .before .before .before .loop-test .taken))
+    rw (c .row-part .ensures) (path-more (a .fars .now) (a .costs .now) (search needs) (a .i) (a .j) (b .loop .k) (b .loop .sum) _ (b .loop .inv .1)
+    (c .before .before .before .loop-test .taken))
 
 loop-holds : tie.Need-loop-holds Inv-loop μ-loop
 loop-holds c = (search needs, omega arith)

@@ -44,8 +44,13 @@ loop-less c = search needs
 loop-again : tie.Need-loop-again Inv-loop μ-loop
 loop-again c =
     let b = c .before .before in
-    let a = b .before .before .before .args in
-    (search needs, simp length-set (b .loop .inv .1), rw (c .upper .ensures) (over-more (b .loop .r) (uppers (a .fars .now)) (a .out .now) (b .loop .out) (omega (arith, uppers-length 1 (a .fars .now))) (search needs) (b .loop .inv .2)))
+    let a = b .before .before .before .args in (
+      search needs,
+      simp length-set (b .loop .inv .1),
+      rw (c .upper .ensures)
+          (over-more (b .loop .r) (uppers (a .fars .now)) (a .out .now) (b .loop .out) (omega (arith, uppers-length 1 (a .fars .now))) (search needs)
+          (b .loop .inv .2)),
+    )
 
 same-length : tie.Need-same-length Inv-loop μ-loop
 same-length c = search needs

@@ -17,7 +17,9 @@ use Rattle.routes.specs.Asked.{RouteAsked}
 use Rattle.routes.proofs.route.Tie as tie
 
 -- what the checks say once they have passed
-taken : (c : tie.After-enum-told) → let a = c .before .before .before .before .before .before .args in RouteAsked limit (a .n) (a .count) (a .fars .now) (a .costs .now) (a .i) (length (a .out .now))
+taken : (c : tie.After-enum-told)
+    → let a = c .before .before .before .before .before .before .args in RouteAsked limit (a .n) (a .count) (a .fars .now) (a .costs .now) (a .i)
+    (length (a .out .now))
 taken c = route-passed _ _ _ _ _ _ _ (rw (c .before .before .check-route .ensures) at (c .enum-told .given .1))
 
 -- the climb starts at the own link, which is one of the rows

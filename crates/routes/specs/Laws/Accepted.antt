@@ -57,7 +57,10 @@ pub upper-passed : (L n N : ℕ) (l v : List ℕ) (room : ℕ) → upperChecks L
 upper-passed L n N l v room e =
     let p = then-passed (sizeChecks n N l v) _ e in
     let q = then-passed (roomCheck (2 * n - 3) room) (rowChecks L n l v) (p .1) in
-    record { table = links-passed L n N l v (p .0) (q .1); spare = ltb-false room (2 * n - 3) (refuseIf-passed (ltb room (2 * n - 3)) (refusal 3 0 0 0 0) (q .0)) }
+    record {
+      table = links-passed L n N l v (p .0) (q .1);
+      spare = ltb-false room (2 * n - 3) (refuseIf-passed (ltb room (2 * n - 3)) (refusal 3 0 0 0 0) (q .0));
+    }
 
 pub passed-upper : (L n N : ℕ) (l v : List ℕ) (room : ℕ) → UppersAsked L n N l v room → upperChecks L n N l v room ≡ Passed
 passed-upper L n N l v room t = let p = passed-links L n N l v (t .table) in rw (p .0, le-ltb room (2 * n - 3) (t .spare)) (p .1)

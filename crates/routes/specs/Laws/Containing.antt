@@ -57,12 +57,14 @@ module _ (L n N : ℕ) (l v : List ℕ) (t : Links L n N l v) where
   rows-nested j k a b = t .table .nested _ (mem-rows l v j (omega arith) (omega arith)) _ (mem-rows l v k (omega arith) (omega arith))
 
   -- two rows that hold an image in common: the later contains the earlier
-  pub later-contains : (i j k : ℕ) → i < n → j < k → k < N → holds (getD l j 0) i ≡ true → holds (getD l k 0) i ≡ true → contains (getD l k 0) (getD l j 0) ≡ true
+  pub later-contains : (i j k : ℕ) → i < n → j < k → k < N → holds (getD l j 0) i ≡ true → holds (getD l k 0) i ≡ true
+      → contains (getD l k 0) (getD l j 0) ≡ true
   later-contains i j k h a b p q = go (rows-nested j k (omega arith) b)
     where
       go : Nested n (getD l j 0) (getD l k 0) → contains (getD l k 0) (getD l j 0) ≡ true
       go (inl w) = within-contains n (getD l j 0) (getD l k 0) (row j (omega arith) .fits) w
-      go (inr (inl w)) = absurd (omega (arith, rows-ascend j k a b, contains-le (getD l j 0) (getD l k 0) (within-contains n (getD l k 0) (getD l j 0) (row k b .fits) w)))
+      go (inr (inl w)) =
+          absurd (omega (arith, rows-ascend j k a b, contains-le (getD l j 0) (getD l k 0) (within-contains n (getD l k 0) (getD l j 0) (row k b .fits) w)))
       go (inr (inr w)) = absurd (false≢true (sym (w i h p) ∙ q))
 
   pub own-at : (i : ℕ) → i < n → getD l (placeOf 1 (own n i) l - 1) 0 ≡ own n i
@@ -75,7 +77,12 @@ module _ (L n N : ℕ) (l v : List ℕ) (t : Links L n N l v) where
       let e = own-at 0 (omega arith) in
       cases (ltb (placeOf 1 (own n 0) l) N)
       (λ x. let a = ltb-true (placeOf 1 (own n 0) l) N x in
-      absurd (omega (arith, rows-ascend (placeOf 1 (own n 0) l - 1) (N - 1) (omega arith) (omega arith), contains-le (own n 0) (getD l (N - 1) 0) (full-contains-all n (getD l (N - 1) 0) (t .some) (row-side (N - 1) (omega arith))))))
+      absurd (omega (
+        arith,
+        rows-ascend (placeOf 1 (own n 0) l - 1) (N - 1) (omega arith) (omega arith),
+        contains-le (own n 0) (getD l (N - 1) 0)
+            (full-contains-all n (getD l (N - 1) 0) (t .some) (row-side (N - 1) (omega arith))),
+      )))
       (λ x. omega (arith, ltb-false (placeOf 1 (own n 0) l) N x))
 
   pub last-row : getD l (N - 1) 0 ≡ own n 0
@@ -92,7 +99,8 @@ module _ (L n N : ℕ) (l v : List ℕ) (t : Links L n N l v) where
   upper-none =
       let c = few-rows L n N l v t in
       cases (eqb (getD (uppers l) (N - 1) 0) 0) (λ e. eqb-true (getD (uppers l) (N - 1) 0) 0 e)
-      (λ e. absurd (omega (arith, upper-later l (N - 1) (omega arith) (omega (arith, eqb-false (getD (uppers l) (N - 1) 0) 0 e)), upper-most l (N - 1) (omega arith))))
+      (λ e. absurd
+      (omega (arith, upper-later l (N - 1) (omega arith) (omega (arith, eqb-false (getD (uppers l) (N - 1) 0) 0 e)), upper-most l (N - 1) (omega arith))))
 
   -- the upper row is the smallest that contains the row: every other row that contains the row contains its upper row too
   pub upper-smallest : (k : ℕ) → k + 1 < N → (j : ℕ) → j < N → (j ≡ k → ⊥) → contains (getD l j 0) (getD l k 0) ≡ true

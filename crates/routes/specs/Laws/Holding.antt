@@ -22,7 +22,8 @@ use Rattle.theory.specs.Routes.{climb, route, uppers}
 use Rattle.links.specs.Links.{Links}
 use Rattle.routes.specs.Laws.Accepted.{few-rows, own-place}
 use Rattle.routes.specs.Laws.Climbs.{climb-between, climb-last, climb-next, climb-none, ends-with}
-use Rattle.routes.specs.Laws.Containing.{contains-holds, full-contains-all, last-place, last-row, later-contains, own-at, row-side, rows-ascend, upper-none}
+use Rattle.routes.specs.Laws.Containing.{contains-holds, full-contains-all, last-place, last-row}
+use Rattle.routes.specs.Laws.Containing.{later-contains, own-at, row-side, rows-ascend, upper-none}
 use Rattle.routes.specs.Laws.UpperRows.{upper-contains, upper-first, upper-later, upper-most}
 use Rattle.routes.specs.Climbs.{heldBy}
 
@@ -58,7 +59,8 @@ module _ (L n N : ℕ) (l v : List ℕ) (t : Links L n N l v) (i : ℕ) (hi : i 
       let s′ = rw e at s in
       let f = upper-first l p h (q - 1) d (omega arith) (later-contains L n N l v t i p (q - 1) hi d (omega arith) s′ z) in
       let w = upper-later l p h (f .0) in
-      List·Memᴰ·tail (climb-all m u (f .0) (omega (arith, upper-most l p h)) (omega arith) (contains-holds n (getD l (u - 1) 0) (getD l p 0) i hi (upper-contains l p h (f .0)) s′) q (omega arith) y z))
+      List·Memᴰ·tail (climb-all m u (f .0) (omega (arith, upper-most l p h)) (omega arith)
+      (contains-holds n (getD l (u - 1) 0) (getD l p 0) i hi (upper-contains l p h (f .0)) s′) q (omega arith) y z))
 
 -- ## Routes
 
@@ -94,16 +96,25 @@ module _ (L n N : ℕ) (l v : List ℕ) (t : Links L n N l v) where
       between-ext 1 (suc N) (route n l i) (filter (heldBy l i) (from 1 N))
       (route-ascends i h)
       (between-filter (heldBy l i) 1 (suc N) (from 1 N) (let e : suc N ≡ 1 + N = omega arith in rw e (from-between 1 N)))
-      (λ q m. let c = climb-holds L n N l v t i h (length l) o (p .0) (p .1) s q m in mem-filter (heldBy l i) q (c .2) (from 1 N) (mem-from 1 N q (c .0) (omega arith)))
+      (λ q m. let c = climb-holds L n N l v t i h (length l) o (p .0) (p .1) s q m in mem-filter (heldBy l i) q (c .2) (from 1 N)
+      (mem-from 1 N q (c .0) (omega arith)))
       (λ q m. let c = filter-mem (heldBy l i) (from 1 N) q m in let b = from-mem 1 N q (c .1) in
       climb-all L n N l v t i h (length l) o (p .0) (p .1) (omega arith) s q (low i q a h p b (c .0)) (omega arith) (c .0))
     where
       -- no row before the own link holds the image
-      low : (i q : ℕ) → 0 < i → i < n → (0 < placeOf 1 (own n i) l) × (placeOf 1 (own n i) l ≤ N) → (1 ≤ q) × (q < 1 + N) → heldBy l i q ≡ true → placeOf 1 (own n i) l ≤ q
+      low : (i q : ℕ) → 0 < i → i < n → (0 < placeOf 1 (own n i) l) × (placeOf 1 (own n i) l ≤ N) → (1 ≤ q) × (q < 1 + N) → heldBy l i q ≡ true
+          → placeOf 1 (own n i) l ≤ q
       low i q a h p b s =
           let o′ = placeOf 1 (own n i) l in
           cases (ltb q o′)
-          (λ x. absurd (omega (arith, ltb-true q o′ x, rows-ascend L n N l v t (q - 1) (o′ - 1) (omega (arith, ltb-true q o′ x)) (omega arith), own-least n i (getD l (q - 1) 0) a s, own-at L n N l v t i h)))
+          (λ x. absurd (omega (
+            arith,
+            ltb-true q o′ x,
+            rows-ascend L n N l v t (q - 1) (o′ - 1) (omega (arith, ltb-true q o′ x)) (omega arith),
+            own-least n i
+                (getD l (q - 1) 0) a s,
+            own-at L n N l v t i h,
+          )))
           (λ x. ltb-false q o′ x)
 
   -- the route of image 0: the last row alone
@@ -128,6 +139,7 @@ module _ (L n N : ℕ) (l v : List ℕ) (t : Links L n N l v) where
       let o = own-place L n N l v t (suc i) h in
       let f = row-side L n N l v t (placeOf 1 (own n (suc i)) l - 1) (omega arith) in
       let c = full-contains-all n (own n (suc i)) (t .some) (rw (own-at L n N l v t (suc i) h) at f) in
-      let s : heldBy l (suc i) N ≡ true = rw (last-row L n N l v t) (contains-holds n (own n 0) (own n (suc i)) (suc i) h c (own-holds n (suc i) (omega arith))) in
+      let s : heldBy l (suc i) N ≡ true = rw (last-row L n N l v t)
+      (contains-holds n (own n 0) (own n (suc i)) (suc i) h c (own-holds n (suc i) (omega arith))) in
       ends-with 1 N (route n l (suc i)) (route-ascends (suc i) h)
       (rw (route-held (suc i) (omega arith) h) (mem-filter (heldBy l (suc i)) N s (from 1 N) (mem-from 1 N N (omega arith) (omega arith))))

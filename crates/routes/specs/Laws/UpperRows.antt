@@ -61,7 +61,8 @@ upper-later l k h g = omega (arith, uppers-from 1 k l h, upper-from-later (1 + k
 -- ## What it is
 
 -- where some row of the rest contains S there is an upper row, and it comes no later
-upper-from-first : (i S : ℕ) (l : List ℕ) (j : ℕ) → j < length l → contains (getD l j 0) S ≡ true → (0 < upperFrom (suc i) S l) × (upperFrom (suc i) S l ≤ suc i + j)
+upper-from-first : (i S : ℕ) (l : List ℕ) (j : ℕ) → j < length l → contains (getD l j 0) S ≡ true → (0 < upperFrom (suc i) S l)
+    × (upperFrom (suc i) S l ≤ suc i + j)
 upper-from-first i S [] j h e = absurd (omega arith)
 upper-from-first i S (R ∷ l) zero h e = rw e (omega arith)
 upper-from-first i S (R ∷ l) (suc j) h e =

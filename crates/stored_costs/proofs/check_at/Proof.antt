@@ -13,7 +13,8 @@ use Rattle.stored_costs.proofs.check_at.Statement.{statement}
 use Rattle.stored_costs.proofs.check_at.Tie as tie
 
 -- the check passed, so the position is within the bytes
-there : (c : tie.After-enum-told) → c .before .before .before .before .before .args .position / 8 ≤ length (c .before .before .before .before .before .args .bytes .now)
+there : (c : tie.After-enum-told)
+    → c .before .before .before .before .before .args .position / 8 ≤ length (c .before .before .before .before .before .args .bytes .now)
 there c =
     let e = c .before .before in
     let a = e .before .before .before .args in

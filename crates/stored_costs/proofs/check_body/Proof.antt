@@ -20,7 +20,8 @@ end-small c = let a = c .before .before in rw (c .row-at .ensures) (end-le (a .a
 whole : (c : tie.After-enum-told) → (c .before .before .before .row-at .result + 7) / 8 ≤ length (c .before .before .before .before .before .args .bytes .now)
 whole c =
     let e = c .before .before in
-    ltb-false _ _ (refuseIf-passed (ltb (length (e .before .before .before .args .bytes .now)) ((e .before .row-at .result + 7) / 8)) _ (sym (e .refuse-if .ensures) ∙ c .enum-told .given .1))
+    ltb-false _ _ (refuseIf-passed (ltb (length (e .before .before .before .args .bytes .now)) ((e .before .row-at .result + 7) / 8)) _
+    (sym (e .refuse-if .ensures) ∙ c .enum-told .given .1))
 
 row-at-requires : tie.Need-row-at-requires
 row-at-requires c κs = search needs

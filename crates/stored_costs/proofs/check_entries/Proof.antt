@@ -14,7 +14,8 @@ use Rattle.stored_costs.proofs.check_entries.Tie as tie
 abbrev Inv-loop : tie.InvT-loop
 Inv-loop form n bytes i₀ i =
     (i ≤ n)
-    × (storedCheck (form .limit) (entryCost (entryOf form bytes) n) n ≡ checkAll (λ k. checkAll (entryCheck (form .limit) (entryCost (entryOf form bytes) n) k) (k + 1) (n - (k + 1))) i (n - i))
+    × (storedCheck (form .limit) (entryCost (entryOf form bytes) n) n ≡ checkAll
+    (λ k. checkAll (entryCheck (form .limit) (entryCost (entryOf form bytes) n) k) (k + 1) (n - (k + 1))) i (n - i))
 
 abbrev μ-loop : tie.MeasureT-loop
 μ-loop form n bytes i₀ i = n - i
@@ -41,7 +42,11 @@ loop-less : tie.Need-loop-less Inv-loop μ-loop
 loop-less c = search needs
 
 loop-again : tie.Need-loop-again Inv-loop μ-loop
-loop-again c = (search needs, all-goes _ _ _ (search needs) (c .before .before .before .before .loop .inv .1) (c .enum-told2 .given .1) (c .before .before .check-row .ensures))
+loop-again c = (
+  search needs,
+  all-goes _ _ _ (search needs) (c .before .before .before .before .loop .inv .1) (c .enum-told2 .given .1)
+      (c .before .before .check-row .ensures),
+)
 
 returns-2 : tie.Need-returns-2 Inv-loop μ-loop
 returns-2 c = all-ends _ _ _ (search needs) (c .before .loop .inv .1)

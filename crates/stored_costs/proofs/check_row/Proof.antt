@@ -20,7 +20,8 @@ use Rattle.stored_costs.proofs.check_row.Tie as tie
 abbrev Inv-loop : tie.InvT-loop
 Inv-loop form n bytes i p₀ j₀ p j =
     (i < j) × (j ≤ n) × (p ≡ form .head + 7 + form .width * entryNumber n i j)
-    × (checkAll (entryCheck (form .limit) (entryCost (entryOf form bytes) n) i) (i + 1) (n - (i + 1)) ≡ checkAll (entryCheck (form .limit) (entryCost (entryOf form bytes) n) i) j (n - j))
+    × (checkAll (entryCheck (form .limit) (entryCost (entryOf form bytes) n) i) (i + 1) (n - (i + 1)) ≡ checkAll
+    (entryCheck (form .limit) (entryCost (entryOf form bytes) n) i) j (n - j))
 
 abbrev μ-loop : tie.MeasureT-loop
 μ-loop form n bytes i p₀ j₀ p j = n - j
@@ -30,18 +31,22 @@ begun c = c .before .before .before .before
 
 -- the entry of this turn ends before the end of them all
 ends : (c : tie.In-loop Inv-loop μ-loop)
-    → begun c .args .form .head + 7 + begun c .args .form .width * entryNumber (begun c .args .n) (begun c .args .i) (c .before .loop .j) + begun c .args .form .width ≤ costEnd (begun c .args .form) (begun c .args .n)
+    → begun c .args .form .head + 7 + begun c .args .form .width * entryNumber (begun c .args .n) (begun c .args .i)
+    (c .before .loop .j) + begun c .args .form .width ≤ costEnd (begun c .args .form) (begun c .args .n)
 ends c =
     let a = begun c .args in
     let l = c .before .loop in
-    field-end (a .form .head + 7) (a .form .width) (entryCount (a .n)) (entryNumber (a .n) (a .i) (l .j)) (number-lt (a .n) (a .i) (l .j) (l .inv .0) (c .loop-test .taken))
+    field-end (a .form .head + 7) (a .form .width) (entryCount (a .n)) (entryNumber (a .n) (a .i) (l .j))
+    (number-lt (a .n) (a .i) (l .j) (l .inv .0) (c .loop-test .taken))
 
 abbrev told : tie.After-refuse-if Inv-loop μ-loop → tie.In-loop Inv-loop μ-loop
 told c = c .before .before .before
 
 -- what this turn's check says
 said : (c : tie.After-refuse-if Inv-loop μ-loop)
-    → c .refuse-if .result ≡ entryCheck (begun (told c) .args .form .limit) (entryCost (entryOf (begun (told c) .args .form) (begun (told c) .args .bytes .now)) (begun (told c) .args .n)) (begun (told c) .args .i) (told c .before .loop .j)
+    → c .refuse-if .result ≡ entryCheck (begun (told c) .args .form .limit)
+    (entryCost (entryOf (begun (told c) .args .form) (begun (told c) .args .bytes .now)) (begun (told c) .args .n)) (begun (told c) .args .i)
+    (told c .before .loop .j)
 unfolding entryOf fieldValue
 said c =
     let a = begun (told c) .args in

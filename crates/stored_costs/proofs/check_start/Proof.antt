@@ -34,8 +34,11 @@ returns c = then-stops _ _ (c .enum-told2 .given .1) (c .before .before .refuse-
 images-requires : tie.Need-images-requires
 images-requires c κs =
     let e = c .before .before in
-    let a = e .before .before .before in
-    (a .pre, ltb-false _ _ (refuseIf-passed (ltb (length (a .args .bytes .now)) (bytesFor (a .args .form .head + 7))) _ (sym (e .refuse-if .ensures) ∙ c .enum-told .given .1)))
+    let a = e .before .before .before in (
+      a .pre,
+      ltb-false _ _
+          (refuseIf-passed (ltb (length (a .args .bytes .now)) (bytesFor (a .args .form .head + 7))) _ (sym (e .refuse-if .ensures) ∙ c .enum-told .given .1)),
+    )
 
 check-images-requires : tie.Need-check-images-requires
 check-images-requires c κs = search needs
@@ -50,7 +53,8 @@ returns-2 : tie.Need-returns-2
 returns-2 c =
     let e = c .before .before .before .before in
     rw (← c .before .before .before .images .ensures)
-    (then-goes _ _ (e .enum-told .given .1) (e .before .before .refuse-if .ensures) (then-stops _ _ (c .enum-told4 .given .1) (c .before .before .check-images .ensures)))
+    (then-goes _ _ (e .enum-told .given .1) (e .before .before .refuse-if .ensures)
+    (then-stops _ _ (c .enum-told4 .given .1) (c .before .before .check-images .ensures)))
 
 mul-refuse-if : tie.Need-mul-refuse-if
 mul-refuse-if c =

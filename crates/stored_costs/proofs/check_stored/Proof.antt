@@ -63,7 +63,8 @@ returns-3 c =
     let i = b .before .before .before in
     let d = i .before in
     then-goes _ _ (d .enum-told .given .1) (d .before .before .check-start .ensures)
-    (then-goes _ _ (b .enum-told3 .given .1) (rw (i .images .ensures) at (b .before .before .check-body .ensures)) (rw (i .images .ensures) at (c .check-entries .ensures)))
+    (then-goes _ _ (b .enum-told3 .given .1) (rw (i .images .ensures) at (b .before .before .check-body .ensures))
+    (rw (i .images .ensures) at (c .check-entries .ensures)))
 
 pub check-stored-spec : {M : Type 1} → statement M
 check-stored-spec =

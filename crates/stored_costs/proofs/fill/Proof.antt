@@ -45,7 +45,8 @@ loop-again c =
     let a = s .args in (
       search needs,
       f .fill-row .kept .1 .1 .1 .1 .0 ∙ l .inv .1,
-      rows-more (entryOf (a .form) (a .bytes .now)) (a .n) (l .i) (a .out .now) (l .out) _ (f .before .before .loop-test .taken) (s .pre .1) (l .inv .2) (f .fill-row .ensures),
+      rows-more (entryOf (a .form) (a .bytes .now)) (a .n) (l .i) (a .out .now) (l .out) _ (f .before .before .loop-test .taken) (s .pre .1) (l .inv .2)
+          (f .fill-row .ensures),
     )
 
 same-length : tie.Need-same-length Inv-loop μ-loop

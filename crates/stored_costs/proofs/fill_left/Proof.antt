@@ -30,7 +30,8 @@ inside c =
     (omega (arith, r, c .pre .2), omega (arith, r, square-le (c .pre .0)))
 
 -- the place that is read stands before the row
-before-row : (c : tie.In-loop Inv-loop μ-loop) → c .before .loop .j * c .before .before .args .n + c .before .before .args .i < c .before .before .args .i * c .before .before .args .n
+before-row : (c : tie.In-loop Inv-loop μ-loop)
+    → c .before .loop .j * c .before .before .args .n + c .before .before .args .i < c .before .before .args .i * c .before .before .args .n
 before-row c = digits-lt (c .loop-test .taken) (c .before .before .pre .1)
 
 mul-start : tie.Need-mul-start Inv-loop μ-loop

@@ -22,7 +22,8 @@ abbrev μ-loop : tie.MeasureT-loop
 
 -- the entry of this turn ends before the end of them all
 ends : (c : tie.In-loop Inv-loop μ-loop)
-    → c .before .before .before .before .args .position + c .before .before .before .before .args .w * c .before .loop .k + c .before .before .before .before .args .w
+    → c .before .before .before .before .args .position + c .before .before .before .before .args .w * c .before .loop .k + c .before .before .before
+    .before .args .w
     ≤ c .before .before .before .before .args .position + c .before .before .before .before .args .w * c .before .before .before .before .args .count
 ends c = let a = c .before .before .before .before .args in field-end (a .position) (a .w) (a .count) (c .before .loop .k) (c .loop-test .taken)
 
@@ -63,7 +64,8 @@ loop-again c =
       search needs,
       simp length-set (l .inv .1),
       omega (arith, times-more (a .w) (l .k), l .inv .2),
-      listed-over-more (fieldValue (bits (a .bytes .now)) (a .position) (a .w)) (a .start) (l .k) (a .start + l .k) (c .entry-at .result) (a .out .now) (l .out) refl
+      listed-over-more (fieldValue (bits (a .bytes .now)) (a .position) (a .w)) (a .start) (l .k) (a .start + l .k) (c .entry-at .result)
+          (a .out .now) (l .out) refl
           (omega (arith, i .loop-test .taken, s .pre .2)) (omega (arith, i .loop-test .taken, s .pre .2, l .inv .1)) (l .inv .3)
           (c .entry-at .ensures ∙ ap (λ (x : ℕ). valueOf (part (bits (a .bytes .now)) x (a .w))) (l .inv .2)),
     )

@@ -31,7 +31,8 @@ mul-out-2 : tie.Need-mul-out-2
 mul-out-2 c = let s = c .before .before .before .before .before .before in omega (arith, s .pre .1, inside s .1)
 
 slice-write-out : tie.Need-slice-write-out
-slice-write-out c = let s = c .before .before .before .before .before .before in omega (arith, s .pre .1, inside s .0, c .before .before .fill-left .kept .1 .1 .0)
+slice-write-out c =
+    let s = c .before .before .before .before .before .before in omega (arith, s .pre .1, inside s .0, c .before .before .fill-left .kept .1 .1 .0)
 
 row-at-requires : tie.Need-row-at-requires
 row-at-requires c κs = search needs
@@ -74,7 +75,8 @@ returns c =
     let g = f .before .before .before .before .before in
     let s = g .before .before .before .before in
     let a = s .args in
-    row-filled (entryOf (a .form) (a .bytes .now)) (a .n) (a .i) (fieldValue (bits (a .bytes .now)) (r .row-at .result) (a .form .width)) (a .out .now) (g .fill-left .last .1 .1 .0) _
+    row-filled (entryOf (a .form) (a .bytes .now)) (a .n) (a .i) (fieldValue (bits (a .bytes .now)) (r .row-at .result) (a .form .width)) (a .out .now)
+    (g .fill-left .last .1 .1 .0) _
     (s .pre .1) (inside s .0) (g .fill-left .kept .1 .1 .0) (s .pre .3) (g .fill-left .ensures)
     (λ k. rw (r .row-at .ensures) (row-field (a .form) (a .n) (a .i) k (a .bytes .now)))
     (f .fill-right .ensures)

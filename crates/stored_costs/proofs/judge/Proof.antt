@@ -19,7 +19,9 @@ use Rattle.stored_costs.proofs.judge.Tie as tie
 there : (c : tie.After-enum-told)
     → (c .before .before .before .before .args .position / 8 ≤ length (c .before .before .before .before .args .bytes .now))
     × (c .before .before .before .before .args .position % 8 ≡ 0)
-    × Readable (c .before .before .before .before .args .form) (drop (c .before .before .before .before .args .position / 8) (c .before .before .before .before .args .bytes .now)) (c .before .before .before .before .args .room)
+    × Readable (c .before .before .before .before .args .form)
+    (drop (c .before .before .before .before .args .position / 8) (c .before .before .before .before .args .bytes .now))
+    (c .before .before .before .before .args .room)
 there c =
     let e = c .before .before in
     let a = e .before .before .args in

@@ -12,7 +12,9 @@ use Rattle.stored_costs.specs.Form.{oldCosts}
 use Rattle.stored_costs.specs.Stored.{TableAt}
 use Rattle.stored_costs.proofs.read_costs.Tie as tie
 
-told : (c : tie.After-n) → TableAt oldCosts (c .before .before .before .before .before .args .bytes .now) (c .before .before .before .before .before .args .position) (length (c .before .before .before .before .before .args .out .now)) (c .n .given .0 .0) (c .n .given .0 .1 .0)
+told : (c : tie.After-n)
+    → TableAt oldCosts (c .before .before .before .before .before .args .bytes .now) (c .before .before .before .before .before .args .position)
+    (length (c .before .before .before .before .before .args .out .now)) (c .n .given .0 .0) (c .n .given .0 .1 .0)
 told c =
     let j = c .before .before in
     let a = j .before .before .before .args in
@@ -43,7 +45,8 @@ fill-requires : tie.Need-fill-requires
 fill-requires c κs =
     let t = told (c .before .before .before .before) in
     let a = c .before .before .before .before .before .before .before .before .before .args in
-    rw (c .before .before .old-form .ensures, rest-part (a .bytes .now) (a .position / 8), ← t .number) (readable-held oldCosts _ _ (omega arith) (omega arith) (t .readable), t .readable .roomy)
+    rw (c .before .before .old-form .ensures, rest-part (a .bytes .now) (a .position / 8), ← t .number)
+    (readable-held oldCosts _ _ (omega arith) (omega arith) (t .readable), t .readable .roomy)
 
 returns : tie.Need-returns
 returns c =
@@ -65,7 +68,9 @@ returns-2 c =
     let t = told n in
     record {
       answered = sym (n .n .given .1) ∙ n .before .before .judge-costs .ensures;
-      left = front-goes _ _ _ _ (t .passed) (rw (t .number) (rw (f .before .before .before .old-form .ensures, rest-part (a .bytes .now) (a .position / 8)) at (f .fill .ensures)));
+      left =
+          front-goes _ _ _ _ (t .passed)
+          (rw (t .number) (rw (f .before .before .before .old-form .ensures, rest-part (a .bytes .now) (a .position / 8)) at (f .fill .ensures)));
     }
 
 pub read-costs-spec : {M : Type 1} → statement M

@@ -26,16 +26,34 @@ add-result-2 : tie.Need-add-result-2
 add-result-2 c = search needs
 
 mul-result-2 : tie.Need-mul-result-2
-mul-result-2 c = omega (arith, square (c .before .args .n) (c .before .args .i) (c .before .pre .0 .few) (c .before .pre .1), row-twice (c .before .args .n) (c .before .args .i) (c .before .pre .1))
+mul-result-2 c =
+    omega (
+      arith,
+      square (c .before .args .n) (c .before .args .i) (c .before .pre .0 .few) (c .before .pre .1),
+      row-twice (c .before .args .n)
+          (c .before .args .i) (c .before .pre .1),
+    )
 
 sub-result : tie.Need-sub-result
 sub-result c = omega (arith, row-twice (c .before .args .n) (c .before .args .i) (c .before .pre .1))
 
 mul-result-3 : tie.Need-mul-result-3
-mul-result-3 c = rw (counted (c .before .before .args .n) (c .before .before .args .i) (c .before .before .pre .1)) (omega (arith, at-le (c .before .before .args .form) (c .before .before .args .n) (c .before .before .args .i) (c .before .before .pre .0) (c .before .before .pre .1)))
+mul-result-3 c =
+    rw (counted (c .before .before .args .n) (c .before .before .args .i) (c .before .before .pre .1))
+    (omega (
+      arith,
+      at-le (c .before .before .args .form) (c .before .before .args .n) (c .before .before .args .i) (c .before .before .pre .0)
+          (c .before .before .pre .1),
+    ))
 
 add-result-3 : tie.Need-add-result-3
-add-result-3 c = rw (counted (c .before .before .args .n) (c .before .before .args .i) (c .before .before .pre .1)) (omega (arith, at-le (c .before .before .args .form) (c .before .before .args .n) (c .before .before .args .i) (c .before .before .pre .0) (c .before .before .pre .1)))
+add-result-3 c =
+    rw (counted (c .before .before .args .n) (c .before .before .args .i) (c .before .before .pre .1))
+    (omega (
+      arith,
+      at-le (c .before .before .args .form) (c .before .before .args .n) (c .before .before .args .i) (c .before .before .pre .0)
+          (c .before .before .pre .1),
+    ))
 
 returns : tie.Need-returns
 returns c = rw (counted (c .before .before .args .n) (c .before .before .args .i) (c .before .before .pre .1))

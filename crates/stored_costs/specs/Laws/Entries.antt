@@ -37,7 +37,8 @@ pub row-twice : (n i : ℕ) → i ≤ n → 2 * rowStart n i + i * (i + 1) ≡ 2
 unfolding rowStart
 row-twice n zero h = omega (arith, zero-mul n)
 row-twice n (suc i) h =
-    let p : suc i * (suc i + 1) ≡ i * (i + 1) + 2 * (i + 1) = ap (λ (x : ℕ). suc i * x) (omega arith) ∙ mul-add (suc i) (i + 1) 1 ∙ omega (arith, suc-mul i (i + 1)) in
+    let p : suc i * (suc i + 1) ≡ i * (i + 1) + 2 * (i + 1) = ap (λ (x : ℕ). suc i * x) (omega arith) ∙ mul-add (suc i) (i + 1) 1
+    ∙ omega (arith, suc-mul i (i + 1)) in
     omega (arith, row-twice n i (omega arith), p, suc-mul i n)
 
 pub number-lt : (n i j : ℕ) → i < j → j < n → entryNumber n i j < entryCount n
@@ -97,7 +98,8 @@ unfolding rowEntries entriesTo rowStart listed
 entries-listed d f n h = go n
   where
     row : (i : ℕ) → rowEntries d n i ≡ listed (λ k. f (rowStart n i + k)) (n - (i + 1))
-    row i = listed-same (λ k. d i (i + 1 + k)) (λ k. f (rowStart n i + k)) (n - (i + 1)) (λ k l. h i (i + 1 + k) (omega arith) (omega arith) ∙ ap f (omega arith))
+    row i =
+        listed-same (λ k. d i (i + 1 + k)) (λ k. f (rowStart n i + k)) (n - (i + 1)) (λ k l. h i (i + 1 + k) (omega arith) (omega arith) ∙ ap f (omega arith))
 
     go : (i : ℕ) → entriesTo d n i ≡ listed f (rowStart n i)
     go zero = refl

@@ -40,7 +40,8 @@ module _ (form : Form) (n : ℕ) (d : ℕ → ℕ → ℕ) where
   length-front = omega (arith, length-append (bitsOf (form .head) (form .mark)) (bitsOf 7 n), length-bitsOf (form .head) (form .mark), length-bitsOf 7 n)
 
   pub length-cost-bits : length costBits ≡ costEnd form n
-  length-cost-bits = ap length cost-parts ∙ omega (arith, length-append (bitsOf (form .head) (form .mark) ++ bitsOf 7 n) entryBits, length-front, length-entry-bits)
+  length-cost-bits =
+      ap length cost-parts ∙ omega (arith, length-append (bitsOf (form .head) (form .mark) ++ bitsOf 7 n) entryBits, length-front, length-entry-bits)
 
   pub all-bits-costs : AllBits costBits
   unfolding costBits
@@ -71,9 +72,11 @@ module _ (form : Form) (n : ℕ) (d : ℕ → ℕ → ℕ) where
       let lc = length-cost-bits in
       let z = bitsOf (fillWidth (costEnd form n)) 0 in
       let lz = length-bitsOf (fillWidth (costEnd form n)) 0 in
-      let s2 : bits b2 ≡ overAt o 0 (h ++ m) = e2 ∙ ap (λ (x : List ℕ). overAt x (form .head) m) e1 ∙ over-at-twice o 0 h m (form .head) (omega arith) (omega arith) in
+      let s2 : bits b2 ≡ overAt o 0 (h ++ m) = e2 ∙ ap (λ (x : List ℕ). overAt x (form .head) m) e1
+      ∙ over-at-twice o 0 h m (form .head) (omega arith) (omega arith) in
       let s3 : bits b3 ≡ overAt o 0 costBits =
-      e3 ∙ ap (λ (x : List ℕ). overAt x (form .head + 7) entryBits) s2 ∙ over-at-twice o 0 (h ++ m) entryBits (form .head + 7) (omega arith) (omega arith) ∙ ap (overAt o 0) (sym cost-parts) in
+      e3 ∙ ap (λ (x : List ℕ). overAt x (form .head + 7) entryBits) s2 ∙ over-at-twice o 0 (h ++ m) entryBits (form .head + 7) (omega arith) (omega arith)
+      ∙ ap (overAt o 0) (sym cost-parts) in
       let s4 : bits new ≡ overAt o 0 (costBits ++ z) =
       e4 ∙ ap (λ (x : List ℕ). overAt x (costEnd form n) z) s3 ∙ over-at-twice o 0 costBits z (costEnd form n) (omega arith) (omega arith) in
       written old new costBits all-bits-costs ho hn (omega arith)

@@ -41,7 +41,8 @@ module _ (L : ℕ) (f : ℕ → ℕ) (n : ℕ) where
 
   pub passed-stored : ((i j : ℕ) → i < j → j < n → f (entryNumber n i j) ≤ L) → storedCheck L (entryCost f n) n ≡ Passed
   passed-stored h =
-      passed-all (λ i. checkAll (entryCheck L (entryCost f n) i) (i + 1) (n - (i + 1))) 0 n (λ i l u. passed-all (entryCheck L (entryCost f n) i) (i + 1) (n - (i + 1))
+      passed-all (λ i. checkAll (entryCheck L (entryCost f n) i) (i + 1) (n - (i + 1))) 0 n
+      (λ i l u. passed-all (entryCheck L (entryCost f n) i) (i + 1) (n - (i + 1))
       (λ j m v. let k : i < j = omega arith in rw (cost-of-up f n i j k, le-ltb L (f (entryNumber n i j)) (h i j k (omega arith)))))
 
 -- ## Refusals 9, 1, 3, and 9, 11
@@ -52,8 +53,13 @@ start-passed form s room e =
     let n = imagesOf form s in
     let q = then-passed (endCheck s (bytesFor (form .head + 7))) (imagesCheck n then roomCheck (n * n) room) e in
     let r = then-passed (imagesCheck n) (roomCheck (n * n) room) (q .1) in
-    let o = images-passed n (r .0) in
-    (ltb-false _ _ (refuseIf-passed (ltb (length s) (bytesFor (form .head + 7))) _ (q .0)), o .0, o .1, ltb-false _ _ (refuseIf-passed (ltb room (n * n)) _ (r .1)))
+    let o = images-passed n (r .0) in (
+      ltb-false _ _ (refuseIf-passed (ltb (length s) (bytesFor (form .head + 7))) _ (q .0)),
+      o .0,
+      o .1,
+      ltb-false _ _
+          (refuseIf-passed (ltb room (n * n)) _ (r .1)),
+    )
 
 pub body-passed : (form : Form) (n : ℕ) (s : List ℕ) → bodyChecks form n s ≡ Passed → (costUsed form n ≤ length s) × (fillOf form n s ≡ 0)
 body-passed form n s e =
@@ -95,15 +101,18 @@ module _ (form : Form) (s : List ℕ) (room : ℕ) where
 module _ (form : Form) (bytes : List ℕ) (position room : ℕ) where
   -- an answer that is a table says which, and that all checks passed
   judged-table : (n used : ℕ) → judged form bytes position room ≡ Table n used
-      → (readAtChecks form bytes position room ≡ Passed) × (imagesOf form (drop (position / 8) bytes) ≡ n) × (costUsed form (imagesOf form (drop (position / 8) bytes)) ≡ used)
-  judged-table n used e = go (readAtChecks form bytes position room) (imagesOf form (drop (position / 8) bytes)) (costUsed form (imagesOf form (drop (position / 8) bytes))) e
+      → (readAtChecks form bytes position room ≡ Passed) × (imagesOf form (drop (position / 8) bytes) ≡ n)
+      × (costUsed form (imagesOf form (drop (position / 8) bytes)) ≡ used)
+  judged-table n used e =
+      go (readAtChecks form bytes position room) (imagesOf form (drop (position / 8) bytes)) (costUsed form (imagesOf form (drop (position / 8) bytes))) e
     where
       go : (c : Check) (m v : ℕ) → tableIf c m v ≡ Table n used → (c ≡ Passed) × (m ≡ n) × (v ≡ used)
       go Passed m v e = (refl, cc e, cc e)
       go (Refused r) m v e = absurd (let q : _≡_ {A = ℕ} 0 1 = cc in omega arith)
 
   pub judged-refused : (r : Refusal) → judged form bytes position room ≡ stored.Refused r → readAtChecks form bytes position room ≡ Refused r
-  judged-refused r e = go (readAtChecks form bytes position room) (imagesOf form (drop (position / 8) bytes)) (costUsed form (imagesOf form (drop (position / 8) bytes))) e
+  judged-refused r e =
+      go (readAtChecks form bytes position room) (imagesOf form (drop (position / 8) bytes)) (costUsed form (imagesOf form (drop (position / 8) bytes))) e
     where
       go : (c : Check) (m v : ℕ) → tableIf c m v ≡ stored.Refused r → c ≡ Refused r
       go Passed m v e = absurd (let q : _≡_ {A = ℕ} 0 1 = cc in omega arith)
@@ -118,7 +127,8 @@ module _ (form : Form) (bytes : List ℕ) (position room : ℕ) where
       let z = ltb-false 0 (position % 8) (q .1) in
       (ltb-false (length bytes) (position / 8) (q .0), omega (arith, z), read-passed form (drop (position / 8) bytes) room (p .1))
 
-pub table-at : (form : Form) (bytes : List ℕ) (position room n used : ℕ) → judged form bytes position room ≡ Table n used → TableAt form bytes position room n used
+pub table-at : (form : Form) (bytes : List ℕ) (position room n used : ℕ) → judged form bytes position room ≡ Table n used
+    → TableAt form bytes position room n used
 table-at form bytes position room n used e =
     let t = judged-table form bytes position room n used e in
     let p = read-at-passed form bytes position room (t .0) in

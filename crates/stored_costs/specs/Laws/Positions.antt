@@ -54,12 +54,14 @@ module _ (form : Form) where
       let s = costBytes form n (cost t n) ++ behind in
       let i : imagesOf form s ≡ n = written-images form n t behind c f in
       let m : storedTable form n s ≡ t = written-costs-of form n t behind c f in
-      read-at (ahead ++ s) s (length ahead) out (omega (arith, length-append ahead s)) (drop-append-seam ahead s) (written-readable form n t behind c f (length out) h)
+      read-at (ahead ++ s) s (length ahead) out (omega (arith, length-append ahead s)) (drop-append-seam ahead s)
+      (written-readable form n t behind c f (length out) h)
       ∙ ap (λ (x : ℕ). readInto x (costUsed form x) (storedTable form x s) out) i
       ∙ ap (λ (x : List ℕ). readInto n (costUsed form n) x out) m
 
   -- the bytes used are the form of the table that was read
-  pub used-bytes : (bytes : List ℕ) (position room n used : ℕ) → AllBytes bytes → judged form bytes position room ≡ Table n used → Marked form (drop (position / 8) bytes)
+  pub used-bytes : (bytes : List ℕ) (position room n used : ℕ) → AllBytes bytes → judged form bytes position room ≡ Table n used
+      → Marked form (drop (position / 8) bytes)
       → costBytes form n (cost (storedTable form n (drop (position / 8) bytes)) n) ≡ take used (drop (position / 8) bytes)
   used-bytes bytes position room n used b e m =
       let s = drop (position / 8) bytes in
@@ -72,4 +74,5 @@ module _ (form : Form) where
       → Marked form (drop (p / 8) a) → Marked form (drop (q / 8) b)
       → storedTable form n (drop (p / 8) a) ≡ storedTable form n (drop (q / 8) b)
       → take u (drop (p / 8) a) ≡ take v (drop (q / 8) b)
-  same-bytes a b p q r s n u v ha hb e f g i h = sym (used-bytes a p r n u ha e g) ∙ ap (λ (t : List ℕ). costBytes form n (cost t n)) h ∙ used-bytes b q s n v hb f i
+  same-bytes a b p q r s n u v ha hb e f g i h =
+      sym (used-bytes a p r n u ha e g) ∙ ap (λ (t : List ℕ). costBytes form n (cost t n)) h ∙ used-bytes b q s n v hb f i

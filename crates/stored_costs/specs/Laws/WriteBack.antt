@@ -45,20 +45,23 @@ module _ (form : Form) (s : List ℕ) (room : ℕ) (r : Readable form s room) (m
   front-again =
       let b = all-bits-bytes s in
       let l = length-bits s in
-      ap₂ (λ (x y : List ℕ). x ++ y) (ap (bitsOf (form .head)) (sym marked) ∙ part-again (bits s) 0 (form .head) b (omega (arith, r .begun))) (part-again (bits s) (form .head) 7 b (omega (arith, r .begun)))
+      ap₂ (λ (x y : List ℕ). x ++ y) (ap (bitsOf (form .head)) (sym marked) ∙ part-again (bits s) 0 (form .head) b (omega (arith, r .begun)))
+      (part-again (bits s) (form .head) 7 b (omega (arith, r .begun)))
       ∙ sym (part-more (bits s) 0 (form .head) 7 ∙ ap (λ (k : ℕ). part (bits s) 0 (form .head) ++ part (bits s) k 7) (zero-add (form .head)))
 
   bits-again : costBits form n (cost (storedTable form n s) n) ≡ part (bits s) 0 (costEnd form n)
   bits-again =
       cost-parts form n (cost (storedTable form n s) n)
       ∙ ap₂ (λ (x y : List ℕ). x ++ y) front-again entries-again
-      ∙ sym (part-more (bits s) 0 (form .head + 7) (form .width * entryCount n) ∙ ap (λ (k : ℕ). part (bits s) 0 (form .head + 7) ++ part (bits s) k (form .width * entryCount n)) (zero-add (form .head + 7)))
+      ∙ sym (part-more (bits s) 0 (form .head + 7) (form .width * entryCount n)
+      ∙ ap (λ (k : ℕ). part (bits s) 0 (form .head + 7) ++ part (bits s) k (form .width * entryCount n)) (zero-add (form .head + 7)))
 
   fill-again : bitsOf (fillWidth (costEnd form n)) 0 ≡ part (bits s) (costEnd form n) (fillWidth (costEnd form n))
   unfolding fillOf n
   fill-again =
       ap (bitsOf (fillWidth (costEnd form (imagesOf form s)))) (sym (r .clear))
-      ∙ part-again (bits s) (costEnd form (imagesOf form s)) (fillWidth (costEnd form (imagesOf form s))) (all-bits-bytes s) (omega (arith, length-bits s, r .whole))
+      ∙ part-again (bits s) (costEnd form (imagesOf form s)) (fillWidth (costEnd form (imagesOf form s))) (all-bits-bytes s)
+      (omega (arith, length-bits s, r .whole))
 
   filled-again : filled (costBits form n (cost (storedTable form n s) n)) ≡ bits (take (costUsed form n) s)
   unfolding filled n
@@ -72,7 +75,8 @@ module _ (form : Form) (s : List ℕ) (room : ℕ) (r : Readable form s room) (m
       ∙ bits-take (costUsed form (imagesOf form s)) s (r .whole)
 
   -- the same used bytes
-  pub read-written : AllBytes s → costBytes form (imagesOf form s) (cost (storedTable form (imagesOf form s) s) (imagesOf form s)) ≡ take (costUsed form (imagesOf form s)) s
+  pub read-written : AllBytes s
+      → costBytes form (imagesOf form s) (cost (storedTable form (imagesOf form s) s) (imagesOf form s)) ≡ take (costUsed form (imagesOf form s)) s
   unfolding costBytes fieldBytes costBits n
   read-written h =
       let d = cost (storedTable form (imagesOf form s) s) (imagesOf form s) in

@@ -85,7 +85,8 @@ returns-3 c =
     let i = f .before in
     let d = i .before in
     then-goes _ _ (d .enum-told .given .1) (d .before .before .check-head .ensures)
-    (then-goes _ _ (t .enum-told3 .given .1) (rw (i .images .ensures) at (f .refuse-if .ensures)) (rw (i .images .ensures, r .row-count .ensures) at (c .check-body .ensures)))
+    (then-goes _ _ (t .enum-told3 .given .1) (rw (i .images .ensures) at (f .refuse-if .ensures))
+    (rw (i .images .ensures, r .row-count .ensures) at (c .check-body .ensures)))
 
 pub check-stored-spec : {M : Type 1} → statement M
 check-stored-spec =

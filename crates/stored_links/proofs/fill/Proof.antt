@@ -28,7 +28,8 @@ begun c = c .before .before .before .before .before .before
 
 -- the row of this turn stands within the bytes, and its place is a small number
 placed : (c : tie.After-row-at Inv-loop μ-loop)
-    → (c .row-at .result + rowWidth (begun c .args .form .width) (begun c .args .n) ≤ 8 * length (begun c .args .bytes .now)) × (c .row-at .result + rowWidth (begun c .args .form .width) (begun c .args .n) ≤ lastRowEnd)
+    → (c .row-at .result + rowWidth (begun c .args .form .width) (begun c .args .n) ≤ 8 * length (begun c .args .bytes .now))
+    × (c .row-at .result + rowWidth (begun c .args .form .width) (begun c .args .n) ≤ lastRowEnd)
 placed c =
     let s = begun c in
     let a = s .args in
@@ -91,9 +92,11 @@ loop-again c =
       search needs,
       simp length-set (l .inv .1),
       simp length-set (l .inv .2),
-      listed-front-more (farAt (a .form) (a .n) (a .bytes .now)) (l .k) (c .before .far-at .result) _ (l .fars) (omega (arith, s .pre .1, r .before .loop-test .taken)) (l .inv .3)
+      listed-front-more (farAt (a .form) (a .n) (a .bytes .now)) (l .k) (c .before .far-at .result) _ (l .fars)
+          (omega (arith, s .pre .1, r .before .loop-test .taken)) (l .inv .3)
           (c .before .far-at .ensures ∙ ap (λ (p : ℕ). 2 * valueOf (part (bits (a .bytes .now)) p (a .n - 1))) (r .row-at .ensures)),
-      listed-front-more (costAt (a .form) (a .n) (a .bytes .now)) (l .k) (c .cost-at .result) _ (l .costs) (omega (arith, s .pre .2, r .before .loop-test .taken)) (l .inv .4)
+      listed-front-more (costAt (a .form) (a .n) (a .bytes .now)) (l .k) (c .cost-at .result) _ (l .costs)
+          (omega (arith, s .pre .2, r .before .loop-test .taken)) (l .inv .4)
           (c .cost-at .ensures ∙ ap (λ (p : ℕ). valueOf (part (bits (a .bytes .now)) (p + (a .n - 1)) (a .form .width))) (r .row-at .ensures)),
     )
 

@@ -62,7 +62,8 @@ returns-2 : tie.Need-returns-2
 returns-2 c =
     let d = c .before .before in
     let a = begun d .args in
-    if-goes stored.Refused _ _ (d .enum-told .given .1) (d .before .before .check-at .ensures) (rw (rest-part (a .bytes .now) (a .position / 8)) at (c .said .ensures))
+    if-goes stored.Refused _ _ (d .enum-told .given .1) (d .before .before .check-at .ensures)
+    (rw (rest-part (a .bytes .now) (a .position / 8)) at (c .said .ensures))
 
 pub judge-spec : {M : Type 1} → statement M
 judge-spec =

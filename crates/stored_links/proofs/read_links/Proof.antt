@@ -21,8 +21,10 @@ begun c = c .before .before .before .before .before
 
 -- the answer is a table: what it says
 told : (c : tie.After-n)
-    → (readAtChecks oldLinks (begun (c .before .before) .args .bytes .now) (begun (c .before .before) .args .position) (c .before .before .before .lesser .result) ≡ Passed)
-    × TableAt oldLinks (begun (c .before .before) .args .bytes .now) (begun (c .before .before) .args .position) (c .n .given .0 .0) (c .n .given .0 .1 .0) (c .n .given .0 .1 .1 .0)
+    → (readAtChecks oldLinks (begun (c .before .before) .args .bytes .now) (begun (c .before .before) .args .position)
+    (c .before .before .before .lesser .result) ≡ Passed)
+    × TableAt oldLinks (begun (c .before .before) .args .bytes .now) (begun (c .before .before) .args .position) (c .n .given .0 .0)
+    (c .n .given .0 .1 .0) (c .n .given .0 .1 .1 .0)
     × (2 * c .n .given .0 .0 - 3 ≤ c .before .before .before .lesser .result)
 told c =
     let j = c .before .before in
@@ -61,7 +63,8 @@ fill-requires c κs =
     let t = told n in
     let m = t .1 .stored .most in
     let r = j .before .lesser .ensures in
-    rw (c .before .before .before .old-form .ensures, rest-part (a .bytes .now) (a .position / 8)) (stored-held oldLinks _ _ _ (omega arith) (omega arith) (t .1 .stored), omega (arith, m, r, t .2), omega (arith, m, r, t .2))
+    rw (c .before .before .before .old-form .ensures, rest-part (a .bytes .now) (a .position / 8))
+    (stored-held oldLinks _ _ _ (omega arith) (omega arith) (t .1 .stored), omega (arith, m, r, t .2), omega (arith, m, r, t .2))
 
 returns : tie.Need-returns
 returns c =

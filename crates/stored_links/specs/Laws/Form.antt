@@ -62,7 +62,8 @@ module _ (form : Form) (n : ℕ) (l v : List ℕ) where
   length-links = length-packed linkBits ∙ ap bytesFor length-link-bits
 
   -- what follows the bytes follows the fill bits
-  pub bits-links-then : (behind : List ℕ) → bits (linkBytes form n l v ++ behind) ≡ frontBits ++ (allRows ++ (bitsOf (fillWidth (rowAt form n (length l))) 0 ++ bits behind))
+  pub bits-links-then : (behind : List ℕ)
+      → bits (linkBytes form n l v ++ behind) ≡ frontBits ++ (allRows ++ (bitsOf (fillWidth (rowAt form n (length l))) 0 ++ bits behind))
   unfolding linkBytes fieldBytes linkBits
   bits-links-then behind =
       let z = bitsOf (fillWidth (rowAt form n (length l))) 0 in
@@ -96,10 +97,14 @@ module _ (form : Form) (n : ℕ) (l v : List ℕ) where
       let end = rowAt form n (length l) in
       let z = bitsOf (fillWidth end) 0 in
       let lz = length-bitsOf (fillWidth end) 0 in
-      let s2 : bits b2 ≡ overAt o 0 (h ++ m) = e2 ∙ ap (λ (x : List ℕ). overAt x (form .head) m) e1 ∙ over-at-twice o 0 h m (form .head) (omega arith) (omega arith) in
-      let s3 : bits b3 ≡ overAt o 0 frontBits = e3 ∙ ap (λ (x : List ℕ). overAt x (form .head + 7) c) s2 ∙ over-at-twice o 0 (h ++ m) c (form .head + 7) (omega arith) (omega arith) in
+      let s2 : bits b2 ≡ overAt o 0 (h ++ m) = e2 ∙ ap (λ (x : List ℕ). overAt x (form .head) m) e1
+      ∙ over-at-twice o 0 h m (form .head) (omega arith) (omega arith) in
+      let s3 : bits b3 ≡ overAt o 0 frontBits = e3 ∙ ap (λ (x : List ℕ). overAt x (form .head + 7) c) s2
+      ∙ over-at-twice o 0 (h ++ m) c (form .head + 7) (omega arith) (omega arith) in
       let s4 : bits b4 ≡ overAt o 0 linkBits =
-      e4 ∙ ap (λ (x : List ℕ). overAt x (form .head + 14) allRows) s3 ∙ over-at-twice o 0 frontBits allRows (form .head + 14) (omega arith) (omega arith) ∙ ap (overAt o 0) (sym link-parts) in
-      let s5 : bits new ≡ overAt o 0 (linkBits ++ z) = e5 ∙ ap (λ (x : List ℕ). overAt x end z) s4 ∙ over-at-twice o 0 linkBits z end (omega arith) (omega arith) in
+      e4 ∙ ap (λ (x : List ℕ). overAt x (form .head + 14) allRows) s3 ∙ over-at-twice o 0 frontBits allRows (form .head + 14) (omega arith) (omega arith)
+      ∙ ap (overAt o 0) (sym link-parts) in
+      let s5 : bits new ≡ overAt o 0 (linkBits ++ z) = e5 ∙ ap (λ (x : List ℕ). overAt x end z) s4
+      ∙ over-at-twice o 0 linkBits z end (omega arith) (omega arith) in
       written old new linkBits all-bits-links ho hn (omega arith)
       (s5 ∙ ap (λ (x : ℕ). overAt o 0 (linkBits ++ bitsOf (fillWidth x) 0)) (sym lb))

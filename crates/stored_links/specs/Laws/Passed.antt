@@ -26,7 +26,8 @@ use Rattle.stored_links.specs.Stored.{Stored}
 -- ## Refusals 9, 1, 10, and 9, 11, 12, 13
 
 pub head-passed : (form : Form) (s : List ℕ) → headChecks form s ≡ Passed
-    → (bytesFor (form .head + 14) ≤ length s) × (3 ≤ imagesOf form s) × (imagesOf form s ≤ 64) × (imagesOf form s ≤ countOf form s) × (countOf form s ≤ 2 * imagesOf form s - 3)
+    → (bytesFor (form .head + 14) ≤ length s) × (3 ≤ imagesOf form s) × (imagesOf form s ≤ 64) × (imagesOf form s ≤ countOf form s)
+    × (countOf form s ≤ 2 * imagesOf form s - 3)
 head-passed form s e =
     let q = then-passed (endCheck s (bytesFor (form .head + 14))) (countChecks (imagesOf form s) (countOf form s)) e in
     let o = count-passed (imagesOf form s) (countOf form s) (q .1) in
@@ -55,10 +56,12 @@ module _ (form : Form) (s : List ℕ) where
   same-length : (n N : ℕ) → length (farsOf form n N s) ≡ length (costsOf form n N s)
   same-length n N = length-listed (farAt form n s) N ∙ sym (length-listed (costAt form n s) N)
 
-  pub passed-rows : (n N : ℕ) → rowChecks (form .limit) n (farsOf form n N s) (costsOf form n N s) ≡ Passed → LinkTable (form .limit) n (rowsOf (farsOf form n N s) (costsOf form n N s))
+  pub passed-rows : (n N : ℕ) → rowChecks (form .limit) n (farsOf form n N s) (costsOf form n N s) ≡ Passed
+      → LinkTable (form .limit) n (rowsOf (farsOf form n N s) (costsOf form n N s))
   passed-rows n N e = row-checks (form .limit) n (farsOf form n N s) (costsOf form n N s) (same-length n N) .0 e
 
-  pub rows-passed : (n N : ℕ) → LinkTable (form .limit) n (rowsOf (farsOf form n N s) (costsOf form n N s)) → rowChecks (form .limit) n (farsOf form n N s) (costsOf form n N s) ≡ Passed
+  pub rows-passed : (n N : ℕ) → LinkTable (form .limit) n (rowsOf (farsOf form n N s) (costsOf form n N s))
+      → rowChecks (form .limit) n (farsOf form n N s) (costsOf form n N s) ≡ Passed
   rows-passed n N t = row-checks (form .limit) n (farsOf form n N s) (costsOf form n N s) (same-length n N) .1 t
 
   pub read-passed : (room : ℕ) → readChecks form s room ≡ Passed → Stored form (imagesOf form s) (countOf form s) s × (2 * imagesOf form s - 3 ≤ room)
@@ -69,7 +72,18 @@ module _ (form : Form) (s : List ℕ) where
       let h = head-passed form s (p .0) in
       let t = then-passed (roomCheck (2 * n - 3) room) (bodyChecks form n N s) (p .1) in
       let b = body-passed form n N s (t .1) in (
-        record { begun = h .0; images = refl; counted = refl; some = h .1; few = h .2; least = h .3; most = h .4; whole = b .0; clear = b .1; rows = passed-rows n N (b .2) },
+        record {
+          begun = h .0;
+          images = refl;
+          counted = refl;
+          some = h .1;
+          few = h .2;
+          least = h .3;
+          most = h .4;
+          whole = b .0;
+          clear = b .1;
+          rows = passed-rows n N (b .2);
+        },
         room-passed (2 * n - 3) room (t .0),
       )
 

@@ -32,7 +32,8 @@ module _ (form : Form) (bytes : List ℕ) (position : ℕ) where
 
   -- the position is a byte's start within the bytes, and a table stands there that has room
   pub read-at-passed : (room : ℕ) → readAtChecks form bytes position room ≡ Passed
-      → TableAt form bytes position (imagesOf form (drop (position / 8) bytes)) (countOf form (drop (position / 8) bytes)) (usedOf form (drop (position / 8) bytes))
+      → TableAt form bytes position (imagesOf form (drop (position / 8) bytes)) (countOf form (drop (position / 8) bytes))
+      (usedOf form (drop (position / 8) bytes))
       × (2 * imagesOf form (drop (position / 8) bytes) - 3 ≤ room)
   read-at-passed room e =
       let s = drop (position / 8) bytes in

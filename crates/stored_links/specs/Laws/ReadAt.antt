@@ -42,7 +42,8 @@ module _ (form : Form) where
   read-rest bytes k f u h = read-front (drop k bytes) (drop k bytes) 0 f u (omega arith) refl ∙ sym (read-front bytes (drop k bytes) k f u h refl)
 
   -- reading what was written gives the table back, whatever stands ahead and behind
-  pub written-at : (n N : ℕ) (l v ahead behind f u : List ℕ) → Links (form .limit) n N l v → 2 * form .limit < 2 ^ form .width → 2 * n - 3 ≤ length f → 2 * n - 3 ≤ length u
+  pub written-at : (n N : ℕ) (l v ahead behind f u : List ℕ) → Links (form .limit) n N l v → 2 * form .limit < 2 ^ form .width → 2 * n - 3 ≤ length f
+      → 2 * n - 3 ≤ length u
       → readOutcome form (ahead ++ (linkBytes form n l v ++ behind)) (8 * length ahead) f u ≡ readInto n N (linkUsed form n N) l v f u
   written-at n N l v ahead behind f u t g h k =
       let s = linkBytes form n l v ++ behind in
@@ -62,11 +63,13 @@ module _ (form : Form) where
       → linkBytes form n (farsOf form n N (drop (position / 8) bytes)) (costsOf form n N (drop (position / 8) bytes))
       ≡ take used (drop (position / 8) bytes)
   used-bytes bytes position n N used b t m =
-      read-written form n N (drop (position / 8) bytes) (t .stored) m (all-bytes-drop (position / 8) bytes b) ∙ ap (λ (x : ℕ). take x (drop (position / 8) bytes)) (t .used-is)
+      read-written form n N (drop (position / 8) bytes) (t .stored) m (all-bytes-drop (position / 8) bytes b)
+      ∙ ap (λ (x : ℕ). take x (drop (position / 8) bytes)) (t .used-is)
 
   -- one stored form for one table: bytes that are read as the same table are the same
   pub same-bytes : (a b : List ℕ) (p q n N i j : ℕ) → AllBytes a → AllBytes b → TableAt form a p n N i → TableAt form b q n N j
       → Marked form (drop (p / 8) a) → Marked form (drop (q / 8) b)
       → farsOf form n N (drop (p / 8) a) ≡ farsOf form n N (drop (q / 8) b) → costsOf form n N (drop (p / 8) a) ≡ costsOf form n N (drop (q / 8) b)
       → take i (drop (p / 8) a) ≡ take j (drop (q / 8) b)
-  same-bytes a b p q n N i j ha hb s t g h e f = sym (used-bytes a p n N i ha s g) ∙ ap₂ (λ (x y : List ℕ). linkBytes form n x y) e f ∙ used-bytes b q n N j hb t h
+  same-bytes a b p q n N i j ha hb s t g h e f =
+      sym (used-bytes a p n N i ha s g) ∙ ap₂ (λ (x y : List ℕ). linkBytes form n x y) e f ∙ used-bytes b q n N j hb t h

@@ -66,7 +66,8 @@ module _ (form : Form) (n N : ℕ) (l v behind : List ℕ) (t : Links (form .lim
       let c = bitsOf 7 (length l) in
       let f = count-fits in
       ap (λ (x : List ℕ). valueOf (part x (form .head + 7) 7)) (bits-links-then form n l v behind ∙ append-assoc (h ++ m) c r)
-      ∙ ap valueOf (part-cut (h ++ m) c r (form .head + 7) 7 (omega (arith, length-append h m, length-bitsOf (form .head) (form .mark), length-bitsOf 7 n)) (length-bitsOf 7 (length l)))
+      ∙ ap valueOf (part-cut (h ++ m) c r (form .head + 7) 7 (omega (arith, length-append h m, length-bitsOf (form .head) (form .mark), length-bitsOf 7 n))
+      (length-bitsOf 7 (length l)))
       ∙ value-bits 7 (length l) (omega (arith, f .1, t .counted, t .few))
       ∙ t .counted
 
@@ -78,7 +79,8 @@ module _ (form : Form) (n N : ℕ) (l v behind : List ℕ) (t : Links (form .lim
       let z = bitsOf (fillWidth end) 0 in
       ap (λ (x : ℕ). valueOf (part (bits s) (rowAt form n x) (fillWidth (rowAt form n x)))) (sym (t .counted))
       ∙ ap (λ (x : List ℕ). valueOf (part x end (fillWidth end))) (bits-links-then form n l v behind ∙ sym (append-assoc a b (z ++ bits behind)))
-      ∙ ap valueOf (part-cut (a ++ b) z (bits behind) end (fillWidth end) (omega (arith, length-append a b, length-front form n l v, length-all-rows form n l v)) (length-bitsOf (fillWidth end) 0))
+      ∙ ap valueOf (part-cut (a ++ b) z (bits behind) end (fillWidth end)
+      (omega (arith, length-append a b, length-front form n l v, length-all-rows form n l v)) (length-bitsOf (fillWidth end) 0))
       ∙ value-bits (fillWidth end) 0 (pow-pos (fillWidth end))
 
   far-is : (k : ℕ) → k < N → getD l k 0 ≡ farAt form n s k

@@ -44,7 +44,14 @@ module _ (w n : ℕ) (f g : ℕ → ℕ) where
   length-rows zero = sym (mul-zero (rowWidth w n))
   length-rows (suc k) =
       ap length (rows-suc k)
-      ∙ omega (arith, length-append (fieldBits (rowsTo w n f g k)) (fieldBits (rowFields w n (f k) (g k))), length-rows k, length-row w n (f k) (g k), mul-suc (rowWidth w n) k)
+      ∙ omega (
+        arith,
+        length-append (fieldBits (rowsTo w n f g k)) (fieldBits (rowFields w n (f k) (g k))),
+        length-rows k,
+        length-row w n (f k)
+            (g k),
+        mul-suc (rowWidth w n) k,
+      )
 
   -- ## Row after row, written over
 
@@ -52,16 +59,19 @@ module _ (w n : ℕ) (f g : ℕ → ℕ) where
   unfolding rowsTo fieldBits
   rows-over-none l position = sym (over-at-none l position)
 
-  pub rows-over-more : (l x : List ℕ) (position p k : ℕ) → p ≡ position + rowWidth w n * k → p + rowWidth w n ≤ length l → x ≡ overAt l position (fieldBits (rowsTo w n f g k))
+  pub rows-over-more : (l x : List ℕ) (position p k : ℕ) → p ≡ position + rowWidth w n * k → p + rowWidth w n ≤ length l
+      → x ≡ overAt l position (fieldBits (rowsTo w n f g k))
       → overAt x p (fieldBits (rowFields w n (f k) (g k))) ≡ overAt l position (fieldBits (rowsTo w n f g (k + 1)))
   rows-over-more l x position p k e h q =
       ap (λ (y : List ℕ). overAt y p (fieldBits (rowFields w n (f k) (g k)))) q
-      ∙ over-at-twice l position (fieldBits (rowsTo w n f g k)) (fieldBits (rowFields w n (f k) (g k))) p (omega (arith, length-rows k)) (omega (arith, length-row w n (f k) (g k)))
+      ∙ over-at-twice l position (fieldBits (rowsTo w n f g k)) (fieldBits (rowFields w n (f k) (g k))) p (omega (arith, length-rows k))
+      (omega (arith, length-row w n (f k) (g k)))
       ∙ ap (overAt l position) (sym (rows-more k))
 
   -- ## Row k of m, found again
 
-  row-found : (k m : ℕ) → k < m → (r : List ℕ) → (t : List ℕ) × (fieldBits (rowsTo w n f g m) ++ r ≡ fieldBits (rowsTo w n f g k) ++ (fieldBits (rowFields w n (f k) (g k)) ++ t))
+  row-found : (k m : ℕ) → k < m → (r : List ℕ) → (t : List ℕ)
+      × (fieldBits (rowsTo w n f g m) ++ r ≡ fieldBits (rowsTo w n f g k) ++ (fieldBits (rowFields w n (f k) (g k)) ++ t))
   row-found k zero h r = absurd (omega arith)
   row-found k (suc m) h r =
       let x = fieldBits (rowFields w n (f m) (g m)) in
@@ -72,12 +82,14 @@ module _ (w n : ℕ) (f g : ℕ → ℕ) where
       (λ l. let q : k ≡ m = omega (arith, ltb-false k m l) in (r, rw q e))
 
   module _ (a r : List ℕ) (position k m : ℕ) (e : length a ≡ position) (h : k < m) where
-    around : (t : List ℕ) × (a ++ (fieldBits (rowsTo w n f g m) ++ r) ≡ (a ++ fieldBits (rowsTo w n f g k)) ++ (bitsOf (n - 1) (f k / 2) ++ (bitsOf w (g k) ++ t)))
+    around : (t : List ℕ)
+        × (a ++ (fieldBits (rowsTo w n f g m) ++ r) ≡ (a ++ fieldBits (rowsTo w n f g k)) ++ (bitsOf (n - 1) (f k / 2) ++ (bitsOf w (g k) ++ t)))
     around =
         let i = row-found k m h r in
         let x = fieldBits (rowsTo w n f g k) in (
           i .0,
-          ap (λ (y : List ℕ). a ++ y) (i .1 ∙ ap (λ (y : List ℕ). x ++ (y ++ i .0)) (row-bits w n (f k) (g k)) ∙ ap (λ (y : List ℕ). x ++ y) (append-assoc (bitsOf (n - 1) (f k / 2)) (bitsOf w (g k)) (i .0)))
+          ap (λ (y : List ℕ). a ++ y) (i .1 ∙ ap (λ (y : List ℕ). x ++ (y ++ i .0)) (row-bits w n (f k) (g k))
+              ∙ ap (λ (y : List ℕ). x ++ y) (append-assoc (bitsOf (n - 1) (f k / 2)) (bitsOf w (g k)) (i .0)))
               ∙ sym (append-assoc a x (bitsOf (n - 1) (f k / 2) ++ (bitsOf w (g k) ++ i .0))),
         )
 
@@ -87,14 +99,16 @@ module _ (w n : ℕ) (f g : ℕ → ℕ) where
     pub far-found : part (a ++ (fieldBits (rowsTo w n f g m) ++ r)) (position + rowWidth w n * k) (n - 1) ≡ bitsOf (n - 1) (f k / 2)
     far-found =
         ap (λ (l : List ℕ). part l (position + rowWidth w n * k) (n - 1)) (around .1)
-        ∙ part-cut (a ++ fieldBits (rowsTo w n f g k)) (bitsOf (n - 1) (f k / 2)) (bitsOf w (g k) ++ around .0) (position + rowWidth w n * k) (n - 1) length-before (length-bitsOf (n - 1) (f k / 2))
+        ∙ part-cut (a ++ fieldBits (rowsTo w n f g k)) (bitsOf (n - 1) (f k / 2)) (bitsOf w (g k) ++ around .0) (position + rowWidth w n * k)
+        (n - 1) length-before (length-bitsOf (n - 1) (f k / 2))
 
     pub cost-found : part (a ++ (fieldBits (rowsTo w n f g m) ++ r)) (position + rowWidth w n * k + (n - 1)) w ≡ bitsOf w (g k)
     cost-found =
         let b = a ++ fieldBits (rowsTo w n f g k) in
         let x = bitsOf (n - 1) (f k / 2) in
         ap (λ (l : List ℕ). part l (position + rowWidth w n * k + (n - 1)) w) (around .1 ∙ sym (append-assoc b x (bitsOf w (g k) ++ around .0)))
-        ∙ part-cut (b ++ x) (bitsOf w (g k)) (around .0) (position + rowWidth w n * k + (n - 1)) w (omega (arith, length-append b x, length-before, length-bitsOf (n - 1) (f k / 2))) (length-bitsOf w (g k))
+        ∙ part-cut (b ++ x) (bitsOf w (g k)) (around .0) (position + rowWidth w n * k + (n - 1)) w
+        (omega (arith, length-append b x, length-before, length-bitsOf (n - 1) (f k / 2))) (length-bitsOf w (g k))
 
 -- rows with the same far sides and costs
 pub rows-same : (w n : ℕ) (f g d e : ℕ → ℕ) (m : ℕ) → ((k : ℕ) → k < m → (f k ≡ d k) × (g k ≡ e k)) → rowsTo w n f g m ≡ rowsTo w n d e m
@@ -129,7 +143,8 @@ rows-again form n s (suc m) h =
     let ih = rows-again form n s m (omega (arith, mul-suc (rowWidth (form .width) n) m)) in
     rows-suc (form .width) n (farAt form n s) (costAt form n s) m
     ∙ ap₂ (λ (x y : List ℕ). x ++ y) ih (row-again form n s m (omega (arith, mul-suc (rowWidth (form .width) n) m)))
-    ∙ sym (ap (part l (form .head + 14)) (mul-suc (rowWidth (form .width) n) m) ∙ part-more l (form .head + 14) (rowWidth (form .width) n * m) (rowWidth (form .width) n))
+    ∙ sym (ap (part l (form .head + 14)) (mul-suc (rowWidth (form .width) n) m)
+    ∙ part-more l (form .head + 14) (rowWidth (form .width) n * m) (rowWidth (form .width) n))
 
 -- two writes, one behind the other, make a row
 pub row-over : (w n S c position : ℕ) (l x y : List ℕ) → position + rowWidth w n ≤ length l

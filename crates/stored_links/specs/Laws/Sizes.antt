@@ -9,7 +9,8 @@ use Rattle.stored_links.specs.Sizes.{Small, lastRowEnd}
 use Rattle.bits.specs.declared.Form.{Form}
 
 pub end-le : (form : Form) (n N : ℕ) → Small form n N → rowAt form n N ≤ lastRowEnd
-end-le form n N s = omega (arith, s .short, mul-le-mul {n₁ = rowWidth (form .width) n} {m₁ = N} {n₂ = 95} {m₂ = 125} (omega (arith, s .narrow, s .few)) (s .rows))
+end-le form n N s =
+    omega (arith, s .short, mul-le-mul {n₁ = rowWidth (form .width) n} {m₁ = N} {n₂ = 95} {m₂ = 125} (omega (arith, s .narrow, s .few)) (s .rows))
 
 -- row k stands before the end
 pub row-within : (form : Form) (n N k : ℕ) → k < N → rowAt form n k + rowWidth (form .width) n ≤ rowAt form n N

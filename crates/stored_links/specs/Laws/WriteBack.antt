@@ -48,7 +48,8 @@ module _ (form : Form) (n N : ℕ) (s : List ℕ) (r : Stored form n N s) (marke
   unfolding allRows end l v
   rows-back =
       ap (λ (m : ℕ). fieldBits (rowsTo (form .width) n (λ k. getD l k 0) (λ k. getD v k 0) m)) count-is
-      ∙ ap fieldBits (rows-same (form .width) n (λ k. getD l k 0) (λ k. getD v k 0) (farAt form n s) (costAt form n s) N (λ k h. (listed-at (farAt form n s) N k h, listed-at (costAt form n s) N k h)))
+      ∙ ap fieldBits (rows-same (form .width) n (λ k. getD l k 0) (λ k. getD v k 0) (farAt form n s) (costAt form n s) N
+      (λ k h. (listed-at (farAt form n s) N k h, listed-at (costAt form n s) N k h)))
       ∙ rows-again form n s N within
 
   front-back : frontBits form n l v ≡ part (bits s) 0 (form .head + 14)
@@ -60,16 +61,19 @@ module _ (form : Form) (n N : ℕ) (s : List ℕ) (r : Stored form n N s) (marke
       let i : bitsOf 7 n ≡ part q (form .head) 7 = ap (bitsOf 7) (sym (r .images)) ∙ part-again q (form .head) 7 b (omega arith) in
       let c : bitsOf 7 (length l) ≡ part q (form .head + 7) 7 = ap (bitsOf 7) (count-is ∙ sym (r .counted)) ∙ part-again q (form .head + 7) 7 b (omega arith) in
       ap₂ (λ (x y : List ℕ). x ++ y)
-      (ap₂ (λ (x y : List ℕ). x ++ y) (ap (bitsOf (form .head)) (sym marked) ∙ part-again q 0 (form .head) b (omega arith)) i ∙ sym (part-more q 0 (form .head) 7 ∙ ap (λ (k : ℕ). part q 0 (form .head) ++ part q k 7) (zero-add (form .head))))
+      (ap₂ (λ (x y : List ℕ). x ++ y) (ap (bitsOf (form .head)) (sym marked) ∙ part-again q 0 (form .head) b (omega arith)) i
+      ∙ sym (part-more q 0 (form .head) 7 ∙ ap (λ (k : ℕ). part q 0 (form .head) ++ part q k 7) (zero-add (form .head))))
       c
-      ∙ sym (ap (part q 0) (omega arith) ∙ part-more q 0 (form .head + 7) 7 ∙ ap (λ (k : ℕ). part q 0 (form .head + 7) ++ part q k 7) (zero-add (form .head + 7)))
+      ∙ sym
+      (ap (part q 0) (omega arith) ∙ part-more q 0 (form .head + 7) 7 ∙ ap (λ (k : ℕ). part q 0 (form .head + 7) ++ part q k 7) (zero-add (form .head + 7)))
 
   bits-back : linkBits form n l v ≡ part (bits s) 0 end
   unfolding end
   bits-back =
       link-parts form n l v
       ∙ ap₂ (λ (x y : List ℕ). x ++ y) front-back rows-back
-      ∙ sym (part-more (bits s) 0 (form .head + 14) (rowWidth (form .width) n * N) ∙ ap (λ (k : ℕ). part (bits s) 0 (form .head + 14) ++ part (bits s) k (rowWidth (form .width) n * N)) (zero-add (form .head + 14)))
+      ∙ sym (part-more (bits s) 0 (form .head + 14) (rowWidth (form .width) n * N)
+      ∙ ap (λ (k : ℕ). part (bits s) 0 (form .head + 14) ++ part (bits s) k (rowWidth (form .width) n * N)) (zero-add (form .head + 14)))
 
   fill-back : bitsOf (fillWidth end) 0 ≡ part (bits s) end (fillWidth end)
   unfolding fillOf end

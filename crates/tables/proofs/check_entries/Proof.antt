@@ -10,7 +10,8 @@ use Rattle.tables.proofs.check_entries.Statement.{statement}
 use Rattle.tables.proofs.check_entries.Tie as tie
 
 abbrev Inv-loop : tie.InvT-loop
-Inv-loop most n t i₀ i = (i ≤ n) × (checkAll (λ i. checkAll (entryCheck most (cost t n) i) 0 n) 0 n ≡ checkAll (λ i. checkAll (entryCheck most (cost t n) i) 0 n) i (n - i))
+Inv-loop most n t i₀ i =
+    (i ≤ n) × (checkAll (λ i. checkAll (entryCheck most (cost t n) i) 0 n) 0 n ≡ checkAll (λ i. checkAll (entryCheck most (cost t n) i) 0 n) i (n - i))
 
 abbrev μ-loop : tie.MeasureT-loop
 μ-loop most n t i₀ i = n - i
@@ -38,8 +39,11 @@ loop-less : tie.Need-loop-less Inv-loop μ-loop
 loop-less c = search needs
 
 loop-again : tie.Need-loop-again Inv-loop μ-loop
-loop-again c =
-    (search needs, all-goes _ _ _ (search needs) (c .before .before .before .before .loop .inv .1) (c .enum-told2 .given .1) (c .before .before .check-row .ensures))
+loop-again c = (
+  search needs,
+  all-goes _ _ _ (search needs) (c .before .before .before .before .loop .inv .1) (c .enum-told2 .given .1)
+      (c .before .before .check-row .ensures),
+)
 
 returns-2 : tie.Need-returns-2 Inv-loop μ-loop
 returns-2 c = all-ends _ _ _ (search needs) (c .before .loop .inv .1)

@@ -38,8 +38,11 @@ loop-less : tie.Need-loop-less Inv-loop μ-loop
 loop-less c = search needs
 
 loop-again : tie.Need-loop-again Inv-loop μ-loop
-loop-again c =
-    (search needs, all-goes _ _ _ (search needs) (c .before .before .before .before .loop .inv .1) (c .enum-told2 .given .1) (c .before .before .check-entry .ensures))
+loop-again c = (
+  search needs,
+  all-goes _ _ _ (search needs) (c .before .before .before .before .loop .inv .1) (c .enum-told2 .given .1)
+      (c .before .before .check-entry .ensures),
+)
 
 returns-2 : tie.Need-returns-2 Inv-loop μ-loop
 returns-2 c = all-ends _ _ _ (search needs) (c .before .loop .inv .1)

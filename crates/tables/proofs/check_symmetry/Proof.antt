@@ -10,7 +10,10 @@ use Rattle.tables.proofs.check_symmetry.Statement.{statement}
 use Rattle.tables.proofs.check_symmetry.Tie as tie
 
 abbrev Inv-loop : tie.InvT-loop
-Inv-loop n t i₀ i = (i ≤ n) × (checkAll (λ i. checkAll (mirrorCheck (cost t n) i) (i + 1) (n - (i + 1))) 0 n ≡ checkAll (λ i. checkAll (mirrorCheck (cost t n) i) (i + 1) (n - (i + 1))) i (n - i))
+Inv-loop n t i₀ i =
+    (i ≤ n)
+    × (checkAll (λ i. checkAll (mirrorCheck (cost t n) i) (i + 1) (n - (i + 1))) 0 n ≡ checkAll
+    (λ i. checkAll (mirrorCheck (cost t n) i) (i + 1) (n - (i + 1))) i (n - i))
 
 abbrev μ-loop : tie.MeasureT-loop
 μ-loop n t i₀ i = n - i
@@ -38,8 +41,11 @@ loop-less : tie.Need-loop-less Inv-loop μ-loop
 loop-less c = search needs
 
 loop-again : tie.Need-loop-again Inv-loop μ-loop
-loop-again c =
-    (search needs, all-goes _ _ _ (search needs) (c .before .before .before .before .loop .inv .1) (c .enum-told2 .given .1) (c .before .before .check-mirrors .ensures))
+loop-again c = (
+  search needs,
+  all-goes _ _ _ (search needs) (c .before .before .before .before .loop .inv .1) (c .enum-told2 .given .1)
+      (c .before .before .check-mirrors .ensures),
+)
 
 returns-2 : tie.Need-returns-2 Inv-loop μ-loop
 returns-2 c = all-ends _ _ _ (search needs) (c .before .loop .inv .1)

@@ -44,7 +44,9 @@ module _ (L : ℕ) (d : ℕ → ℕ → ℕ) (n : ℕ) where
         small = λ {i} {j} hi hj.
             let r = all-passed (λ i. checkAll (entryCheck L d i) 0 n) 0 n (p .0) i (omega arith) (omega arith) in
             ltb-false L (d i j) (refuseIf-passed (ltb L (d i j)) _ (all-passed (entryCheck L d i) 0 n r j (omega arith) (omega arith)));
-        self = λ {i} hi. omega (arith, ltb-false 0 (d i i) (refuseIf-passed (ltb 0 (d i i)) _ (all-passed (zeroCheck d) 0 n (q .0) i (omega arith) (omega arith))));
+        self =
+            λ {i} hi. omega
+            (arith, ltb-false 0 (d i i) (refuseIf-passed (ltb 0 (d i i)) _ (all-passed (zeroCheck d) 0 n (q .0) i (omega arith) (omega arith))));
         same = λ {i} {j} hi hj. same i j hi hj (q .1);
       }
     where
@@ -63,7 +65,8 @@ module _ (L : ℕ) (d : ℕ → ℕ → ℕ) (n : ℕ) where
   pub passed-costs : WellFormed L d n → costsCheck L d n ≡ Passed
   passed-costs c =
       rw (
-        passed-all (λ i. checkAll (entryCheck L d i) 0 n) 0 n (λ i l h. passed-all (entryCheck L d i) 0 n (λ j m u. rw (le-ltb L (d i j) (c .small (omega arith) (omega arith))))),
+        passed-all (λ i. checkAll (entryCheck L d i) 0 n) 0 n
+            (λ i l h. passed-all (entryCheck L d i) 0 n (λ j m u. rw (le-ltb L (d i j) (c .small (omega arith) (omega arith))))),
         passed-all (zeroCheck d) 0 n (λ i l h. rw (le-ltb 0 (d i i) (omega (arith, c .self {i = i} (omega arith))))),
       )
       (passed-all (λ i. checkAll (mirrorCheck d i) (i + 1) (n - (i + 1))) 0 n (λ i l h. passed-all (mirrorCheck d i) (i + 1) (n - (i + 1))

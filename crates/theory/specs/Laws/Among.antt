@@ -67,7 +67,8 @@ module _ (f : Row → ℕ) (g : ℕ → ℕ) where
       go hd lo eq (inl u) ih = omega (arith, ap f u, ap (λ (x : Row). g (x .0)) u)
       go hd lo eq (inr u) ih = ih u
 
-  pub among-all : {T : List Row} {l : List ℕ} → Among T l → Each T (λ r. f r ≤ g (r .0)) → sum l g ≤ sum T f → (S : ℕ) → List·Memᴰ S l → 0 < g S → List·Memᴰ S (fars T)
+  pub among-all : {T : List Row} {l : List ℕ} → Among T l → Each T (λ r. f r ≤ g (r .0)) → sum l g ≤ sum T f → (S : ℕ) → List·Memᴰ S l → 0 < g S
+      → List·Memᴰ S (fars T)
   among-all done h s R t p = absurd (List·Memᴰ·not-nil t)
   among-all (skip {S} {T} {l} m) h s R t p =
       go (among-sum m h) (List·Memᴰ·cases-cons t) (λ u. among-all m h (omega arith) R u p)

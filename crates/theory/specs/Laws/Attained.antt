@@ -34,8 +34,10 @@ module _ (L : ℕ) (d : ℕ → ℕ → ℕ) (n : ℕ) (c : WellFormed L d n) wh
   pub shifted-at : (s : ℕ → ℕ) {x y : ℕ} → On n s 0 x → On n s 1 y → Attained s
   unfolding shifted
   shifted-at s {x} {y} hx hy =
-      let p = leastOn-at s 0 (4 * L) (λ a. leastOn n s 0 (4 * L) (λ a′. leastOn n s 1 (4 * L) (λ b. leastOn n s 1 (4 * L) (λ b′. gain L d a a′ b b′)))) n x hx (leastOn-cap s 0 (4 * L) _ n) in
-      let q = leastOn-at s 0 (4 * L) (λ a′. leastOn n s 1 (4 * L) (λ b. leastOn n s 1 (4 * L) (λ b′. gain L d (p .0) a′ b b′))) n x hx (leastOn-cap s 1 (4 * L) _ n) in
+      let p = leastOn-at s 0 (4 * L)
+      (λ a. leastOn n s 0 (4 * L) (λ a′. leastOn n s 1 (4 * L) (λ b. leastOn n s 1 (4 * L) (λ b′. gain L d a a′ b b′)))) n x hx (leastOn-cap s 0 (4 * L) _ n) in
+      let q = leastOn-at s 0 (4 * L) (λ a′. leastOn n s 1 (4 * L) (λ b. leastOn n s 1 (4 * L) (λ b′. gain L d (p .0) a′ b b′))) n x hx
+      (leastOn-cap s 1 (4 * L) _ n) in
       let r = leastOn-at s 1 (4 * L) (λ b. leastOn n s 1 (4 * L) (λ b′. gain L d (p .0) (q .0) b b′)) n y hy (leastOn-cap s 1 (4 * L) _ n) in
       let t = leastOn-at s 1 (4 * L) (λ b′. gain L d (p .0) (q .0) (r .0) b′) n y hy (gain-cap (p .1 .0) (q .1 .0) (r .1 .0) (hy .0)) in
       record { a = p .0; a′ = q .0; b = r .0; b′ = t .0; on-a = p .1; on-a′ = q .1; on-b = r .1; on-b′ = t .1; least = p .2 ∙ q .2 ∙ r .2 ∙ t .2 }
@@ -52,7 +54,8 @@ module _ (L : ℕ) (d : ℕ → ℕ → ℕ) (n : ℕ) (c : WellFormed L d n) wh
       le-leastOn s 1 (4 * L) _ n (shifted L d n s) (shifted-cap L d n s) (λ b hb. le-leastOn s 1 (4 * L) _ n (shifted L d n s) (shifted-cap L d n s) (λ b′ hb′.
       omega (arith, shifted-le L d n s ha ha′ hb hb′))))))
       (le-shifted L d n s _ (leastOn-cap s 0 (4 * L) _ n) (λ a a′ b b′ ha ha′ hb hb′.
-      pair _ (2 * L) (d a b + d a′ b′) (d a b′ + d a′ b) (d a a′) (d b b′) (d b′ b) (below s a a′ b b′ ha ha′ hb hb′) (below s a a′ b′ b ha ha′ hb′ hb) (c .same (hb .0) (hb′ .0))))
+      pair _ (2 * L) (d a b + d a′ b′) (d a b′ + d a′ b) (d a a′) (d b b′) (d b′ b) (below s a a′ b b′ ha ha′ hb hb′) (below s a a′ b′ b ha ha′ hb′ hb)
+      (c .same (hb .0) (hb′ .0))))
     where
       pair : (v l x y z u w : ℕ) → v ≤ l + x - z - u → v ≤ l + y - z - w → u ≡ w → v ≤ l + min x y - z - u
       pair v l x y z u w p q e =
@@ -61,8 +64,11 @@ module _ (L : ℕ) (d : ℕ → ℕ → ℕ) (n : ℕ) (c : WellFormed L d n) wh
           (λ t. let m : min x y ≡ y = omega (arith, leb-false x y t) in rw (m, e) q)
 
       below : (s : ℕ → ℕ) (a a′ b b′ : ℕ) → On n s 0 a → On n s 0 a′ → On n s 1 b → On n s 1 b′
-          → leastOn n s 0 (4 * L) (λ a. leastOn n s 0 (4 * L) (λ a′. leastOn n s 1 (4 * L) (λ b. leastOn n s 1 (4 * L) (λ b′. single a a′ b b′)))) ≤ single a a′ b b′
+          → leastOn n s 0 (4 * L) (λ a. leastOn n s 0 (4 * L) (λ a′. leastOn n s 1 (4 * L) (λ b. leastOn n s 1 (4 * L) (λ b′. single a a′ b b′))))
+          ≤ single a a′ b b′
       below s a a′ b b′ ha ha′ hb hb′ =
-          le-trans (leastOn-le s 0 (4 * L) (λ a. leastOn n s 0 (4 * L) (λ a′. leastOn n s 1 (4 * L) (λ b. leastOn n s 1 (4 * L) (λ b′. single a a′ b b′)))) n a ha)
+          le-trans
+          (leastOn-le s 0 (4 * L) (λ a. leastOn n s 0 (4 * L) (λ a′. leastOn n s 1 (4 * L) (λ b. leastOn n s 1 (4 * L) (λ b′. single a a′ b b′)))) n a ha)
           (le-trans (leastOn-le s 0 (4 * L) (λ a′. leastOn n s 1 (4 * L) (λ b. leastOn n s 1 (4 * L) (λ b′. single a a′ b b′))) n a′ ha′)
-          (le-trans (leastOn-le s 1 (4 * L) (λ b. leastOn n s 1 (4 * L) (λ b′. single a a′ b b′)) n b hb) (leastOn-le s 1 (4 * L) (λ b′. single a a′ b b′) n b′ hb′)))
+          (le-trans (leastOn-le s 1 (4 * L) (λ b. leastOn n s 1 (4 * L) (λ b′. single a a′ b b′)) n b hb)
+          (leastOn-le s 1 (4 * L) (λ b′. single a a′ b b′) n b′ hb′)))

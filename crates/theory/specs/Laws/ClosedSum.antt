@@ -20,7 +20,8 @@ use Rattle.theory.specs.Order.{along, closed, grow, order}
 use Rattle.theory.specs.Readings.{Exact}
 use Rattle.theory.specs.Tables.{WellFormed}
 
-pub along-same : (n : ℕ) (g h : ℕ → ℕ → ℕ) → ((i j : ℕ) → i < n → j < n → g i j ≡ h i j) → (f x : ℕ) (l : List ℕ) → f < n → Each (x ∷ l) (λ i. i < n) → along g f x l ≡ along h f x l
+pub along-same : (n : ℕ) (g h : ℕ → ℕ → ℕ) → ((i j : ℕ) → i < n → j < n → g i j ≡ h i j) → (f x : ℕ) (l : List ℕ) → f < n → Each (x ∷ l) (λ i. i < n)
+    → along g f x l ≡ along h f x l
 along-same n g h e f x [] hf r = e x f (r x (List·Memᴰ·head refl)) hf
 along-same n g h e f x (y ∷ l) hf r =
     omega (arith, e x y (r x (List·Memᴰ·head refl)) (r y (List·Memᴰ·tail (List·Memᴰ·head refl))), along-same n g h e f y l hf (λ i m. r i (List·Memᴰ·tail m)))
@@ -44,7 +45,8 @@ sum-twice (r ∷ T) = omega (arith, sum-twice T)
 -- on an accepted table the closed sum along the order is the sum of all doubled costs
 pub closed-sum : (L : ℕ) (d : ℕ → ℕ → ℕ) (n : ℕ) (T : List Row) → WellFormed L d n → Exact L d n T
     → (f last : ℕ) → f < n → last < n → (f ≡ last → ⊥) → closed d (order d n f last) ≡ allCosts T
-closed-sum L d n T c x f last hf hl ne = go (grow-end d n f hf (λ y l. Unit {0}) (λ y w l p q h. tt) (n - 2) last [] (omega arith) (start d n f hf last hl ne) tt)
+closed-sum L d n T c x f last hf hl ne =
+    go (grow-end d n f hf (λ y l. Unit {0}) (λ y w l p q h. tt) (n - 2) last [] (omega arith) (start d n f hf last hl ne) tt)
   where
     go : End d n f hf (λ y l. Unit {0}) (grow d n f (n - 2) last []) → closed d (order d n f last) ≡ allCosts T
     go e =
@@ -56,7 +58,8 @@ closed-sum L d n T c x f last hf hl ne = go (grow-end d n f hf (λ y l. Unit {0}
         along-when (r .0) (r .1) f f l ∙ cases (ltb 0 (r .1))
         (λ t.
         let low = row-low L n T (x .tree) d (x .meets) r m in
-        let one = one-run L d n c f hf (r .0) (row-far L n T (x .tree) r m) (record { low = λ ha ha′ hb hb′. omega (arith, low .low ha ha′ hb hb′, ltb-true 0 (r .1) t) }) last hl ne in
+        let one = one-run L d n c f hf (r .0) (row-far L n T (x .tree) r m)
+        (record { low = λ ha ha′ hb hb′. omega (arith, low .low ha ha′ hb hb′, ltb-true 0 (r .1) t) }) last hl ne in
         let two = rw (e .is) at one in
         rw two)
         (λ t. let z : r .1 ≡ 0 = omega (arith, ltb-false 0 (r .1) t) in rw z (omega arith)) in

@@ -1,6 +1,7 @@
 -- Law I6: the list of far sides has each of them, ascending.
 -- Assumes nothing.
-use mathlib.Core.List.{List·Memᴰ, List·Memᴰ·append-cases, List·Memᴰ·cases-cons, List·Memᴰ·head, List·Memᴰ·not-nil, List·Memᴰ·tail, Memᴰ·append-left, Memᴰ·append-right, Memᴰ·cast, map, _∷_}
+use mathlib.Core.List.{List·Memᴰ, List·Memᴰ·append-cases, List·Memᴰ·cases-cons, List·Memᴰ·head, List·Memᴰ·not-nil}
+use mathlib.Core.List.{List·Memᴰ·tail, Memᴰ·append-left, Memᴰ·append-right, Memᴰ·cast, map, _∷_}
 use mathlib.Core.Logic.{inl, inr, _⊎_}
 use mathlib.Core.Path.{_≡_}
 use Prim.Native.Nat.{suc, zero, ℕ, _+_, _-_, _<_, _^_}
@@ -45,7 +46,8 @@ sides-far (suc (suc k)) S m = go (List·Memᴰ·append-cases (sides (suc k)) m) 
     last (inl e) ih = rw e (far-top k)
     last (inr t) ih = let r = map-mem (λ R. 2 ^ suc k + R) (sides (suc k)) S t in rw (r .1) (far-add k (r .0) (ih (r .0) (r .2)))
 
-    go : List·Memᴰ S (sides (suc k)) ⊎ List·Memᴰ S (2 ^ suc k ∷ map (λ R. 2 ^ suc k + R) (sides (suc k))) → Each (sides (suc k)) (FarSide (suc k)) → FarSide (suc (suc k)) S
+    go : List·Memᴰ S (sides (suc k)) ⊎ List·Memᴰ S (2 ^ suc k ∷ map (λ R. 2 ^ suc k + R) (sides (suc k))) → Each (sides (suc k)) (FarSide (suc k))
+        → FarSide (suc (suc k)) S
     go (inl t) ih = far-more k S (ih S t)
     go (inr t) ih = last (List·Memᴰ·cases-cons t) ih
 

@@ -28,7 +28,8 @@ module _ (L : ℕ) (d : ℕ → ℕ → ℕ) (k : ℕ) (s : ℕ → ℕ) (c : We
       let y : b′ < suc k = omega arith in
       le-trans (le-trans (leastOn-le s (1 - s k) (4 * L) _ k b′ hb′) (leastOn-le s (s k) (4 * L) _ (suc k) a ha))
       (omega (arith, near-le b b′ hb, c .small x y, c .small {i = k} {j = a} (omega arith) (ha .0)))))
-      (le-leastOn s (1 - s k) (4 * L) _ k (brought L d k s) (brought-cap L d k s) (λ b′ hb′. le-leastOn s (s k) (4 * L) _ (suc k) (brought L d k s) (brought-cap L d k s) (λ a ha.
+      (le-leastOn s (1 - s k) (4 * L) _ k (brought L d k s) (brought-cap L d k s)
+      (λ b′ hb′. le-leastOn s (s k) (4 * L) _ (suc k) (brought L d k s) (brought-cap L d k s) (λ a ha.
       let r = le-near (brought L d k s - (L + d a b′ - d k a)) b′ (omega (arith, brought-cap L d k s)) (λ b hb.
       let x : b < suc k = omega arith in
       let y : b′ < suc k = omega arith in

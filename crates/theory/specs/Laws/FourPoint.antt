@@ -46,7 +46,11 @@ above-none x y z p q r =
     cases (eqb x y) (λ e. by-two (eqb-true x y e))
     (λ e. cases (eqb x z) (λ f. let s = eqb-true x z f in
     rw (eq-eqb x (max x (max y z)) (omega arith), eq-eqb z (max x (max y z)) (omega arith)) (omega arith))
-    (λ f. rw (eq-eqb y (max x (max y z)) (omega (arith, eqb-false x y e, eqb-false x z f)), eq-eqb z (max x (max y z)) (omega (arith, eqb-false x y e, eqb-false x z f))) (omega arith)))
+    (λ f. rw (
+      eq-eqb y (max x (max y z)) (omega (arith, eqb-false x y e, eqb-false x z f)),
+      eq-eqb z (max x (max y z))
+          (omega (arith, eqb-false x y e, eqb-false x z f)),
+    ) (omega arith)))
   where
     by-two : x ≡ y → 2 ≤ timesLargest x y z
     by-two s = rw (eq-eqb x (max x (max y z)) (omega arith), eq-eqb y (max x (max y z)) (omega arith)) (omega arith)

@@ -32,7 +32,8 @@ module _ (L : ℕ) (d : ℕ → ℕ → ℕ) (n : ℕ) (s : ℕ → ℕ) where
     -- I2. What the index says, of one pairing of each choice (I1): v ≤ index.
     pub at-least-shifted : (v : ℕ) → v ≤ 2 * L → AtLeast d n s v ↔ (2 * L + v ≤ shifted L d n s)
     at-least-shifted v le = (
-      λ p. le-shifted (2 * L + v) (omega arith) (λ a a′ b b′ ha ha′ hb hb′. omega (arith, p .low ha ha′ hb hb′, p .low ha ha′ hb′ hb, c .same (hb .0) (hb′ .0))),
+      λ p. le-shifted (2 * L + v) (omega arith)
+          (λ a a′ b b′ ha ha′ hb hb′. omega (arith, p .low ha ha′ hb hb′, p .low ha ha′ hb′ hb, c .same (hb .0) (hb′ .0))),
       λ q. record { low = λ ha ha′ hb hb′. omega (arith, shifted-le ha ha′ hb hb′, c .small (ha .0) (ha′ .0), c .small (hb .0) (hb′ .0)) },
     )
 

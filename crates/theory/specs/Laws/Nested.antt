@@ -32,7 +32,8 @@ pub find : (n : ℕ) (p : ℕ → Bool) → ((i : ℕ) × (i < n) × (p i ≡ tr
 find zero p = inr (λ i h. absurd (omega arith))
 find (suc n) p = cases (p n) (λ e. inl (n, omega arith, e)) (λ e. go e (find n p))
   where
-    go : p n ≡ false → ((i : ℕ) × (i < n) × (p i ≡ true)) ⊎ ((i : ℕ) → i < n → p i ≡ false) → ((i : ℕ) × (i < suc n) × (p i ≡ true)) ⊎ ((i : ℕ) → i < suc n → p i ≡ false)
+    go : p n ≡ false → ((i : ℕ) × (i < n) × (p i ≡ true)) ⊎ ((i : ℕ) → i < n → p i ≡ false)
+        → ((i : ℕ) × (i < suc n) × (p i ≡ true)) ⊎ ((i : ℕ) → i < suc n → p i ≡ false)
     go e (inl r) = inl (r .0, omega arith, r .2)
     go e (inr h) = inr (λ i l. cases (eqb i n) (λ t. ap p (eqb-true i n t) ∙ e) (λ t. h i (omega (arith, eqb-false))))
 

@@ -33,7 +33,9 @@ module _ (d : ℕ → ℕ → ℕ) (f x : ℕ) (l : List ℕ) where
       not-free e (inr r) = inr (record {
         below = omega (arith, r .below);
         is-free = r .is-free;
-        least = λ u h t. cases (eqb u m) (λ s. absurd (false≢true (sym (ap (free f l) (eqb-true u m s) ∙ e) ∙ t))) (λ s. r .least u (omega (arith, eqb-false u m s)) t);
+        least =
+            λ u h t. cases (eqb u m) (λ s. absurd (false≢true (sym (ap (free f l) (eqb-true u m s) ∙ e) ∙ t)))
+            (λ s. r .least u (omega (arith, eqb-false u m s)) t);
         lowest = r .lowest;
       })
 
@@ -41,7 +43,9 @@ module _ (d : ℕ → ℕ → ℕ) (f x : ℕ) (l : List ℕ) where
       taken e h = record {
         below = omega arith;
         is-free = e;
-        least = λ u s t. cases (eqb u m) (λ q. let r = eqb-true u m q in omega (arith, ap (d x) r, ap (d f) r)) (λ q. omega (arith, h u (omega (arith, eqb-false u m q)) t));
+        least =
+            λ u s t. cases (eqb u m) (λ q. let r = eqb-true u m q in omega (arith, ap (d x) r, ap (d f) r))
+            (λ q. omega (arith, h u (omega (arith, eqb-false u m q)) t));
         lowest = h;
       }
 
@@ -56,6 +60,8 @@ module _ (d : ℕ → ℕ → ℕ) (f x : ℕ) (l : List ℕ) where
           (λ s. inr (rw (e, t, s) (record {
             below = omega (arith, r .below);
             is-free = r .is-free;
-            least = λ u h q. cases (eqb u m) (λ z. let y = eqb-true u m z in omega (arith, ap (d x) y, ap (d f) y, ltb-false (d x m + d f b) (d x b + d f m) s)) (λ z. r .least u (omega (arith, eqb-false u m z)) q);
+            least =
+                λ u h q. cases (eqb u m) (λ z. let y = eqb-true u m z in omega (arith, ap (d x) y, ap (d f) y, ltb-false (d x m + d f b) (d x b + d f m) s))
+                (λ z. r .least u (omega (arith, eqb-false u m z)) q);
             lowest = r .lowest;
           }))))

@@ -18,11 +18,15 @@ use Rattle.theory.specs.OneMore.{brought, pairing}
 module _ (L : ℕ) (d : ℕ → ℕ → ℕ) (k : ℕ) (s : ℕ → ℕ) where
   pub brought-le : {a b b′ : ℕ} → On (suc k) s (s k) a → On k s (1 - s k) b → On k s (1 - s k) b′ → brought L d k s ≤ pairing L d k a b b′
   unfolding brought
-  brought-le {a} {b} {b′} ha hb hb′ = le-trans (leastOn-le s (s k) (4 * L) _ (suc k) a ha) (le-trans (leastOn-le s (1 - s k) (4 * L) _ k b hb) (leastOn-le s (1 - s k) (4 * L) _ k b′ hb′))
+  brought-le {a} {b} {b′} ha hb hb′ =
+      le-trans (leastOn-le s (s k) (4 * L) _ (suc k) a ha) (le-trans (leastOn-le s (1 - s k) (4 * L) _ k b hb) (leastOn-le s (1 - s k) (4 * L) _ k b′ hb′))
 
-  pub le-brought : (v : ℕ) → v ≤ 4 * L → ((a b b′ : ℕ) → On (suc k) s (s k) a → On k s (1 - s k) b → On k s (1 - s k) b′ → v ≤ pairing L d k a b b′) → v ≤ brought L d k s
+  pub le-brought : (v : ℕ) → v ≤ 4 * L → ((a b b′ : ℕ) → On (suc k) s (s k) a → On k s (1 - s k) b → On k s (1 - s k) b′ → v ≤ pairing L d k a b b′)
+      → v ≤ brought L d k s
   unfolding brought
-  le-brought v c h = le-leastOn s (s k) (4 * L) _ (suc k) v c (λ a ha. le-leastOn s (1 - s k) (4 * L) _ k v c (λ b hb. le-leastOn s (1 - s k) (4 * L) _ k v c (λ b′ hb′. h a b b′ ha hb hb′)))
+  le-brought v c h =
+      le-leastOn s (s k) (4 * L) _ (suc k) v c
+      (λ a ha. le-leastOn s (1 - s k) (4 * L) _ k v c (λ b hb. le-leastOn s (1 - s k) (4 * L) _ k v c (λ b′ hb′. h a b b′ ha hb hb′)))
 
   pub brought-cap : brought L d k s ≤ 4 * L
   unfolding brought
@@ -51,7 +55,8 @@ module _ (L : ℕ) (d : ℕ → ℕ → ℕ) (k : ℕ) (s : ℕ → ℕ) where
         let x : b < suc k = omega arith in
         let y : b′ < suc k = omega arith in
         let z : k < suc k = omega arith in
-        omega (arith, shifted-le L d (suc k) s {a = b} {a′ = b′} {b = k} {b′ = a} (x, b0) (y, b0′) (z, k1) (ha .0, ha .1 ∙ k1), c .same x z, c .same y (ha .0))))
+        omega
+        (arith, shifted-le L d (suc k) s {a = b} {a′ = b′} {b = k} {b′ = a} (x, b0) (y, b0′) (z, k1) (ha .0, ha .1 ∙ k1), c .same x z, c .same y (ha .0))))
 
     shifted-fewer : shifted L d (suc k) s ≤ shifted L d k s
     shifted-fewer = le-shifted L d k s (shifted L d (suc k) s) (shifted-cap L d (suc k) s)
@@ -116,7 +121,8 @@ module _ (L : ℕ) (d : ℕ → ℕ → ℕ) (k : ℕ) (s : ℕ → ℕ) where
         (λ t. cases (eqb a′ k) (λ u. omega (arith, q (inr (inl (eqb-true a′ k u)))))
         (λ u. cases (eqb b k) (λ v. omega (arith, q (inr (inr (inl (eqb-true b k v))))))
         (λ v. cases (eqb b′ k) (λ w. omega (arith, q (inr (inr (inr (eqb-true b′ k w))))))
-        (λ w. omega (arith, shifted-le L d k s (down ha (eqb-false a k t)) (down ha′ (eqb-false a′ k u)) (down hb (eqb-false b k v)) (down hb′ (eqb-false b′ k w))))))))
+        (λ w. omega
+        (arith, shifted-le L d k s (down ha (eqb-false a k t)) (down ha′ (eqb-false a′ k u)) (down hb (eqb-false b k v)) (down hb′ (eqb-false b′ k w))))))))
 
     -- I4. Over no far image below k, shifted L d k s is the start value, and brought decides alone.
     pub shifted-more : shifted L d (suc k) s ≡ min (shifted L d k s) (brought L d k s)

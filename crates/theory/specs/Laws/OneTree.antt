@@ -49,7 +49,8 @@ module _ (L : ℕ) (d : ℕ → ℕ → ℕ) (n : ℕ) (c : WellFormed L d n) wh
   pub low-uncrossed : (S R : ℕ) → FarSide n S → FarSide n R → AtLeast d n (bit S) 1 → AtLeast d n (bit R) 1 → Uncrossed n S R
   low-uncrossed S R f g p q = record {
     clear = λ {x} {y} {z} hx hy hz sx rx sy ry sz rz.
-        crossing d n (bit S) (bit R) p q {w = 0} (omega arith) hz hy hx (f .near) (g .near) (holds-false S z sz) (holds-true R z rz) (holds-true S y sy) (holds-false R y ry) (holds-true S x sx) (holds-true R x rx);
+        crossing d n (bit S) (bit R) p q {w = 0} (omega arith) hz hy hx (f .near) (g .near) (holds-false S z sz) (holds-true R z rz) (holds-true S y sy)
+        (holds-false R y ry) (holds-true S x sx) (holds-true R x rx);
   }
 
   pub drawn-uncrossed : (S R : ℕ) → FarSide n S → FarSide n R → drawn L d n S ≡ true → drawn L d n R ≡ true → Uncrossed n S R
@@ -82,7 +83,9 @@ measured-tree L d k c = record {
   ascending = rw (fars-measured L d n) (rows-between L d n c);
   near = λ r m. rw (known r m .0) (known r m .2 .near);
   owns = λ i h. rw (fars-measured L d n) (rows-mem L d n c (own n i) (own-far k i h) (own-drawn L d n (own n i) (own-not-inner k i h)));
-  nested = λ r m q s. rw (known r m .0, known q s .0) (uncrossed-nested n (of r m) (of q s) (drawn-uncrossed L d n c (of r m) (of q s) (known r m .2) (known q s .2) (known r m .1) (known q s .1)));
+  nested =
+      λ r m q s. rw (known r m .0, known q s .0)
+      (uncrossed-nested n (of r m) (of q s) (drawn-uncrossed L d n c (of r m) (of q s) (known r m .2) (known q s .2) (known r m .1) (known q s .1)));
   drawn = λ r m e. positive r m e (drawn-cases L d n (of r m) (known r m .1));
   small = λ r m. rw (cost-of r m) (clipped-cap L d n (bit (of r m)));
 }

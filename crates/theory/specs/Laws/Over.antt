@@ -116,22 +116,28 @@ module _ (L : ℕ) (d : ℕ → ℕ → ℕ) (n i j : ℕ) (c : WellFormed L d n
     found-cost : (S : ℕ) → 1 ≤ found L d n i j S → (bit S i ≡ bit S j → ⊥) → found L d n i j S ≤ clipped L d n (bit S)
     found-cost S h parted =
         cases (eqb (bit S i) 0)
-        (λ e. low-clipped L d n (bit S) c (found L d n i j S) {a = i} {b = j} (hi, eqb-true (bit S i) 0 e) (hj, omega (arith, eqb-true, bit-lt S j)) (found-low S h parted))
-        (λ e. low-clipped L d n (bit S) c (found L d n i j S) {a = j} {b = i} (hj, omega (arith, eqb-false, bit-lt S i, bit-lt S j)) (hi, omega (arith, eqb-false, bit-lt S i)) (found-low S h parted))
+        (λ e. low-clipped L d n (bit S) c (found L d n i j S) {a = i} {b = j} (hi, eqb-true (bit S i) 0 e) (hj, omega (arith, eqb-true, bit-lt S j))
+        (found-low S h parted))
+        (λ e. low-clipped L d n (bit S) c (found L d n i j S) {a = j} {b = i} (hj, omega (arith, eqb-false, bit-lt S i, bit-lt S j))
+        (hi, omega (arith, eqb-false, bit-lt S i)) (found-low S h parted))
 
     -- each place between i and j is a row's
     place-row : (t : ℕ) → t < 2 * d i j → List·Memᴰ (place L d n i j t) (filter (λ S. apart S i j) (rows L d n))
     place-row t ht =
-        let once : 1 ≤ found L d n i j (place L d n i j t) = count-row (λ t′. eqb (place L d n i j t′) (place L d n i j t)) (2 * d i j) t 1 (λ t′ l u. eq-eqb (place L d n i j t′) (place L d n i j t) (ap (place L d n i j) (omega arith))) (omega arith) in
+        let once : 1 ≤ found L d n i j (place L d n i j t) = count-row (λ t′. eqb (place L d n i j t′) (place L d n i j t)) (2 * d i j) t 1
+        (λ t′ l u. eq-eqb (place L d n i j t′) (place L d n i j t) (ap (place L d n i j) (omega arith))) (omega arith) in
         mem-filter (λ S. apart S i j) (place L d n i j t) (bits-apart (place L d n i j t) i j (place-parts t ht)) (rows L d n)
-        (rows-mem L d n c (place L d n i j t) (place-far t ht) (index-drawn L d n (place L d n i j t) (le-trans once (found-cost (place L d n i j t) once (place-parts t ht)))))
+        (rows-mem L d n c (place L d n i j t) (place-far t ht)
+        (index-drawn L d n (place L d n i j t) (le-trans once (found-cost (place L d n i j t) once (place-parts t ht)))))
 
     path-over : 2 * d i j ≤ sum (rows L d n) (λ S. when (apart S i j) (clipped L d n (bit S)))
     path-over =
         rw (← (sum-filter (λ S. apart S i j) (λ S. clipped L d n (bit S)) (rows L d n)))
         (le-trans (sum-count-all (place L d n i j) (2 * d i j) (filter (λ S. apart S i j) (rows L d n)) place-row)
         (sum-le (found L d n i j) (λ S. clipped L d n (bit S)) (filter (λ S. apart S i j) (rows L d n))
-        (λ S m. cases (leb 1 (found L d n i j S)) (λ e. found-cost S (leb-true 1 (found L d n i j S) e) (apart-bits S i j (filter-mem (λ S. apart S i j) (rows L d n) S m .0))) (λ e. omega (arith, leb-false 1 (found L d n i j S) e)))))
+        (λ S m. cases (leb 1 (found L d n i j S))
+        (λ e. found-cost S (leb-true 1 (found L d n i j S) e) (apart-bits S i j (filter-mem (λ S. apart S i j) (rows L d n) S m .0)))
+        (λ e. omega (arith, leb-false 1 (found L d n i j S) e)))))
 
 -- P1 and P2. Under the four-point condition the measured reading's path costs are twice the entries.
 pub measured-meets : (L : ℕ) (d : ℕ → ℕ → ℕ) (n : ℕ) → WellFormed L d n → FourPoint d n → Meets d n (measured L d n)

@@ -126,7 +126,10 @@ module _ (L n : ℕ) (T : List Row) (t : LinkTable L n T) where
   pub meets-four-point : (d : ℕ → ℕ → ℕ) → Meets d n T → FourPoint d n
   meets-four-point d m =
       four-point d n (λ i j hi hj. omega (arith, m .meets hi hj, m .meets hj hi, path-same T i j))
-      (record { low = λ {i} {j} {k} {l} hi hj hk hl. omega (arith, path-none-above .low hi hj hk hl, m .meets hi hj, m .meets hk hl, m .meets hi hk, m .meets hj hl, m .meets hi hl, m .meets hj hk) })
+      (record {
+        low = λ {i} {j} {k} {l} hi hj hk hl. omega
+            (arith, path-none-above .low hi hj hk hl, m .meets hi hj, m .meets hk hl, m .meets hi hk, m .meets hj hl, m .meets hi hl, m .meets hj hk);
+      })
 
   pub row-far : Each T (λ r. FarSide n (r .0))
   row-far r m =

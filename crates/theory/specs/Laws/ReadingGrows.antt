@@ -24,7 +24,13 @@ module _ (L : ℕ) (d : ℕ → ℕ → ℕ) (k : ℕ) (c : WellFormed L d (suc 
   -- S over one image more, R the same over the images before
   more-is : (S R : ℕ) → ((a : ℕ) → a < suc k → bit S a ≡ bit R a) → more L d (suc k) S (clipped L d (suc k) (bit R)) ≡ row L d n S
   more-is S R e =
-      ap (λ v. (S, v)) (omega (arith, brought-fast L d (suc k) (bit S) c (bit-lt S (suc k)), shifted-more L d (suc k) (bit S) c (bit-lt S (suc k)), shifted-same L d (suc k) (bit S) (bit R) e))
+      ap (λ v. (S, v)) (omega (
+        arith,
+        brought-fast L d (suc k) (bit S) c (bit-lt S (suc k)),
+        shifted-more L d (suc k) (bit S) c
+            (bit-lt S (suc k)),
+        shifted-same L d (suc k) (bit S) (bit R) e,
+      ))
 
   -- no far image among those before
   more-own : more L d (suc k) (2 ^ suc k) (2 * L) ≡ row L d n (2 ^ suc k)
@@ -39,7 +45,8 @@ module _ (L : ℕ) (d : ℕ → ℕ → ℕ) (k : ℕ) (c : WellFormed L d (suc 
 
   outside : filter (stays n) (map (λ r. more L d (suc k) (r .0) (r .1)) (measured L d (suc k))) ≡ map (row L d n) (filter (drawn L d n) (rows L d (suc k)))
   outside =
-      ap (filter (stays n)) (map-map (λ r. more L d (suc k) (r .0) (r .1)) (row L d (suc k)) (rows L d (suc k)) ∙ map-same _ (row L d n) (rows L d (suc k)) (λ S m. more-is S S (λ a h. refl)))
+      ap (filter (stays n)) (map-map (λ r. more L d (suc k) (r .0) (r .1)) (row L d (suc k)) (rows L d (suc k))
+      ∙ map-same _ (row L d n) (rows L d (suc k)) (λ S m. more-is S S (λ a h. refl)))
       ∙ filter-map (stays n) (row L d n) (rows L d (suc k))
 
   inside : filter (stays n) (map (λ r. more L d (suc k) (2 ^ suc k + r .0) (r .1)) (measured L d (suc k)))

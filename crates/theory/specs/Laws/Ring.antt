@@ -49,7 +49,8 @@ module _ (L : ℕ) (d : ℕ → ℕ → ℕ) (n : ℕ) (c : WellFormed L d n) (f
   stay x w u hx hw hu ax aw au l =
       cases (holds S f)
       (λ e. stay-near L d n (bit S) c p {f = f} {x = x} {w = w} {u = u} (hf, holds-true S f e)
-      (hx, holds-false S x (out (holds S x) (rw e at ax))) (hw, holds-false S w (out (holds S w) (rw e at aw))) (hu, holds-true S u (into (holds S u) (rw e at au))) l)
+      (hx, holds-false S x (out (holds S x) (rw e at ax))) (hw, holds-false S w (out (holds S w) (rw e at aw)))
+      (hu, holds-true S u (into (holds S u) (rw e at au))) l)
       (λ e. stay-far L d n (bit S) c p {f = f} {x = x} {w = w} {u = u} (hf, holds-false S f e)
       (hx, holds-true S x (rw e at ax)) (hw, holds-true S w (rw e at aw)) (hu, holds-false S u (rw e at au)) l)
     where
@@ -89,7 +90,8 @@ module _ (L : ℕ) (d : ℕ → ℕ → ℕ) (n : ℕ) (c : WellFormed L d n) (f
       cases (away w)
       (λ e. within e (omega (arith, turn-away S f w x, ap one-if (ap₂ one-of e a))))
       (λ e. behind e (omega (arith, turn-away S f w x, ap one-if (ap₂ one-of e a)))
-      (λ u hu fu. cases (away u) (λ au. absurd (stay x u w (q .range x (List·Memᴰ·head refl)) hu (r .below) a au e (r .least u hu (free-before u w x l fu)))) (λ au. au)))
+      (λ u hu fu. cases (away u)
+      (λ au. absurd (stay x u w (q .range x (List·Memᴰ·head refl)) hu (r .below) a au e (r .least u hu (free-before u w x l fu)))) (λ au. au)))
   step x w l q r (behind a t h) =
       let e = h w (r .below) (r .is-free) in
       behind e (omega (arith, turn-away S f w x, ap one-if (ap₂ one-of e a))) (λ u hu fu. h u hu (free-before u w x l fu))

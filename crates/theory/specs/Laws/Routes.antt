@@ -43,7 +43,8 @@ upper-some i S R (Q ∷ l) m e =
     cases (contains Q S) (λ t. rw t (omega arith))
     (λ t. rw t (go (List·Memᴰ·cases-cons m) t (upper-some (suc i) S R l)))
   where
-    go : (R ≡ Q) ⊎ List·Memᴰ R l → contains Q S ≡ false → (List·Memᴰ R l → bitAnd S R ≡ S → (suc i ≤ upperFrom (suc i) S l) × (upperFrom (suc i) S l < suc i + length l))
+    go : (R ≡ Q) ⊎ List·Memᴰ R l → contains Q S ≡ false
+        → (List·Memᴰ R l → bitAnd S R ≡ S → (suc i ≤ upperFrom (suc i) S l) × (upperFrom (suc i) S l < suc i + length l))
         → (i ≤ upperFrom (suc i) S l) × (upperFrom (suc i) S l < i + suc (length l))
     go (inl q) t ih = absurd (eqb-false (bitAnd S Q) S t (ap (bitAnd S) (sym q) ∙ e))
     go (inr s) t ih = omega (arith, ih s e)

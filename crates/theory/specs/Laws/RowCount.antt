@@ -53,7 +53,8 @@ sum-length (x ∷ l) f h = omega (arith, h x, sum-length l f h)
 pub length-least : (f : ℕ → ℕ) (n : ℕ) (l : List ℕ) → ((i : ℕ) → i < n → List·Memᴰ (f i) l) → ((i j : ℕ) → i < j → j < n → f i ≡ f j → ⊥) → n ≤ length l
 length-least f n l m h =
     le-trans (sum-count-all f n l m)
-    (sum-length l (λ y. count n (λ t. eqb (f t) y)) (λ y. count-once (λ t. eqb (f t) y) n (λ s t l u a b. h s t l u (eqb-true (f s) y a ∙ sym (eqb-true (f t) y b)))))
+    (sum-length l (λ y. count n (λ t. eqb (f t) y))
+    (λ y. count-once (λ t. eqb (f t) y) n (λ s t l u a b. h s t l u (eqb-true (f s) y a ∙ sym (eqb-true (f t) y b)))))
 
 pub rows-at-least : (L k : ℕ) (T : List Row) → LinkTable L (suc (suc (suc k))) T → suc (suc (suc k)) ≤ length T
 rows-at-least L k T t =
@@ -81,7 +82,9 @@ module _ (L k : ℕ) (T : List Row) (t : LinkTable L (suc (suc k)) T) where
   doubled (r ∷ T) i j = cases (apart (r .0) i j) (λ e. rw e (omega (arith, doubled T i j))) (λ e. rw e (omega (arith, doubled T i j)))
 
   path-small : (i j : ℕ) → path T i j ≤ all
-  path-small i j = omega (arith, sum-le (λ r. when (apart (r .0) i j) (r .1)) (λ r. r .1) T (λ r m. cases (apart (r .0) i j) (λ e. rw e (omega arith)) (λ e. rw e (omega arith))))
+  path-small i j =
+      omega
+      (arith, sum-le (λ r. when (apart (r .0) i j) (r .1)) (λ r. r .1) T (λ r m. cases (apart (r .0) i j) (λ e. rw e (omega arith)) (λ e. rw e (omega arith))))
 
   costs : WellFormed all (path T) n
   costs = record {

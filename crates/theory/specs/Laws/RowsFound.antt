@@ -33,7 +33,8 @@ module _ (L n : ℕ) (T : List Row) (t : LinkTable L n T) (d : ℕ → ℕ → �
             arith,
             sum-add (λ q. when (apart (q .0) a a′) (q .1)) (λ q. when (apart (q .0) b′ b) (q .1)) T,
             sum-add (λ q. when (apart (q .0) a b) (q .1)) (λ q. when (apart (q .0) a′ b′) (q .1)) T,
-            sum-spare (λ q. when (apart (q .0) a a′) (q .1) + when (apart (q .0) b′ b) (q .1)) (λ q. when (apart (q .0) a b) (q .1) + when (apart (q .0) a′ b′) (q .1))
+            sum-spare (λ q. when (apart (q .0) a a′) (q .1) + when (apart (q .0) b′ b) (q .1))
+                (λ q. when (apart (q .0) a b) (q .1) + when (apart (q .0) a′ b′) (q .1))
                 (2 * r .1) r T m other here,
             e .meets (ha .0) (ha′ .0),
             e .meets (hb′ .0) (hb .0),
@@ -43,10 +44,12 @@ module _ (L n : ℕ) (T : List Row) (t : LinkTable L n T) (d : ℕ → ℕ → �
             e .meets (ha′ .0) (hb′ .0),
           )
         where
-          here : when (apart (r .0) a a′) (r .1) + when (apart (r .0) b′ b) (r .1) + 2 * r .1 ≤ when (apart (r .0) a b) (r .1) + when (apart (r .0) a′ b′) (r .1)
+          here : when (apart (r .0) a a′) (r .1) + when (apart (r .0) b′ b) (r .1) + 2 * r .1 ≤ when (apart (r .0) a b) (r .1) + when
+              (apart (r .0) a′ b′) (r .1)
           here = rw (na, na′, fb, fb′) (omega arith)
 
-          other : Each T (λ q. when (apart (q .0) a a′) (q .1) + when (apart (q .0) b′ b) (q .1) ≤ when (apart (q .0) a b) (q .1) + when (apart (q .0) a′ b′) (q .1))
+          other : Each T (λ q. when (apart (q .0) a a′) (q .1) + when (apart (q .0) b′ b) (q .1) ≤ when (apart (q .0) a b) (q .1) + when
+              (apart (q .0) a′ b′) (q .1))
           other q s =
               piece (holds (q .0) a) (holds (q .0) a′) (holds (q .0) b′) (holds (q .0) b) (q .1)
               (cases (rowSplits a a′ b′ b q)

@@ -66,7 +66,8 @@ module _ (L : ℕ) (d : ℕ → ℕ → ℕ) (k : ℕ) (c : WellFormed L d (suc 
       go (inr p) =
           let b = far-image (suc k) S f in
           index-drawn L d (suc k) S (low-clipped L d (suc k) (bit S) fewer 1 {a = 0} {b = b .0} (omega arith, f .near) (b .1, b .2)
-          (at-least-less d (suc k) (suc (suc k)) (bit S) (bit (2 ^ suc k + S)) 1 (omega arith) (λ a h. sym (bit-same S (suc k) a h)) (drawn-low L d (suc (suc k)) c (2 ^ suc k + S) p)))
+          (at-least-less d (suc k) (suc (suc k)) (bit S) (bit (2 ^ suc k + S)) 1 (omega arith) (λ a h. sym (bit-same S (suc k) a h))
+          (drawn-low L d (suc (suc k)) c (2 ^ suc k + S) p)))
 
   top-drawn : drawn L d (suc (suc k)) (2 ^ suc k) ≡ true
   top-drawn = own-drawn L d (suc (suc k)) (2 ^ suc k) (own-not-inner k (suc k) (omega arith))
@@ -100,9 +101,11 @@ module _ (L : ℕ) (d : ℕ → ℕ → ℕ) (k : ℕ) (c : WellFormed L d (suc 
       let jr : holds R (j .0) ≡ true = ap (λ b. eqb b 1) (j .2) in
       cases (holds S (j .0))
       (λ t. drawn-uncrossed L d (suc (suc k)) c S (2 ^ suc k + R) (far-more k S (p .side)) (far-add k R (q .side)) (p .outside) (q .inside)
-      .clear {x = j .0} {y = i} {z = suc k} (omega arith) (omega arith) (omega arith) t (bits-in R (q .side) (j .0) (j .1) ∙ jr) e (bits-in R (q .side) i h ∙ f) (top-out S (p .side)) (top-in R (q .side)))
+      .clear {x = j .0} {y = i} {z = suc k} (omega arith) (omega arith) (omega arith) t (bits-in R (q .side) (j .0) (j .1) ∙ jr) e
+      (bits-in R (q .side) i h ∙ f) (top-out S (p .side)) (top-in R (q .side)))
       (λ t. drawn-uncrossed L d (suc (suc k)) c (2 ^ suc k + S) (2 ^ suc k + R) (far-add k S (p .side)) (far-add k R (q .side)) (p .inside) (q .inside)
-      .clear {x = suc k} {y = i} {z = j .0} (omega arith) (omega arith) (omega arith) (top-in S (p .side)) (top-in R (q .side)) (bits-in S (p .side) i h ∙ e) (bits-in R (q .side) i h ∙ f)
+      .clear {x = suc k} {y = i} {z = j .0} (omega arith) (omega arith) (omega arith) (top-in S (p .side)) (top-in R (q .side))
+      (bits-in S (p .side) i h ∙ e) (bits-in R (q .side) i h ∙ f)
       (bits-in S (p .side) (j .0) (j .1) ∙ t) (bits-in R (q .side) (j .0) (j .1) ∙ jr))
 
   both-once : (S R : ℕ) → Both S → Both R → S ≡ R

@@ -39,7 +39,13 @@ module _ (S f : ℕ) where
   rest-in x (y ∷ l) a e =
       cases (away y)
       (λ t. let r = rest-in y l t (omega (arith, turn-away S f x y, ap one-if (ap₂ one-of a t))) in
-      record { front = x ∷ r .front; back = r .back; is = ap (λ z. x ∷ z) (r .is); all-front = each-cons _ x (r .front) a (r .all-front); all-back = r .all-back })
+      record {
+        front = x ∷ r .front;
+        back = r .back;
+        is = ap (λ z. x ∷ z) (r .is);
+        all-front = each-cons _ x (r .front) a (r .all-front);
+        all-back = r .all-back;
+      })
       (λ t. record {
         front = x ∷ [];
         back = y ∷ l;
@@ -53,9 +59,25 @@ module _ (S f : ℕ) where
   passed-twice x (y ∷ l) a e =
       cases (away y)
       (λ t. let r = rest-in y l t (omega (arith, turn-away S f x y, ap one-if (ap₂ one-of a t))) in
-      record { before = x ∷ []; run = r .front; after = r .back; is = ap (λ z. x ∷ z) (r .is); all-before = each-cons _ x [] a (each-nil _); all-run = r .all-front; all-after = r .all-back })
+      record {
+        before = x ∷ [];
+        run = r .front;
+        after = r .back;
+        is = ap (λ z. x ∷ z) (r .is);
+        all-before = each-cons _ x [] a (each-nil _);
+        all-run = r .all-front;
+        all-after = r .all-back;
+      })
       (λ t. let r = passed-twice y l t (omega (arith, turn-away S f x y, ap one-if (ap₂ one-of a t))) in
-      record { before = x ∷ r .before; run = r .run; after = r .after; is = ap (λ z. x ∷ z) (r .is); all-before = each-cons _ x (r .before) a (r .all-before); all-run = r .all-run; all-after = r .all-after })
+      record {
+        before = x ∷ r .before;
+        run = r .run;
+        after = r .after;
+        is = ap (λ z. x ∷ z) (r .is);
+        all-before = each-cons _ x (r .before) a (r .all-before);
+        all-run = r .all-run;
+        all-after = r .all-after;
+      })
 
   pub one-run-list : (l : List ℕ) → closed (turn S) (f ∷ l) ≡ 2 → OneRun S f (f ∷ l)
   one-run-list l e = passed-twice f l (away-self S f) e

@@ -41,7 +41,10 @@ index-near L D d e n S c c′ p f =
     omega (
       arith,
       low-clipped L e n (bit S) c′ (clipped L d n (bit S) - 4 * D) {a = 0} {b = b .0} (omega arith, f .near) (b .1, b .2)
-          (record { low = λ ha ha′ hb hb′. omega (arith, low .low ha ha′ hb hb′, p .down (ha .0) (ha′ .0), p .down (hb .0) (hb′ .0), p .up (ha .0) (hb .0), p .up (ha′ .0) (hb′ .0)) }),
+          (record {
+            low = λ ha ha′ hb hb′. omega
+                (arith, low .low ha ha′ hb hb′, p .down (ha .0) (ha′ .0), p .down (hb .0) (hb′ .0), p .up (ha .0) (hb .0), p .up (ha′ .0) (hb′ .0));
+          }),
     ))
     (λ t. omega (arith, ltb-false (4 * D) (clipped L d n (bit S)) t))
 

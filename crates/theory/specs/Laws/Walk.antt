@@ -90,7 +90,9 @@ module _ (d : ℕ → ℕ → ℕ) (n f : ℕ) (hf : f < n) where
   pub start : (last : ℕ) → last < n → (f ≡ last → ⊥) → Placed n f last []
   start last h ne = record {
     range = λ i m. omega (arith, only i (List·Memᴰ·cases-cons m));
-    once = λ i. cases (eqb i f) (λ e. rw (e, ne-eqb i last (λ t. ne (sym (eqb-true i f e) ∙ t))) (omega arith)) (λ e. rw e (cases (eqb i last) (λ t. rw t (omega arith)) (λ t. rw t (omega arith))));
+    once =
+        λ i. cases (eqb i f) (λ e. rw (e, ne-eqb i last (λ t. ne (sym (eqb-true i f e) ∙ t))) (omega arith))
+        (λ e. rw e (cases (eqb i last) (λ t. rw t (omega arith)) (λ t. rw t (omega arith))));
   }
     where
       only : (i : ℕ) → (i ≡ last) ⊎ List·Memᴰ i [] → i ≡ last

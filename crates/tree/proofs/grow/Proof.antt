@@ -37,14 +37,22 @@ rooms : (h : tie.After-brought) → length (h .brought .last .1 .1 .1 .1 .1 .1 .
 rooms h = h .brought .kept .1 .1 .1 .1 .1 .1 .1 .0 ∙ start h .pre .4
 
 -- of the lowered rows those stay that the theory names, image k outside and inside
-outside : (h : tie.After-brought) → let a = start h .args in filter (stays (suc (a .k))) (loweredIn limit 0 (a .f .now) (a .v .now) (h .brought .last .1 .1 .1 .1 .1 .0) (h .brought .last .1 .1 .1 .1 .1 .1 .1 .1 .1 .0) (a .count)) ≡ stayed limit (cost (a .t .now) (a .n)) (a .k) 0 (measured limit (cost (a .t .now) (a .n)) (a .k))
+outside : (h : tie.After-brought)
+    → let a = start h .args in filter (stays (suc (a .k)))
+    (loweredIn limit 0 (a .f .now) (a .v .now) (h .brought .last .1 .1 .1 .1 .1 .0) (h .brought .last .1 .1 .1 .1 .1 .1 .1 .1 .1 .0) (a .count))
+    ≡ stayed limit (cost (a .t .now) (a .n)) (a .k) 0 (measured limit (cost (a .t .now) (a .n)) (a .k))
 outside h = lowered-stayed _ _ _ _ _ _ _ _ _ _ (start h .pre .3 .is) (h .brought .ensures .outside)
 
-inside : (h : tie.After-brought) → let a = start h .args in filter (stays (suc (a .k))) (loweredIn limit (2 ^ a .k) (a .f .now) (a .v .now) (h .brought .last .1 .1 .1 .1 .1 .1 .0) (h .brought .last .1 .1 .1 .1 .1 .1 .1 .1 .1 .0) (a .count)) ≡ stayed limit (cost (a .t .now) (a .n)) (a .k) (2 ^ a .k) (measured limit (cost (a .t .now) (a .n)) (a .k))
+inside : (h : tie.After-brought)
+    → let a = start h .args in filter (stays (suc (a .k)))
+    (loweredIn limit (2 ^ a .k) (a .f .now) (a .v .now) (h .brought .last .1 .1 .1 .1 .1 .1 .0) (h .brought .last .1 .1 .1 .1 .1 .1 .1 .1 .1 .0)
+    (a .count)) ≡ stayed limit (cost (a .t .now) (a .n)) (a .k) (2 ^ a .k) (measured limit (cost (a .t .now) (a .n)) (a .k))
 inside h = lowered-stayed _ _ _ _ _ _ _ _ _ _ (start h .pre .3 .is) (h .brought .ensures .inside)
 
 -- the own link of image k, as the theory has it
-own : (h : tie.After-brought) → let a = start h .args in min (2 * limit) (getD (h .brought .last .1 .1 .1 .1 .1 .1 .1 .1 .1 .0) (h .brought .result) 0 - 2 * limit) ≡ more limit (cost (a .t .now) (a .n)) (a .k) (2 ^ a .k) (2 * limit) .1
+own : (h : tie.After-brought)
+    → let a = start h .args in min (2 * limit) (getD (h .brought .last .1 .1 .1 .1 .1 .1 .1 .1 .1 .0) (h .brought .result) 0 - 2 * limit) ≡ more limit
+    (cost (a .t .now) (a .n)) (a .k) (2 ^ a .k) (2 * limit) .1
 own h = ap (λ m. min (2 * limit) (m - 2 * limit)) (h .brought .ensures .own)
 
 slice-aggregate-brought : tie.Need-slice-aggregate-brought
@@ -54,7 +62,9 @@ slice-aggregate-brought-2 : tie.Need-slice-aggregate-brought-2
 slice-aggregate-brought-2 c = search needs
 
 brought-requires : tie.Need-brought-requires
-brought-requires c κs = let b = c .before .before .before .before .before .before .before .before .before .before .before .before in let p = b .pre in (p .0, p .1, p .2, rowed b, refl, refl, p .4, p .6, p .7)
+brought-requires c κs =
+    let b = c .before .before .before .before .before .before .before .before .before .before .before .before in let p = b .pre
+    in (p .0, p .1, p .2, rowed b, refl, refl, p .4, p .6, p .7)
 
 mul-value : tie.Need-mul-value
 mul-value c = search needs
@@ -63,14 +73,18 @@ slice-read-value : tie.Need-slice-read-value
 slice-read-value c = search needs
 
 bit-alone-requires : tie.Need-bit-alone-requires
-bit-alone-requires c κs = few (c .before .before .before .before .before .before .before .before .before .before .before .before .before .before .before .before .before .before .before .before .before .before)
+bit-alone-requires c κs =
+    few
+    (c .before .before .before .before .before .before .before .before .before .before .before .before .before .before .before .before .before .before
+    .before .before .before .before)
 
 slice-aggregate-put-rows : tie.Need-slice-aggregate-put-rows
 slice-aggregate-put-rows c = search needs
 
 put-rows-requires : tie.Need-put-rows-requires
 put-rows-requires c κs =
-    let h = c .before .before .before .before .before .before .before .before .before .before .before .before .before .before in let b = start h in let p = b .pre in (
+    let h = c .before .before .before .before .before .before .before .before .before .before .before .before .before .before
+    in let b = start h in let p = b .pre in (
       few b,
       held-given limit _ _ _ _ _ _ _ _ (few b) (search needs) (p .3) (rowed b) (search needs) (h .brought .ensures .room) (h .brought .ensures .outside),
       room-outside limit _ _ (p .1) (few b) (formed b) _ (outside h) _ _ (rooms h) (p .5),
@@ -99,20 +113,29 @@ put-rows-requires-2 c κs =
     let image = o .before .before .before .before .before .bit-alone .ensures in
     rw image (
       few b,
-      held-given limit _ _ _ _ _ _ _ _ (few b) (search needs) (p .3) (rowed b) (h .brought .kept .1 .1 .1 .1 .1 .1 .0) (h .brought .ensures .room) (h .brought .ensures .inside),
-      room-inside limit _ _ (p .1) (few b) (formed b) _ (outside h) _ _ (rooms h) (p .5) _ _ _ (o .put-rows .ensures) _ _ _ _ (own h) (rw image at (w .turn-row .ensures)) _ (inside h),
+      held-given limit _ _ _ _ _ _ _ _ (few b) (search needs) (p .3) (rowed b) (h .brought .kept .1 .1 .1 .1 .1 .1 .0) (h .brought .ensures .room)
+          (h .brought .ensures .inside),
+      room-inside limit _ _ (p .1) (few b) (formed b) _ (outside h) _ _ (rooms h) (p .5) _ _ _ (o .put-rows .ensures) _ _ _ _ (own h)
+          (rw image at (w .turn-row .ensures)) _ (inside h),
     )
 
 same-length : tie.Need-same-length
 same-length c =
-    let w = c .before .before .before .before .before .before .before .before .before .before .before .before .before in let o = w .before .before .before .before .before .before .before in
-    c .before .before .before .before .put-rows2 .kept .1 .1 .1 .1 .1 .1 .1 .1 .0 ∙ w .turn-row .kept .1 .1 .1 .1 .1 .0 ∙ o .put-rows .kept .1 .1 .1 .1 .1 .1 .1 .1 .0 ∙ o .before .before .before .before .before .before .before .before .before .before .before .before .before .before .before .brought .kept .1 .1 .1 .1 .1 .1 .1 .0
+    let w = c .before .before .before .before .before .before .before .before .before .before .before .before .before in let o = w .before .before .before
+    .before .before .before .before in
+    c .before .before .before .before .put-rows2 .kept .1 .1 .1 .1 .1 .1 .1 .1 .0 ∙ w .turn-row .kept .1 .1 .1 .1 .1 .0
+    ∙ o .put-rows .kept .1 .1 .1 .1 .1 .1 .1 .1 .0
+    ∙ o .before .before .before .before .before .before .before .before .before .before .before .before .before .before .before .brought .kept .1 .1 .1 .1
+    .1 .1 .1 .0
 
 same-length-2 : tie.Need-same-length-2
 same-length-2 c = search needs
 
 same-length-3 : tie.Need-same-length-3
-same-length-3 c = c .before .before .before .before .before .before .before .before .before .before .before .before .before .before .before .before .before .before .before .before .before .before .before .before .before .before .before .before .before .before .before .before .before .before .before .brought .kept .1 .1 .1 .1 .1 .1 .1 .1 .0
+same-length-3 c =
+    c .before .before .before .before .before .before .before .before .before .before .before .before .before .before .before .before .before .before
+    .before .before .before .before .before .before .before .before .before .before .before .before .before .before .before .before .before .brought
+    .kept .1 .1 .1 .1 .1 .1 .1 .1 .0
 
 same-length-4 : tie.Need-same-length-4
 same-length-4 c = search needs
@@ -124,27 +147,13 @@ returns c =
     let h = o .before .before .before .before .before .before .before .before .before .before .before .before .before .before .before in
     let b = start h in let p = b .pre in
     let image = o .before .before .before .before .before .bit-alone .ensures in
-    held-more limit _ _ (p .1) (few b) (formed b) _ (outside h) _ _ (rooms h) (p .5) _ _ _ (o .put-rows .ensures) _ _ _ _ (own h) (rw image at (w .turn-row .ensures))
+    held-more limit _ _ (p .1) (few b) (formed b) _ (outside h) _ _ (rooms h) (p .5) _ _ _ (o .put-rows .ensures) _ _ _ _ (own h)
+    (rw image at (w .turn-row .ensures))
     _ (inside h) _ _ _ (rw image at (c .before .before .before .before .put-rows2 .ensures))
 
 pub grow-spec : {M : Type 1} → statement M
 grow-spec =
     tie.close
-    (tie.spec
-    slice-aggregate-brought
-    slice-aggregate-brought-2
-    brought-requires
-    mul-value
-    slice-read-value
-    bit-alone-requires
-    slice-aggregate-put-rows
-    put-rows-requires
-    mul-turn-row
-    turn-row-requires
-    slice-aggregate-put-rows-2
-    put-rows-requires-2
-    same-length
-    same-length-2
-    same-length-3
-    same-length-4
-    returns)
+    (tie.spec slice-aggregate-brought slice-aggregate-brought-2 brought-requires mul-value slice-read-value bit-alone-requires
+    slice-aggregate-put-rows put-rows-requires mul-turn-row turn-row-requires slice-aggregate-put-rows-2 put-rows-requires-2 same-length same-length-2
+    same-length-3 same-length-4 returns)

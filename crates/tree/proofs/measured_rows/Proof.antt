@@ -61,11 +61,17 @@ loop-again : tie.Need-loop-again Inv-loop μ-loop
 loop-again c =
     let w = c .before .before .before .before in
     let g = w .before .before .before .before .before .before .before .before .before .grow in
-    let i = c .before .before .before .before .before .before .before .before .before .before .before .before .before .before .before .before .before .before .before .before .before .loop .inv in
+    let i = c .before .before .before .before .before .before .before .before .before .before .before .before .before .before .before .before .before
+    .before .before .before .before .loop .inv in
     let m = w .write-rows .kept in (
       omega (arith, i .0),
-      omega (arith, c .before .before .before .before .before .before .before .before .before .before .before .before .before .before .before .before .before .before .before .before .loop-test .taken),
-      held-written _ _ _ _ _ _ _ _ _ _ (g .ensures) (w .write-rows .ensures .0) (w .write-rows .ensures .1) (m .1 .1 .1 .0 ∙ i .2 .far-room) (m .1 .1 .1 .1 .0 ∙ i .2 .cost-room),
+      omega (
+        arith,
+        c .before .before .before .before .before .before .before .before .before .before .before .before .before .before .before .before .before
+            .before .before .before .loop-test .taken,
+      ),
+      held-written _ _ _ _ _ _ _ _ _ _ (g .ensures) (w .write-rows .ensures .0) (w .write-rows .ensures .1) (m .1 .1 .1 .0 ∙ i .2 .far-room)
+          (m .1 .1 .1 .1 .0 ∙ i .2 .cost-room),
       g .kept .1 .1 .1 .1 .1 .1 .0 ∙ i .3,
       g .kept .1 .1 .1 .1 .1 .1 .1 .0 ∙ i .4,
       g .kept .1 .1 .1 .1 .1 .1 .1 .1 .0 ∙ i .5,

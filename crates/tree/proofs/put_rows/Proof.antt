@@ -23,7 +23,8 @@ start l = l .before .before .before .before .before .before .before .before
 value : (l : tie.In-loop Inv-loop μ-loop) → getD (start l .args .slots .now) (l .before .loop .i) 0 < 192
 value l = start l .pre .1 .place (l .before .loop .i) (l .loop-test .taken)
 
-room : (l : tie.In-loop Inv-loop μ-loop) → (l .before .loop .place < length (l .before .loop .fars)) × (l .before .loop .place < length (l .before .loop .costs))
+room : (l : tie.In-loop Inv-loop μ-loop) → (l .before .loop .place < length (l .before .loop .fars))
+    × (l .before .loop .place < length (l .before .loop .costs))
 room l = let i = l .before .loop .inv in put-room _ _ _ _ _ _ _ _ _ _ _ _ _ _ (i .1) _ (i .0) (start l .pre .2)
 
 loop-holds : tie.Need-loop-holds Inv-loop μ-loop
@@ -72,7 +73,8 @@ loop-again c =
     let w = c .before .before .before .before .before .before .before .before .before .before in
     let l = w .before .before in (
       search needs,
-      put-more _ _ _ _ _ _ _ _ _ _ _ _ _ _ (l .before .loop .inv .1) _ _ _ (room l .0) (room l .1) (rw (w .wide .ensures) at (c .before .before .before .before .turn-row .ensures)),
+      put-more _ _ _ _ _ _ _ _ _ _ _ _ _ _ (l .before .loop .inv .1) _ _ _ (room l .0) (room l .1)
+          (rw (w .wide .ensures) at (c .before .before .before .before .turn-row .ensures)),
     )
 
 same-length : tie.Need-same-length Inv-loop μ-loop

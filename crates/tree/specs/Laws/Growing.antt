@@ -41,7 +41,8 @@ lowered-changed L d k add f v slots best count (suc n) h w =
     ap₂ (λ T c. T ++ ((add + getD f n 0, min (getD v n 0) c) ∷ [])) (lowered-changed L d k add f v slots best count n (omega arith) w) (w .value n h)
     ∙ sym (map-append (changed L d k add) (rowsIn f v n) ((getD f n 0, getD v n 0) ∷ []))
 
-pub lowered-stayed : (L : ℕ) (d : ℕ → ℕ → ℕ) (k add : ℕ) (f v slots best : List ℕ) (count : ℕ) (T : List Row) → rowsIn f v count ≡ T → Valued L d k add f count slots best
+pub lowered-stayed : (L : ℕ) (d : ℕ → ℕ → ℕ) (k add : ℕ) (f v slots best : List ℕ) (count : ℕ) (T : List Row) → rowsIn f v count ≡ T
+    → Valued L d k add f count slots best
     → filter (stays (suc k)) (loweredIn L add f v slots best count) ≡ stayed L d k add T
 unfolding stayed
 lowered-stayed L d k add f v slots best count T e w =

@@ -45,10 +45,12 @@ module _ (L : ℕ) (d : ℕ → ℕ → ℕ) where
   -- the own link of the new image always stays
   own-stays : (k v : ℕ) → 1 ≤ k → stays (suc k) (2 ^ k, v) ≡ true
   own-stays zero v h = absurd (omega arith)
-  own-stays (suc k) v h = or-l (not (inner (suc (suc k)) (2 ^ suc k))) (ltb 0 v) (false-not (inner (suc (suc k)) (2 ^ suc k)) (own-not-inner k (suc k) (omega arith)))
+  own-stays (suc k) v h =
+      or-l (not (inner (suc (suc k)) (2 ^ suc k))) (ltb 0 v) (false-not (inner (suc (suc k)) (2 ^ suc k)) (own-not-inner k (suc k) (omega arith)))
 
   -- the rows with image k outside, each cost lowered, of which those stay that the theory names
-  module _ (k : ℕ) (h : 1 ≤ k) (few : k < 64) (c : WellFormed L d (suc k)) (outs : List Row) (out : filter (stays (suc k)) outs ≡ stayed L d k 0 (measured L d k))
+  module _ (k : ℕ) (h : 1 ≤ k) (few : k < 64) (c : WellFormed L d (suc k)) (outs : List Row)
+      (out : filter (stays (suc k)) outs ≡ stayed L d k 0 (measured L d k))
       (f₀ v₀ : List ℕ) (e : length f₀ ≡ 128) (g : length v₀ ≡ 128) where
     pub room-outside : PutRoom k outs 0 f₀ v₀
     room-outside = record { for-fars = rw out (omega (arith, grown-room k h c)); for-costs = rw out (omega (arith, grown-room k h c)) }
@@ -81,7 +83,8 @@ module _ (L : ℕ) (d : ℕ → ℕ → ℕ) where
           for-costs = rw inn (omega (arith, own-count, outside-count, grown-room k h c, sizes));
         }
 
-        pub held-more : (ins : List Row) → filter (stays (suc k)) ins ≡ stayed L d k (2 ^ k) (measured L d k) → (r : ℕ) (f₃ v₃ : List ℕ) → PutAll k ins b f₂ v₂ r f₃ v₃ → RowsHeld L d (k + 1) f₃ v₃ r
+        pub held-more : (ins : List Row) → filter (stays (suc k)) ins ≡ stayed L d k (2 ^ k) (measured L d k) → (r : ℕ) (f₃ v₃ : List ℕ)
+            → PutAll k ins b f₂ v₂ r f₃ v₃ → RowsHeld L d (k + 1) f₃ v₃ r
         held-more ins inn r f₃ v₃ s =
             let all = s .put ∙ ap₂ _++_ own-rows inn
             ∙ append-assoc (stayed L d k 0 (measured L d k)) (more L d k (2 ^ k) (2 * L) ∷ []) (stayed L d k (2 ^ k) (measured L d k))
@@ -94,7 +97,8 @@ module _ (L : ℕ) (d : ℕ → ℕ → ℕ) where
             }
           where
             whole : length (measured L d (suc k)) ≡ length (stayed L d k 0 (measured L d k)) + suc (length (stayed L d k (2 ^ k) (measured L d k)))
-            whole = ap length (grown k h c) ∙ length-append (stayed L d k 0 (measured L d k)) (more L d k (2 ^ k) (2 * L) ∷ stayed L d k (2 ^ k) (measured L d k))
+            whole =
+                ap length (grown k h c) ∙ length-append (stayed L d k 0 (measured L d k)) (more L d k (2 ^ k) (2 * L) ∷ stayed L d k (2 ^ k) (measured L d k))
 
             few-rows : r ≡ length (measured L d (suc k)) → r ≤ 128
             few-rows m = omega (arith, whole, grown-room k h c)

@@ -28,7 +28,8 @@ returns-3 c =
     let e = c .before .before .before in
     let a = e .before .before .args in
     c .is-above3 .ensures
-    ∙ sym (once-third (a .x) (a .y) (a .z) (sym (e .before .is-above .ensures) ∙ e .if1 .left) (sym (c .before .before .is-above2 .ensures) ∙ c .before .if2 .left))
+    ∙ sym
+    (once-third (a .x) (a .y) (a .z) (sym (e .before .is-above .ensures) ∙ e .if1 .left) (sym (c .before .before .is-above2 .ensures) ∙ c .before .if2 .left))
 
 pub is-once-spec : {M : Type 1} → statement M
 is-once-spec =
