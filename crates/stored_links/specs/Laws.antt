@@ -1,6 +1,7 @@
 -- The laws, from one row up to what is read and what was written.
 pub mod Sizes
 pub mod Rows
+pub mod RowsAgain
 pub mod Form
 pub mod Passed
 pub mod Outcomes

@@ -1,7 +1,7 @@
 -- Fields of one width, one after another: where field k stands, one field more, and all of them read. Assumes nothing.
 use mathlib.Core.List.{List, [], append-assoc, append-nil, _++_, _∷_}
 use mathlib.Core.Path.{ap, ap₂, refl, sym, _∙_, _≡_}
-use Prim.Native.Nat.{suc, zero, ℕ, _*_, _+_, _<_, _^_, _≤_}
+use Prim.Native.Nat.{ℕ, suc, zero, _*_, _+_, _<_, _^_, _≤_}
 use native.Mathlib.Nat.{add-zero, mul-le-mul-left, mul-suc, mul-zero}
 use native.Mathlib.Numerals.{add-one}
 use native.Mathlib.Omega.{arith}
@@ -12,6 +12,11 @@ use Rattle.bits.specs.Laws.Numbers.{all-bits-part, bits-value, length-bi
 use Rattle.bits.specs.Laws.Parts.{length-part, over-at-none, over-at-twice, part-cut, part-more}
 use Rattle.bits.specs.Listed.{listed}
 use Rattle.bits.specs.Laws.Listed.{length-listed, listed-more}
+
+-- bits read as a number are the bits of that number
+pub part-again : (l : List ℕ) (position w : ℕ) → AllBits l → position + w ≤ length l → bitsOf w (valueOf (part l position w)) ≡ part l position w
+part-again l position w b h =
+    ap (λ (k : ℕ). bitsOf k (valueOf (part l position w))) (sym (length-part l position w h)) ∙ bits-value (all-bits-part position w b)
 
 pub length-fields : (w : ℕ) (vs : List ℕ) → length (fieldBits (fieldsOf w vs)) ≡ w * length vs
 unfolding fieldBits

@@ -20,11 +20,18 @@ formed e = well-formed-less _ _ _ _ (start e .pre .2) (start e .pre .0 .formed)
 few : (e : tie.After-near-images) → start e .args .k < 64
 few e = omega (arith, start e .pre .0 .few, start e .pre .2)
 
+-- from behind the sides of one kind back to those before
+abbrev at-near : tie.After-choose-out → tie.After-near-images
+at-near o = o .before .before .before .before
+
+abbrev at-out : tie.After-choose-in → tie.After-choose-out
+at-out i = i .before .before .before .before .before .before .before .before .before .before
+
 -- there is room for the last side
 room : (i : tie.After-choose-in) → i .choose-in .result < 127
 room i =
-    let o = i .before .before .before .before .before .before .before .before .before .before in
-    let e = o .before .before .before .before in
+    let o = at-out i in
+    let e = at-near o in
     let p = start e .pre in
     chosen-few _ _ _ (formed e) (p .1) (few e) _ _ (e .before .closest .ensures) (e .near-images .ensures) _ _ (p .3) _ _ _ _
     (o .choose-out .ensures) _ _ _ _ (i .choose-in .ensures)
@@ -44,36 +51,19 @@ choose-out-requires c κs =
 choose-in-requires : tie.Need-choose-in-requires
 choose-in-requires c κs =
     let o = c .before .before .before .before .before .before .before .before .before in
-    let e = o .before .before .before .before in
+    let e = at-near o in
     let p = start e .pre in
-    let m = o .choose-out .ensures .room in (
-      p .1,
-      few e,
-      p .3,
-      omega (
-        arith,
-        chosen-fit _ _ _ (formed e) (p .1) (few e) _ _ (e .before .closest .ensures) (e .near-images .ensures) _ _
-            (p .3) _ _ _ _ (o .choose-out .ensures),
-        p .3 .rising .few,
-      ),
-      record { sides = m .sides; places = p .5; values = m .values },
-    )
+    let m = o .choose-out .ensures .room in
+    let fit = chosen-fit _ _ _ (formed e) (p .1) (few e) _ _ (e .before .closest .ensures) (e .near-images .ensures) _ _
+    (p .3) _ _ _ _ (o .choose-out .ensures) in
+    (p .1, few e, p .3, omega (arith, fit, p .3 .rising .few), record { sides = m .sides; places = p .5; values = m .values })
 
 bit-alone-requires : tie.Need-bit-alone-requires
-bit-alone-requires c κs =
-    few
-    (c .before .before .before .before .before .before .before .before .before .before .before .before .before .before .before .before .before .before
-    .before .before)
+bit-alone-requires c κs = few (at-near (at-out (c .before .before .before .before .before .before)))
 
 sub-sides : tie.Need-sub-sides
 sub-sides c =
-    omega (
-      arith,
-      c .bit-alone .ensures,
-      pow-pos
-          (c .before .before .before .before .before .before .before .before .before .before .before .before .before .before .before .before .before .before
-          .before .before .before .before .before .before .before .before .before .before .before .before .args .k),
-    )
+    omega (arith, c .bit-alone .ensures, pow-pos (start (at-near (at-out (c .before .before .before .before .before .before .before))) .args .k))
 
 mul-sides : tie.Need-mul-sides
 mul-sides c = omega (arith, room (c .before .before .before .before .before .before .before))
@@ -100,8 +90,8 @@ add-images c = omega (arith, room (c .before .before .before .before .before .be
 images-requires : tie.Need-images-requires
 images-requires c κs =
     let i = c .before .before .before .before .before .before .before .before .before .before in
-    let o = i .before .before .before .before .before .before .before .before .before .before in
-    let e = o .before .before .before .before in
+    let o = at-out i in
+    let e = at-near o in
     let p = start e .pre in
     let full = ap (λ x. x - 1) (c .before .before .before .bit-alone .ensures) in (
       p .0,
@@ -118,42 +108,34 @@ add-result c = omega (arith, room (c .before .before .before .before .before .be
 
 same-length : tie.Need-same-length
 same-length c =
-    let o = c .before .before .before .before .before .before .before .before .before .before .before .before .before .before .before .before .before
-    .before .before .before .before .before .before .before .before in o .choose-out .ensures .room .places
-    ∙ sym (start (o .before .before .before .before) .pre .4)
+    let o = at-out
+    (c .before .before .before .before .before .before .before .before .before .before .before .before .before .before .before) in o .choose-out
+    .ensures .room .places ∙ sym (start (at-near o) .pre .4)
 
 same-length-2 : tie.Need-same-length-2
 same-length-2 c =
-    c .before .before .before .before .before .before .before .before .before .before .before .before .before .before .before .choose-in .ensures .room
-    .places ∙ sym (c .before .before .before .before .before .before .before .before .before .before .before .before .before .before .before .before
-    .before .before .before .before .before .before .before .before .before .before .before .before .before .before .before .before .before .before
-    .before .before .before .before .pre .5)
+    let i = c .before .before .before .before .before .before .before .before .before .before .before .before .before .before .before in i
+    .choose-in .ensures .room .places ∙ sym (start (at-near (at-out i)) .pre .5)
 
 same-length-3 : tie.Need-same-length-3
 same-length-3 c =
-    simp length-set
-    (c .before .before .before .before .before .before .before .before .before .before .before .before .before .before .before .choose-in .ensures .room
-    .sides ∙ sym (c .before .before .before .before .before .before .before .before .before .before .before .before .before .before .before .before
-    .before .before .before .before .before .before .before .before .before .before .before .before .before .before .before .before .before .before
-    .before .before .before .before .pre .6))
+    let i = c .before .before .before .before .before .before .before .before .before .before .before .before .before .before .before
+    in simp length-set (i .choose-in .ensures .room .sides ∙ sym (start (at-near (at-out i)) .pre .6))
 
 same-length-4 : tie.Need-same-length-4
 same-length-4 c = c .before .before .before .before .images .kept .1 .1 .1 .1 .1 .0
 
 same-length-5 : tie.Need-same-length-5
 same-length-5 c =
-    c .before .before .before .before .images .ensures .room
-    ∙ sym
-    (c .before .before .before .before .before .before .before .before .before .before .before .before .before .before .before .before .before .before
-    .before .before .before .before .before .before .before .before .before .before .before .before .before .before .before .before .before .before
-    .before .before .pre .8)
+    let i = c .before .before .before .before .before .before .before .before .before .before .before .before .before .before .before in c .before
+    .before .before .before .images .ensures .room ∙ sym (start (at-near (at-out i)) .pre .8)
 
 returns : tie.Need-returns
 returns c =
     let y = c .before .before .before .before .before .before .before .before in
     let i = y .before .before .before .before .before .before .before in
-    let o = i .before .before .before .before .before .before .before .before .before .before in
-    let e = o .before .before .before .before in
+    let o = at-out i in
+    let e = at-near o in
     let p = start e .pre in
     answered _ _ _ (formed e) (p .1) (few e) _ _ (e .before .closest .ensures) (e .near-images .ensures) _ _ (p .3) _ _ _ _
     (o .choose-out .ensures) _ _ _ _ (i .choose-in .ensures) _ _ _ (ap (λ x. x - 1) (y .bit-alone .ensures)) refl refl _

@@ -1,18 +1,18 @@
 -- What was read is a cost table, and writing it gives the same used bytes. Assumes nothing.
 use mathlib.Core.List.{List, _++_}
 use mathlib.Core.Path.{ap, ap₂, sym, _∙_, _≡_}
-use Prim.Native.Nat.{ℕ, _*_, _+_, _≤_}
+use Prim.Native.Nat.{ℕ, _*_, _+_}
 use native.Mathlib.Nat.{zero-add}
 use native.Mathlib.Omega.{arith}
-use lib.ListN.{length, take}
+use lib.ListN.{take}
 use Rattle.theory.specs.Tables.{CostTable, cost}
-use Rattle.bits.specs.Bits.{AllBits, AllBytes, bits, bitsOf, part, valueOf}
+use Rattle.bits.specs.Bits.{AllBytes, bits, bitsOf, part}
 use Rattle.bits.specs.Forms.{fieldsOf, fillWidth, filled, fieldBits, fieldBytes}
 use Rattle.bits.specs.Laws.Bytes.{length-bits}
-use Rattle.bits.specs.Laws.Numbers.{all-bits-bytes, all-bits-part, bits-value}
-use Rattle.bits.specs.Laws.OneWidth.{fields-part}
+use Rattle.bits.specs.Laws.Numbers.{all-bits-bytes}
+use Rattle.bits.specs.Laws.OneWidth.{fields-part, part-again}
 use Rattle.bits.specs.Laws.Packed.{packed-only}
-use Rattle.bits.specs.Laws.Parts.{length-part, part-more}
+use Rattle.bits.specs.Laws.Parts.{part-more}
 use Rattle.bits.specs.Laws.Written.{all-bytes-take, bits-take}
 use Rattle.stored_costs.specs.Entries.{entryCount}
 use Rattle.stored_costs.specs.Form.{costBytes, costEnd, costUsed, storedTable, entryOf, fillOf, imagesOf, Marked}
@@ -20,11 +20,6 @@ use Rattle.stored_costs.specs.Laws.Form.{all-bits-costs, cost-parts, cos
 use Rattle.stored_costs.specs.Laws.Tables.{table-entries, table-formed}
 use Rattle.bits.specs.declared.Form.{Form}
 use Rattle.stored_costs.specs.Stored.{Readable}
-
--- bits read as a number are the bits of that number
-part-again : (l : List ℕ) (position w : ℕ) → AllBits l → position + w ≤ length l → bitsOf w (valueOf (part l position w)) ≡ part l position w
-part-again l position w b h =
-    ap (λ (k : ℕ). bitsOf k (valueOf (part l position w))) (sym (length-part l position w h)) ∙ bits-value (all-bits-part position w b)
 
 -- what was read is a cost table
 pub read-table : (form : Form) (s : List ℕ) (room : ℕ) → Readable form s room → CostTable (form .limit) (imagesOf form s) (storedTable form (imagesOf form s) s)

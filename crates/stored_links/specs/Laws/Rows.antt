@@ -1,6 +1,6 @@
--- The bits of the rows: how many, one row more, one row found again, and rows read as the bits they stand in. Assumes nothing.
+-- The bits of the rows: how many, one row more, and one row found again. Assumes nothing.
 use mathlib.Core.List.{List, append-assoc, append-nil, _++_}
-use mathlib.Core.Path.{ap, ap₂, refl, sym, _∙_, _≡_}
+use mathlib.Core.Path.{ap, refl, sym, _∙_, _≡_}
 use Prim.Native.Nat.{suc, zero, ℕ, _*_, _+_, _-_, _/_, _<_, _≤_}
 use native.Mathlib.Nat.{mul-suc, mul-zero}
 use native.Mathlib.Numerals.{add-one}
@@ -9,19 +9,12 @@ use lib.Dec.{ltb}
 use lib.ListN.{length, length-append}
 use borrow.Author.Tests.{ltb-false, ltb-true}
 use borrow.Table.Steps.{cases}
-use Rattle.bits.specs.Bits.{AllBits, bits, bitsOf, overAt, part, valueOf}
+use Rattle.bits.specs.Bits.{bitsOf, overAt, part}
 use Rattle.bits.specs.Forms.{fieldBits}
 use Rattle.bits.specs.Laws.Forms.{form-append}
-use Rattle.bits.specs.Laws.Numbers.{all-bits-bytes, all-bits-part, bits-value, length-bitsOf}
-use Rattle.bits.specs.Laws.Parts.{length-part, over-at-none, over-at-twice, part-cut, part-more}
-use Rattle.stored_links.specs.Form.{rowAt, rowFields, rowWidth, rowsTo}
-use Rattle.stored_links.specs.Said.{costAt, farAt}
-use Rattle.bits.specs.declared.Form.{Form}
-
--- bits read as a number are the bits of that number
-pub part-again : (l : List ℕ) (position w : ℕ) → AllBits l → position + w ≤ length l → bitsOf w (valueOf (part l position w)) ≡ part l position w
-part-again l position w b h =
-    ap (λ (k : ℕ). bitsOf k (valueOf (part l position w))) (sym (length-part l position w h)) ∙ bits-value (all-bits-part position w b)
+use Rattle.bits.specs.Laws.Numbers.{length-bitsOf}
+use Rattle.bits.specs.Laws.Parts.{over-at-none, over-at-twice, part-cut}
+use Rattle.stored_links.specs.Form.{rowFields, rowWidth, rowsTo}
 
 pub row-bits : (w n S c : ℕ) → fieldBits (rowFields w n S c) ≡ bitsOf (n - 1) (S / 2) ++ bitsOf w c
 unfolding fieldBits
@@ -32,7 +25,7 @@ length-row w n S c =
     ap length (row-bits w n S c) ∙ omega (arith, length-append (bitsOf (n - 1) (S / 2)) (bitsOf w c), length-bitsOf (n - 1) (S / 2), length-bitsOf w c)
 
 module _ (w n : ℕ) (f g : ℕ → ℕ) where
-  rows-suc : (k : ℕ) → fieldBits (rowsTo w n f g (suc k)) ≡ fieldBits (rowsTo w n f g k) ++ fieldBits (rowFields w n (f k) (g k))
+  pub rows-suc : (k : ℕ) → fieldBits (rowsTo w n f g (suc k)) ≡ fieldBits (rowsTo w n f g k) ++ fieldBits (rowFields w n (f k) (g k))
   unfolding rowsTo
   rows-suc k = form-append (rowsTo w n f g k) (rowFields w n (f k) (g k))
 
@@ -118,33 +111,6 @@ rows-same w n f g d e (suc m) h =
     let ih = rows-same w n f g d e m (λ k l. h k (omega arith)) in
     let q = h m (omega arith) in
     rw (ih, q .0, q .1)
-
--- row k read is the bits it stands in
-row-again : (form : Form) (n : ℕ) (s : List ℕ) (k : ℕ) → rowAt form n k + rowWidth (form .width) n ≤ length (bits s)
-    → fieldBits (rowFields (form .width) n (farAt form n s k) (costAt form n s k)) ≡ part (bits s) (rowAt form n k) (rowWidth (form .width) n)
-unfolding farAt costAt
-row-again form n s k h =
-    let l = bits s in
-    let b = all-bits-bytes s in
-    let p = rowAt form n k in
-    let x = valueOf (part l p (n - 1)) in
-    let q : 2 * x / 2 ≡ x = omega arith in
-    row-bits (form .width) n (2 * x) (valueOf (part l (p + (n - 1)) (form .width)))
-    ∙ ap₂ (λ (y z : List ℕ). y ++ z) (ap (bitsOf (n - 1)) q ∙ part-again l p (n - 1) b (omega arith)) (part-again l (p + (n - 1)) (form .width) b (omega arith))
-    ∙ sym (part-more l p (n - 1) (form .width))
-
--- the first m rows read are the bits they stand in
-pub rows-again : (form : Form) (n : ℕ) (s : List ℕ) (m : ℕ) → rowAt form n m ≤ length (bits s)
-    → fieldBits (rowsTo (form .width) n (farAt form n s) (costAt form n s) m) ≡ part (bits s) (form .head + 14) (rowWidth (form .width) n * m)
-unfolding rowsTo fieldBits part
-rows-again form n s zero h = rw mul-zero
-rows-again form n s (suc m) h =
-    let l = bits s in
-    let ih = rows-again form n s m (omega (arith, mul-suc (rowWidth (form .width) n) m)) in
-    rows-suc (form .width) n (farAt form n s) (costAt form n s) m
-    ∙ ap₂ (λ (x y : List ℕ). x ++ y) ih (row-again form n s m (omega (arith, mul-suc (rowWidth (form .width) n) m)))
-    ∙ sym (ap (part l (form .head + 14)) (mul-suc (rowWidth (form .width) n) m)
-    ∙ part-more l (form .head + 14) (rowWidth (form .width) n * m) (rowWidth (form .width) n))
 
 -- two writes, one behind the other, make a row
 pub row-over : (w n S c position : ℕ) (l x y : List ℕ) → position + rowWidth w n ≤ length l
