@@ -9,7 +9,7 @@ use Rattle.batch.specs.Tables.{Table}
 use Rattle.bits.specs.declared.Form.{Form}
 
 -- the first N rows are a link table over n images, and there is room for its stored form
-pub record Next (form : Form) (n N : ℕ) (l v : List ℕ) (room : ℕ) : Type 0 where
+pub record NextFits (form : Form) (n N : ℕ) (l v : List ℕ) (room : ℕ) : Type 0 where
   pub links : Links (form .limit) n N (take N l) (take N v)
   pub fits : linkUsed form n N ≤ room
 
@@ -17,5 +17,5 @@ pub record Next (form : Form) (n N : ℕ) (l v : List ℕ) (room : ℕ) : Type 0
 unfoldable pub BatchFits : Form → List Table → List ℕ → List ℕ → ℕ → Type 0
 BatchFits form [] l v room = (length l ≡ 0) × (length v ≡ 0)
 BatchFits form (t ∷ ts) l v room =
-    Next form (t .0) (t .1) l v room
+    NextFits form (t .0) (t .1) l v room
     × BatchFits form ts (drop (t .1) l) (drop (t .1) v) (room - linkUsed form (t .0) (t .1))

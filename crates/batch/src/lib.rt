@@ -9,7 +9,7 @@ ghost use Rattle.ground.specs.Outcomes.{Left};
 ghost use Rattle.stored_links.specs.Form.{linkBytes, linkUsed, oldLinks};
 ghost use Rattle.batch.specs.Tables.{leftOverChecks, nextChecks, runOutChecks, tables};
 ghost use Rattle.batch.specs.Batch.{batchAnswer, batchBytes, batchFrom, batchOutcome, numbered};
-ghost use Rattle.batch.specs.Fitting.{BatchFits, Next};
+ghost use Rattle.batch.specs.Fitting.{BatchFits, NextFits};
 ghost use Rattle.batch.specs.declared.Batched.the-variants.{Bytes};
 
 // What the batch answers: the bytes used, or the first refusal with the table's number beside it.
@@ -131,7 +131,7 @@ fn put_next(
     costs: &[u32],
     out: &mut [u8],
 ) -> usize
-    requires { ⌜ Next oldLinks n count (drop rows (now fars)) (drop rows (now costs)) (length (now out)) ⌝ }
+    requires { ⌜ NextFits oldLinks n count (drop rows (now fars)) (drop rows (now costs)) (length (now out)) ⌝ }
     ensures { λ r. ⌜ (r ≡ linkUsed oldLinks n count) × (now (out .exit) ≡ front
         (linkBytes oldLinks n (take count (drop rows (now (fars .entry)))) (take count (drop rows (now (costs .entry))))) (now (out .entry))) ⌝ }
 {

@@ -12,7 +12,7 @@ pub record Valued (L : ℕ) (d : ℕ → ℕ → ℕ) (k add : ℕ) (f : List �
   pub value : (i : ℕ) → i < count → getD best (getD slots i 0) 0 - 2 * L ≡ broughtFast L d k (bit (add + getD f i 0)) - 2 * L
 
 -- both ways, and the value of image k's own link at place r
-pub record Answered (L : ℕ) (d : ℕ → ℕ → ℕ) (k : ℕ) (f : List ℕ) (count r : ℕ) (outs ins best : List ℕ) : Type 0 where
+pub record AllBrought (L : ℕ) (d : ℕ → ℕ → ℕ) (k : ℕ) (f : List ℕ) (count r : ℕ) (outs ins best : List ℕ) : Type 0 where
   pub outside : Valued L d k 0 f count outs best
   pub inside : Valued L d k (2 ^ k) f count ins best
   pub own-place : r < 192

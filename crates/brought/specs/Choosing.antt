@@ -6,7 +6,7 @@ use mathlib.Core.Path.{_≡_}
 use Prim.Native.Nat.{ℕ, _*_, _+_, _-_, _<_, _^_}
 use lib.ListN.{getD, length, set}
 use Rattle.ground.specs.Counts.{one-if}
-use Rattle.brought.specs.Chosen.{Stored, slotOf, storedOf, taken}
+use Rattle.brought.specs.Chosen.{SidesStored, slotOf, storedOf, isStored}
 use Rattle.brought.specs.Near.{goesIn, goesOut}
 
 -- image k outside
@@ -24,8 +24,8 @@ abbrev pub inLive : ℕ → List ℕ → ℕ → Bool
 inLive N f r = goesIn N (getD f r 0)
 
 -- the side s was stored behind the m sides so far, and at place i of the slots is where its value will stand
-pub record Put (L : ℕ) (live : Bool) (s m i : ℕ) (B slots best : List ℕ) (r : ℕ) (B′ slots′ best′ : List ℕ) : Type 0 where
-  pub counted : r ≡ m + one-if (taken live s)
+pub record SidePut (L : ℕ) (live : Bool) (s m i : ℕ) (B slots best : List ℕ) (r : ℕ) (B′ slots′ best′ : List ℕ) : Type 0 where
+  pub counted : r ≡ m + one-if (isStored live s)
   pub side : B′ ≡ set B m s
   pub slot : slots′ ≡ set slots i (slotOf live s m)
   pub value : best′ ≡ set best (64 + m) (4 * L)
@@ -45,11 +45,11 @@ pub record Same (m : ℕ) (B best B′ best′ : List ℕ) : Type 0 where
 pub record Outs (L b N : ℕ) (f : List ℕ) (i m : ℕ) (B outs best : List ℕ) : Type 0 where
   pub room : Room B outs best
   pub counted : m ≡ storedOf (outSide f) (outLive b N f) i
-  pub made : Stored L (outSide f) (outLive b N f) 0 i 0 m B outs best
+  pub made : SidesStored L (outSide f) (outLive b N f) 0 i 0 m B outs best
 
 -- the rows from i on with image k inside, behind the low sides that stood there
 pub record Ins (L k N : ℕ) (f : List ℕ) (i count low m : ℕ) (B₀ best₀ B ins best : List ℕ) : Type 0 where
   pub room : Room B ins best
   pub counted : m + storedOf (inSide k f) (inLive N f) i ≡ low + storedOf (inSide k f) (inLive N f) count
-  pub made : Stored L (inSide k f) (inLive N f) i count low m B ins best
+  pub made : SidesStored L (inSide k f) (inLive N f) i count low m B ins best
   pub same : Same low B₀ best₀ B best

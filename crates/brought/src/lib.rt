@@ -6,9 +6,9 @@ ghost use lib.ListN.{length};
 ghost use Rattle.ground.specs.Counts.{one-if};
 ghost use Rattle.theory.specs.Tables.{limit, cost, CostTable};
 ghost use Rattle.chains.specs.Chains.{pick};
-ghost use Rattle.brought.specs.Answers.{Answered};
-ghost use Rattle.brought.specs.Choosing.{inSide, inLive, Put, Room, Outs, Ins};
-ghost use Rattle.brought.specs.Chosen.{alone, taken, slotOf, storedOf, Rising, Rowed};
+ghost use Rattle.brought.specs.Answers.{AllBrought};
+ghost use Rattle.brought.specs.Choosing.{inSide, inLive, SidePut, Room, Outs, Ins};
+ghost use Rattle.brought.specs.Chosen.{oneImage, isStored, slotOf, storedOf, Rising, Rowed};
 ghost use Rattle.brought.specs.Near.{Closest, NearImages, nearImage, goesOut, goesIn};
 
 // Of b and y the one that is nearer to k, as seen from image 0.
@@ -95,7 +95,7 @@ fn goes_in(near: u64, s: u64) -> bool
 // Whether a side has one image alone.
 fn is_alone(s: u64) -> bool
     requires { ⌜ 0 < s ⌝ }
-    ensures { λ r. ⌜ r ≡ alone s ⌝ }
+    ensures { λ r. ⌜ r ≡ oneImage s ⌝ }
 {
     s & (s - 1) == 0
 }
@@ -103,7 +103,7 @@ fn is_alone(s: u64) -> bool
 // 1 where a side is stored, otherwise 0.
 fn takes(live: bool, s: u64) -> usize
     requires { ⌜ 0 < s ⌝ }
-    ensures { λ r. ⌜ (r ≡ one-if (taken live s)) × (r ≤ 1) ⌝ }
+    ensures { λ r. ⌜ (r ≡ one-if (isStored live s)) × (r ≤ 1) ⌝ }
 {
     if live {
         if is_alone(s) {
@@ -140,7 +140,7 @@ fn store(
     best: &mut [u32],
 ) -> usize
     requires { ⌜ (0 < s) × (m < 128) × (i < 128) × Room (now sides) (now slots) (now best) ⌝ }
-    ensures { λ r. ⌜ Put limit live s m i (now (sides .entry)) (now (slots .entry)) (now (best .entry)) r (now (sides .exit)) (now (slots .exit))
+    ensures { λ r. ⌜ SidePut limit live s m i (now (sides .entry)) (now (slots .entry)) (now (best .entry)) r (now (sides .exit)) (now (slots .exit))
         (now (best .exit)) ⌝ }
 {
     sides[m] = s;
@@ -216,7 +216,7 @@ pub fn brought(
 ) -> usize
     requires { ⌜ CostTable limit n (now t) × (1 ≤ k) × (k < n) × Rowed k (now fars) count × (length (now outs) ≡ 128) × (length (now ins) ≡ 128)
         × (length (now sides) ≡ 128) × (length (now steps) ≡ 384) × (length (now best) ≡ 192) ⌝ }
-    ensures { λ r. ⌜ Answered limit (cost (now (t .entry)) n) k (now (fars .entry)) count r (now (outs .exit)) (now (ins .exit)) (now (best .exit)) ⌝ }
+    ensures { λ r. ⌜ AllBrought limit (cost (now (t .entry)) n) k (now (fars .entry)) count r (now (outs .exit)) (now (ins .exit)) (now (best .exit)) ⌝ }
 {
     let b = closest(t, n, k);
     let near = near_images(t, n, k, b);

@@ -7,7 +7,7 @@ use lib.ListN.{getD, length}
 use Rattle.ground.specs.Bits.{bit}
 
 -- j is the first place from i on whose side contains s, and m, the number of sides, where there is none
-pub record Next (B : List ℕ) (m s i j : ℕ) : Type 0 where
+pub record FirstContaining (B : List ℕ) (m s i j : ℕ) : Type 0 where
   pub from : i ≤ j
   pub few : j ≤ m
   pub none : (l : ℕ) → i ≤ l → l < j → bitAnd s (getD B l 0) ≡ s → ⊥
@@ -21,7 +21,7 @@ pub record Holder (B : List ℕ) (m z i j : ℕ) : Type 0 where
   pub holds : j < m → bit (getD B j 0) z ≡ 1
 
 -- each of the images of m that are not in `rest` has the place j
-pub record Marked (m j rest : ℕ) (links links′ : List ℕ) : Type 0 where
+pub record PlacesMarked (m j rest : ℕ) (links links′ : List ℕ) : Type 0 where
   pub room : length links′ ≡ length links
   pub here : (z : ℕ) → z < 64 → bit m z ≡ 1 → bit rest z ≡ 0 → getD links′ (128 + z) 0 ≡ j
   pub there : (z : ℕ) → z < 64 → bit m z ≡ 0 → getD links′ (128 + z) 0 ≡ getD links (128 + z) 0
@@ -31,12 +31,12 @@ pub record Marked (m j rest : ℕ) (links links′ : List ℕ) : Type 0 where
 -- no other image is in one of them
 pub record Linking (B : List ℕ) (m i seen : ℕ) (links : List ℕ) : Type 0 where
   pub room : length links ≡ 192
-  pub upper : (j : ℕ) → j < i → Next B m (getD B j 0) (j + 1) (getD links j 0)
+  pub upper : (j : ℕ) → j < i → FirstContaining B m (getD B j 0) (j + 1) (getD links j 0)
   pub first : (z : ℕ) → z < 64 → bit seen z ≡ 1 → Holder B m z 0 (getD links (128 + z) 0)
   pub none : (z l : ℕ) → bit seen z ≡ 0 → l < i → bit (getD B l 0) z ≡ 1 → ⊥
 
 -- all did
 pub record Linked (B : List ℕ) (m : ℕ) (links : List ℕ) : Type 0 where
   pub room : length links ≡ 192
-  pub upper : (j : ℕ) → j < m → Next B m (getD B j 0) (j + 1) (getD links j 0)
+  pub upper : (j : ℕ) → j < m → FirstContaining B m (getD B j 0) (j + 1) (getD links j 0)
   pub first : (z j : ℕ) → z < 64 → j < m → bit (getD B j 0) z ≡ 1 → Holder B m z 0 (getD links (128 + z) 0)

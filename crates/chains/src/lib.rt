@@ -10,7 +10,7 @@ ghost use Rattle.ground.specs.Bits.{bit};
 ghost use Rattle.ground.specs.Least.{leastOn};
 ghost use Rattle.theory.specs.Tables.{limit, cost, CostTable};
 ghost use Rattle.chains.specs.Chains.{ahead, gapOn, Chained, Family};
-ghost use Rattle.chains.specs.Links.{Next, Marked, Linking, Linked};
+ghost use Rattle.chains.specs.Links.{FirstContaining, PlacesMarked, Linking, Linked};
 ghost use Rattle.chains.specs.Walks.{Climbed, Up};
 ghost use Rattle.chains.specs.Values.{Least, Brought};
 
@@ -98,7 +98,7 @@ fn contains(s: u64, m: u64) -> bool
 // The first place from `from` on whose side contains s, or the number of sides where there is none.
 fn next(sides: &[u64], count: usize, s: u64, from: usize) -> usize
     requires { ⌜ (count ≤ length (now sides)) × (from ≤ count) ⌝ }
-    ensures { λ r. ⌜ Next (now (sides .entry)) count s from r ⌝ }
+    ensures { λ r. ⌜ FirstContaining (now (sides .entry)) count s from r ⌝ }
 {
     let mut j = from;
     while j < count {
@@ -113,7 +113,7 @@ fn next(sides: &[u64], count: usize, s: u64, from: usize) -> usize
 // Every image of m has its first side at place j.
 fn mark(m: u64, j: usize, links: &mut [u8])
     requires { ⌜ (j < 128) × (length (now links) ≡ 192) ⌝ }
-    ensures { λ _. ⌜ Marked m j 0 (now (links .entry)) (now (links .exit)) ⌝ }
+    ensures { λ _. ⌜ PlacesMarked m j 0 (now (links .entry)) (now (links .exit)) ⌝ }
 {
     let mut rest = m;
     while rest != 0 {

@@ -11,7 +11,7 @@ use Rattle.ground.specs.Laws.InOrder.{decides-last, decides-next, refuse-order}
 use Rattle.ground.specs.Refusals.{refusal}
 use Rattle.ground.specs.Steps.{Step, about, _by_}
 use Rattle.bits.specs.declared.Form.{Form}
-use Rattle.stored_links.specs.InOrder.{table-order, tableSteps}
+use Rattle.stored_links.specs.InOrder.{table-order, storedSteps}
 use Rattle.stored_links.specs.Said.{imagesOf, usedOf}
 use Rattle.choice.specs.Call.{choiceOf, imagesAgree, inclusion, innersOf}
 use Rattle.choice.specs.Inclusion.{includes}
@@ -22,8 +22,8 @@ use Rattle.choice.specs.declared.Chosen.the-variants as answer
 -- the first table's, then the second's, then 15, then 14
 abbrev pub choiceSteps : Form → List ℕ → List ℕ → List Step
 choiceSteps form s t =
-    about 1 (tableSteps form s)
-    ++ (about 2 (tableSteps form t) ++ (15 by imagesAgree (imagesOf form s) (imagesOf form t) ∷ 14 by inclusion (innersOf form s) (innersOf form t) ∷ []))
+    about 1 (storedSteps form s)
+    ++ (about 2 (storedSteps form t) ++ (15 by imagesAgree (imagesOf form s) (imagesOf form t) ∷ 14 by inclusion (innersOf form s) (innersOf form t) ∷ []))
 
 one-of-two : (b : Bool) (i j : ℕ) → (m : ℕ) × (u : ℕ) × (cond b (Table 1 i) (Table 2 j) ≡ Table m u)
 one-of-two true i j = (1, i, refl)

@@ -14,12 +14,12 @@ use Rattle.stored_links.specs.declared.StoredLinks.{StoredLinks}
 use Rattle.bits.specs.declared.Form.{Form}
 
 -- the call answered r and left f: the refusal, or the table that s begins with, whose far sides stand in front
-pub record Read (form : Form) (s : List ℕ) (r : StoredLinks) (f : List ℕ) : Type 0 where
+pub record TableRead (form : Form) (s : List ℕ) (r : StoredLinks) (f : List ℕ) : Type 0 where
   pub answered : r ≡ saidIf (tableChecks form s) form s
   pub stands : tableChecks form s ≡ Passed → take (countOf form s) f ≡ sidesOf form s
 
 -- an accepted table over n images with the given used bytes: the first k places of f hold its far sides
-pub record Listed (form : Form) (s : List ℕ) (n k used : ℕ) (f : List ℕ) : Type 0 where
+pub record SidesListed (form : Form) (s : List ℕ) (n k used : ℕ) (f : List ℕ) : Type 0 where
   pub passed : tableChecks form s ≡ Passed
   pub images : imagesOf form s ≡ n
   pub ended : usedOf form s ≡ used

@@ -9,7 +9,7 @@ ghost use Rattle.ground.specs.Ascending.{Between};
 ghost use Rattle.ground.specs.Refusals.{refusal};
 ghost use Rattle.theory.specs.Comparison.{inners};
 ghost use Rattle.choice.specs.Call.{againstSecond, choiceOf, partOf, taken};
-ghost use Rattle.choice.specs.Read.{Read};
+ghost use Rattle.choice.specs.Read.{TableRead};
 ghost use Rattle.stored_links.specs.Form.{oldLinks};
 
 // What the choice answers: the chosen table's number, 1 or 2, and its count of used bytes, or a refusal with the table's number,
@@ -36,7 +36,7 @@ fn plain(number: u32) -> Refusal
 // than any link table has rows, so refusal 3 is never given.
 fn read(bytes: &[u8], fars: &mut [u64]) -> StoredLinks
     requires { ⌜ length (now fars) ≡ 128 ⌝ }
-    ensures { λ r. ⌜ Read oldLinks (now (bytes .entry)) r (now (fars .exit)) ⌝ }
+    ensures { λ r. ⌜ TableRead oldLinks (now (bytes .entry)) r (now (fars .exit)) ⌝ }
 {
     let mut costs = [0u32; 128];
     stored_links::read_links(bytes, 0, fars, &mut costs)

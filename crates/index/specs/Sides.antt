@@ -20,7 +20,7 @@ pub record Gathered (n : ℕ) (s : ℕ → ℕ) (g c : ℕ) (l : List ℕ) : Typ
   pub least : (cap : ℕ) (f : ℕ → ℕ) → leastAt c l cap f ≡ leastOn n s g cap f
 
 -- both sides of the images below n: own has c of side h, other has all the others
-pub record Split (s : ℕ → ℕ) (h n c : ℕ) (own other : List ℕ) : Type 0 where
+pub record BothSides (s : ℕ → ℕ) (h n c : ℕ) (own other : List ℕ) : Type 0 where
   pub few : c ≤ n
   pub mine : Gathered n s h c own
   pub rest : Gathered n s (1 - h) (n - c) other

@@ -10,7 +10,7 @@ ghost use Rattle.theory.specs.Index.{shifted};
 ghost use Rattle.theory.specs.OneMore.{broughtFast};
 ghost use Rattle.theory.specs.Tables.{limit, cost, CostTable};
 ghost use Rattle.index.specs.Call.{badFarSide, indexCheck, indexAnswer};
-ghost use Rattle.index.specs.Sides.{Images, Split, moreAt, nearAt, choicesAt, sideAt};
+ghost use Rattle.index.specs.Sides.{Images, BothSides, moreAt, nearAt, choicesAt, sideAt};
 
 // The image at place i of a list.
 fn image_at(list: &[u8], i: usize) -> usize
@@ -22,8 +22,8 @@ fn image_at(list: &[u8], i: usize) -> usize
 
 // Image b is put behind the images of either side, and the count of side h goes on where it is there.
 fn turn_sides(s: u64, h: u64, b: usize, count: usize, own: &mut [u8], other: &mut [u8]) -> usize
-    requires { ⌜ (b < 64) × (h < 2) × (64 ≤ length (now own)) × (64 ≤ length (now other)) × Split (bit s) h b count (now own) (now other) ⌝ }
-    ensures { λ r. ⌜ Split (bit s) h (b + 1) r (now (own .exit)) (now (other .exit)) ⌝ }
+    requires { ⌜ (b < 64) × (h < 2) × (64 ≤ length (now own)) × (64 ≤ length (now other)) × BothSides (bit s) h b count (now own) (now other) ⌝ }
+    ensures { λ r. ⌜ BothSides (bit s) h (b + 1) r (now (own .exit)) (now (other .exit)) ⌝ }
 {
     own[count] = ground::byte(b);
     other[b - count] = ground::byte(b);
@@ -36,7 +36,7 @@ fn turn_sides(s: u64, h: u64, b: usize, count: usize, own: &mut [u8], other: &mu
 // The images up to k, side by side: those of side h in `own`, the others in `other`; how many are in `own`.
 fn sides(s: u64, h: u64, k: usize, own: &mut [u8], other: &mut [u8]) -> usize
     requires { ⌜ (k < 64) × (h < 2) × (64 ≤ length (now own)) × (64 ≤ length (now other)) ⌝ }
-    ensures { λ r. ⌜ Split (bit s) h (k + 1) r (now (own .exit)) (now (other .exit)) ⌝ }
+    ensures { λ r. ⌜ BothSides (bit s) h (k + 1) r (now (own .exit)) (now (other .exit)) ⌝ }
 {
     let mut count = 0;
     let mut b = 0;

@@ -33,10 +33,10 @@ body-order form n N s =
     (join-order (fill-order (fillOf form n N s)) (row-order (form .limit) n (farsOf form n N s) (costsOf form n N s)))
 
 -- 9, 1, 10, 9, 11, 12, 13
-abbrev pub tableSteps : Form → List ℕ → List Step
-tableSteps form s = headSteps form s ++ bodySteps form (imagesOf form s) (countOf form s) s
+abbrev pub storedSteps : Form → List ℕ → List Step
+storedSteps form s = headSteps form s ++ bodySteps form (imagesOf form s) (countOf form s) s
 
-pub table-order : (form : Form) (s : List ℕ) → InOrder (tableSteps form s) (tableChecks form s)
+pub table-order : (form : Form) (s : List ℕ) → InOrder (storedSteps form s) (tableChecks form s)
 table-order form s = join-order (head-order form s) (body-order form (imagesOf form s) (countOf form s) s)
 
 -- 9, 1, 10, 3, 9, 11, 12, 13

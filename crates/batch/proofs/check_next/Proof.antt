@@ -3,7 +3,7 @@ use mathlib.Core.Path.{sym, _∙_}
 use native.Mathlib.Omega.{arith}
 use lib.ListN.{take}
 use Rattle.ground.specs.Laws.Refusals.{then-goes, then-stops}
-use Rattle.links.specs.Laws.LinkChecks.{Sized}
+use Rattle.links.specs.Laws.LinkChecks.{LinksSized}
 use Rattle.batch.specs.Laws.Next.{next-sized}
 use borrow.Author.Needs.{needs}
 use Rattle.batch.proofs.check_next.Statement.{statement}
@@ -14,7 +14,7 @@ begun c = c .before .before .before .before .before .before .before .before
 
 -- the sizes passed
 sized : (c : tie.After-enum-told3)
-    → Sized (begun c .args .n) (begun c .args .count) (take (begun c .args .count) (begun c .args .fars .now))
+    → LinksSized (begun c .args .n) (begun c .args .count) (take (begun c .args .count) (begun c .args .fars .now))
     (take (begun c .args .count) (begun c .args .costs .now))
 sized c =
     let a = begun c .args in

@@ -4,7 +4,7 @@ use Prim.Native.Nat.{ℕ, _+_, _-_, _≤_}
 use native.Mathlib.Omega.{arith}
 use lib.ListN.{drop, length, length-drop}
 use Rattle.batch.specs.Batch.{batchFrom}
-use Rattle.batch.specs.Fitting.{Next}
+use Rattle.batch.specs.Fitting.{NextFits}
 use Rattle.batch.specs.Laws.Next.{next-length, next-passed, next-room}
 use Rattle.batch.specs.Laws.Steps.{answer-end, answer-goes, answer-start, answer-stops, answerAt}
 use Rattle.batch.specs.Tables.{tables}
@@ -33,7 +33,7 @@ turn c = c .before .before .before
 
 -- the table passed
 passed : (c : tie.After-enum-told Inv-loop μ-loop)
-    → Next oldLinks (looked c .before .before .number-at .result) (looked c .before .number-at2 .result)
+    → NextFits oldLinks (looked c .before .before .number-at .result) (looked c .before .number-at2 .result)
     (drop (turn (looked c) .before .loop .rows) (begun (turn (looked c)) .args .fars .now))
     (drop (turn (looked c) .before .loop .rows) (begun (turn (looked c)) .args .costs .now))
     (begun (turn (looked c)) .args .room - turn (looked c) .before .loop .used)

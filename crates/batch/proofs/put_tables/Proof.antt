@@ -7,7 +7,7 @@ use Rattle.ground.specs.Buffers.{front}
 use Rattle.ground.specs.Laws.Buffers.{rest-part}
 use Rattle.stored_links.specs.Form.{linkUsed, oldLinks}
 use Rattle.batch.specs.Batch.{batchBytes}
-use Rattle.batch.specs.Fitting.{BatchFits, Next}
+use Rattle.batch.specs.Fitting.{BatchFits, NextFits}
 use Rattle.batch.specs.Laws.Joined.{joined-end, joined-more, joined-start, joinedAt}
 use Rattle.batch.specs.Laws.Next.{next-length}
 use Rattle.batch.specs.Laws.Steps.{fits-start, fits-step}
@@ -39,7 +39,7 @@ count c = c .number-at2 .result
 
 -- the table of this turn, and the tables after it
 next : (c : tie.After-number-at2 Inv-loop μ-loop)
-    → Next oldLinks (images c) (count c) (drop (turn c .before .loop .rows) (begun c .args .fars .now))
+    → NextFits oldLinks (images c) (count c) (drop (turn c .before .loop .rows) (begun c .args .fars .now))
     (drop (turn c .before .loop .rows) (begun c .args .costs .now)) (length (begun c .args .out .now) - turn c .before .loop .used)
     × BatchFits oldLinks (drop (turn c .before .loop .table + 1) (tables (begun c .args .ns .now) (begun c .args .counts .now)))
     (drop (turn c .before .loop .rows + count c) (begun c .args .fars .now)) (drop (turn c .before .loop .rows + count c) (begun c .args .costs .now))

@@ -9,7 +9,7 @@ use Rattle.ground.specs.Buffers.{front}
 use Rattle.ground.specs.Laws.Buffers.{rest-part, rest-put}
 use Rattle.stored_links.specs.Form.{linkBytes, linkUsed}
 use Rattle.batch.specs.Batch.{batchBytes}
-use Rattle.batch.specs.Fitting.{Next}
+use Rattle.batch.specs.Fitting.{NextFits}
 use Rattle.batch.specs.Laws.Next.{length-next}
 use Rattle.batch.specs.Laws.Steps.{bytes-step, tables-end}
 use Rattle.batch.specs.Tables.{tables}
@@ -48,7 +48,7 @@ joined-end form ns counts l v s b used rows i e h p = sym (p ∙ rw (tables-end 
 
 pub joined-more : (form : Form) (ns counts l v : List ℕ) (room used rows i n N : ℕ) → length ns ≡ length counts → i < length ns → getD ns i 0 ≡ n
     → getD counts i 0 ≡ N
-    → Next form n N (drop rows l) (drop rows v) (room - used) → (s b m : List ℕ) (k : ℕ) → used ≤ length b → k ≡ linkUsed form n N
+    → NextFits form n N (drop rows l) (drop rows v) (room - used) → (s b m : List ℕ) (k : ℕ) → used ≤ length b → k ≡ linkUsed form n N
     → m ≡ front (linkBytes form n (take N (drop rows l)) (take N (drop rows v))) (take (length b - used) (drop used b))
     → s ≡ joinedAt form ns counts l v b used rows i
     → s ≡ joinedAt form ns counts l v (take used b ++ (m ++ drop (length b - used) (drop used b))) (used + k) (rows + N) (i + 1)

@@ -11,12 +11,12 @@ use Rattle.ground.specs.Refusals.{refusal, refuseIf, _then_}
 use Rattle.ground.specs.Laws.Refusals.{refuseIf-passed, then-passed}
 use Rattle.ground.specs.declared.Check.the-variants.{Passed}
 use Rattle.links.specs.Checks.{countChecks, lengthChecks, sizeChecks}
-use Rattle.links.specs.Laws.LinkChecks.{Sized, count-passed, passed-sizes}
+use Rattle.links.specs.Laws.LinkChecks.{LinksSized, count-passed, passed-sizes}
 use Rattle.stored_links.specs.Form.{linkBytes, linkUsed}
 use Rattle.stored_links.specs.Laws.Form.{length-links}
 use Rattle.link_writer.specs.Laws.Accepted.{passed-write, write-passed}
 use Rattle.link_writer.specs.Writing.{RoomFor, fitChecks}
-use Rattle.batch.specs.Fitting.{Next}
+use Rattle.batch.specs.Fitting.{NextFits}
 use Rattle.batch.specs.Tables.{leftOverChecks, nextChecks, runOutChecks}
 use Rattle.bits.specs.declared.Form.{Form}
 
@@ -32,14 +32,14 @@ left-over-passed l v e =
     let b = ltb-false 0 (length v) (refuseIf-passed (ltb 0 (length v)) _ (p .1)) in
     (omega (arith, a), omega (arith, b))
 
-pub next-sized : (n N : ℕ) (l v : List ℕ) → countChecks n N ≡ Passed → runOutChecks N l v ≡ Passed → Sized n N (take N l) (take N v)
+pub next-sized : (n N : ℕ) (l v : List ℕ) → countChecks n N ≡ Passed → runOutChecks N l v ≡ Passed → LinksSized n N (take N l) (take N v)
 next-sized n N l v e f =
     let c = count-passed n N e in
     let r = run-out-passed N l v f in
     record { some = c .0; few = c .1; least = c .2; most = c .3; counted = length-take-le N l (r .0); costed = length-take-le N v (r .1) }
 
 module _ (form : Form) (n N : ℕ) (l v : List ℕ) (room : ℕ) where
-  pub next-passed : nextChecks form n N l v room ≡ Passed → Next form n N l v room
+  pub next-passed : nextChecks form n N l v room ≡ Passed → NextFits form n N l v room
   next-passed e =
       let f = fitChecks form n (take N l) (take N v) room in
       let p = then-passed (countChecks n N) (runOutChecks N l v then f) e in
@@ -49,10 +49,10 @@ module _ (form : Form) (n N : ℕ) (l v : List ℕ) (room : ℕ) where
       record { links = r .0; fits = subst (λ (x : ℕ). linkUsed form n x ≤ room) (s .counted) (r .3) }
 
   -- its rows are there
-  pub next-length : Next form n N l v room → (N ≤ length l) × (N ≤ length v)
+  pub next-length : NextFits form n N l v room → (N ≤ length l) × (N ≤ length v)
   next-length t = (omega (arith, t .links .counted, length-take N l), omega (arith, t .links .costed, length-take N v))
 
-  pub passed-next : Next form n N l v room → nextChecks form n N l v room ≡ Passed
+  pub passed-next : NextFits form n N l v room → nextChecks form n N l v room ≡ Passed
   passed-next t =
       let f = fitChecks form n (take N l) (take N v) room in
       let e = passed-write form n N (take N l) (take N v) room (t .links) (subst (λ (x : ℕ). linkUsed form n x ≤ room) (sym (t .links .counted)) (t .fits)) in
@@ -61,15 +61,15 @@ module _ (form : Form) (n N : ℕ) (l v : List ℕ) (room : ℕ) where
       let b = next-length t in
       rw (q .0, le-ltb (length l) N (b .0), le-ltb (length v) N (b .1)) (p .1)
 
-  pub next-count : Next form n N l v room → (3 ≤ n) × (n ≤ 64) × (n ≤ N) × (N ≤ 2 * n - 3)
+  pub next-count : NextFits form n N l v room → (3 ≤ n) × (n ≤ 64) × (n ≤ N) × (N ≤ 2 * n - 3)
   next-count t =
       count-passed n N (then-passed (countChecks n N) (runOutChecks N l v then fitChecks form n (take N l) (take N v) room) (passed-next t) .0)
 
   -- so the raw writer may be called
-  pub next-room : form .head ≤ 7 → form .width ≤ 32 → Next form n N l v room → RoomFor form n N room
+  pub next-room : form .head ≤ 7 → form .width ≤ 32 → NextFits form n N l v room → RoomFor form n N room
   next-room h k t =
       let c = next-count t in
       record { small = record { short = h; narrow = k; some = c .0; few = c .1; rows = omega (arith, c .1, c .3) }; fits = t .fits }
 
-  pub length-next : Next form n N l v room → length (linkBytes form n (take N l) (take N v)) ≡ linkUsed form n N
+  pub length-next : NextFits form n N l v room → length (linkBytes form n (take N l) (take N v)) ≡ linkUsed form n N
   length-next t = length-links form n (take N l) (take N v) ∙ ap (λ (x : ℕ). linkUsed form n x) (t .links .counted)

@@ -12,7 +12,7 @@ use Rattle.ground.specs.declared.Refusal.{Refusal}
 use Rattle.ground.specs.Laws.Refusals.{if-goes, if-stops}
 use Rattle.stored_links.specs.Form.{linkBytes, linkUsed}
 use Rattle.batch.specs.Batch.{batchBytes, batchFrom, numbered}
-use Rattle.batch.specs.Fitting.{BatchFits, Next}
+use Rattle.batch.specs.Fitting.{BatchFits, NextFits}
 use Rattle.batch.specs.Tables.{Table, leftOverChecks, nextChecks, tables}
 use Rattle.batch.specs.declared.Batched.{Batched}
 use Rattle.batch.specs.declared.Batched.the-variants.{Bytes}
@@ -91,7 +91,7 @@ module _ (form : Form) (ns counts l v : List ℕ) (room used rows i n N : ℕ) (
       answer-step ∙ sym (if-goes (batched.Refused (i + 1)) {w = b} (nextChecks form n N (drop rows l) (drop rows v) (room - used)) b p q refl)
 
   pub fits-step : BatchFits form (drop i (tables ns counts)) (drop rows l) (drop rows v) (room - used)
-      → Next form n N (drop rows l) (drop rows v) (room - used)
+      → NextFits form n N (drop rows l) (drop rows v) (room - used)
       × BatchFits form (drop (i + 1) (tables ns counts)) (drop (rows + N) l) (drop (rows + N) v) (room - (used + linkUsed form n N))
   unfolding BatchFits
   fits-step f =

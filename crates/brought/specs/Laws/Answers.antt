@@ -23,9 +23,9 @@ use Rattle.theory.specs.Tables.{WellFormed}
 use Rattle.chains.specs.Chains.{Family}
 use Rattle.chains.specs.Values.{Brought, Least}
 use Rattle.chains.specs.Laws.Lowest.{drop-lowest, lowest-below, lowest-one}
-use Rattle.brought.specs.Answers.{Answered}
+use Rattle.brought.specs.Answers.{AllBrought}
 use Rattle.brought.specs.Choosing.{Ins, Outs, Same, inLive, inSide, outLive, outSide}
-use Rattle.brought.specs.Chosen.{Rowed, Slot, Stored, alone, by-image, nowhere, stored, storedOf}
+use Rattle.brought.specs.Chosen.{Rowed, Slot, SidesStored, oneImage, by-image, nowhere, stored, storedOf}
 use Rattle.brought.specs.Near.{Closest, NearImages}
 use Rattle.brought.specs.Laws.Dead.{b-below, in-dead, near-b, out-dead}
 use Rattle.brought.specs.Laws.BothWays.{both-fit}
@@ -35,7 +35,7 @@ use Rattle.brought.specs.Laws.Stores.{stored-same}
 use Rattle.brought.specs.Laws.Turned.{fast-rest, rest-lt, rest-some}
 
 -- one image alone
-alone-is : (S : ℕ) → 0 < S → S < 2 ^ 64 → alone S ≡ true → S ≡ 2 ^ trailingZeros 64 S
+alone-is : (S : ℕ) → 0 < S → S < 2 ^ 64 → oneImage S ≡ true → S ≡ 2 ^ trailingZeros 64 S
 alone-is S p f e =
     bit-ext 64 S (2 ^ trailingZeros 64 S) f (pow-lt (lowest-one 64 S p f .0)) (λ i h. go i (drop-lowest 64 S i p f))
   where
@@ -90,10 +90,10 @@ module _ (L : ℕ) (d : ℕ → ℕ → ℕ) (k : ℕ) (w : WellFormed L d (suc 
           values = λ j h. last-same .values j (omega (arith, i .made .order)) ∙ i .same .values j h;
         }
 
-        out-made : Stored L (outSide f) (outLive b N f) 0 count 0 low B′ outs best′
+        out-made : SidesStored L (outSide f) (outLive b N f) 0 count 0 low B′ outs best′
         out-made = stored-same front-same (o .made)
 
-        in-made : Stored L (inSide k f) (inLive N f) 0 count low m B′ ins best′
+        in-made : SidesStored L (inSide k f) (inLive N f) 0 count low m B′ ins best′
         in-made = stored-same last-same (i .made)
 
         whole : getD B′ m 0 ≡ 2 ^ k - 1
@@ -120,7 +120,7 @@ module _ (L : ℕ) (d : ℕ → ℕ → ℕ) (k : ℕ) (w : WellFormed L d (suc 
             last-value =
                 ap (λ l. getD l (64 + m) 0) ev ∙ getD-set-same (set best 63 0) (64 + m) (4 * L) 0 (simp length-set (omega (arith, i .room .values, chosen-few)))
 
-        pub answered : (last : List ℕ) → Brought L d k B′ (m + 1) last → Answered L d k f count (64 + m) outs ins last
+        pub answered : (last : List ℕ) → Brought L d k B′ (m + 1) last → AllBrought L d k f count (64 + m) outs ins last
         answered last v = record {
           outside = record { place = λ j h. out j h .0; value = λ j h. out j h .1 };
           inside = record { place = λ j h. inn j h .0; value = λ j h. inn j h .1 };

@@ -15,7 +15,7 @@ use Rattle.ground.specs.Bits.{bit}
 use Rattle.ground.specs.Counts.{one-if}
 use Rattle.ground.specs.Laws.Bits.{bit-and}
 use Rattle.ground.specs.Laws.Tests.{or-cases}
-use Rattle.brought.specs.Chosen.{Rising, storedOf, taken}
+use Rattle.brought.specs.Chosen.{Rising, storedOf, isStored}
 use Rattle.brought.specs.Choosing.{inLive, inSide, outLive, outSide}
 use Rattle.brought.specs.Near.{goesIn, goesOut}
 use Rattle.brought.specs.Laws.Choosing.{of-none, one-most}
@@ -33,9 +33,9 @@ both-ways b N S n o i = go (or-cases (eqb (bit S b) 0) (eqb (bitAnd S N) S) o)
 
 module _ (k b N : ℕ) (f : List ℕ) (n : bit N b ≡ 1) where
   -- one side of a row that is not the near images
-  one : (i : ℕ) → (getD f i 0 ≡ N → ⊥) → one-if (taken (outLive b N f i) (outSide f i)) + one-if (taken (inLive N f i) (inSide k f i)) ≤ 1
+  one : (i : ℕ) → (getD f i 0 ≡ N → ⊥) → one-if (isStored (outLive b N f i) (outSide f i)) + one-if (isStored (inLive N f i) (inSide k f i)) ≤ 1
   one i o =
-      go (one-if (taken (outLive b N f i) (outSide f i))) (one-if (taken (inLive N f i) (inSide k f i))) (took (outLive b N f i) (outSide f i))
+      go (one-if (isStored (outLive b N f i) (outSide f i))) (one-if (isStored (inLive N f i) (inSide k f i))) (took (outLive b N f i) (outSide f i))
       (took (inLive N f i) (inSide k f i))
     where
       go : (x y : ℕ) → Took x (outLive b N f i) (outSide f i) → Took y (inLive N f i) (inSide k f i) → x + y ≤ 1

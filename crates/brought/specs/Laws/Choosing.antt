@@ -7,8 +7,8 @@ use native.Mathlib.Numerals.{add-one}
 use native.Mathlib.Omega.{arith}
 use lib.ListN.{getD}
 use Rattle.ground.specs.Counts.{one-if}
-use Rattle.brought.specs.Chosen.{Rising, Rowed, Stored, storedOf, taken}
-use Rattle.brought.specs.Choosing.{Ins, Outs, Put, Room, Same, inLive, inSide, outLive, outSide}
+use Rattle.brought.specs.Chosen.{Rising, Rowed, SidesStored, storedOf, isStored}
+use Rattle.brought.specs.Choosing.{Ins, Outs, SidePut, Room, Same, inLive, inSide, outLive, outSide}
 use Rattle.brought.specs.Laws.Stores.{Took, left, put, put-room, put-same, stored-more, took}
 use Rattle.brought.specs.Laws.Turned.{rest-some}
 
@@ -17,12 +17,12 @@ module _ (a : ℕ → ℕ) (live : ℕ → Bool) where
   unfolding storedOf
   of-none = refl
 
-  of-more : (n : ℕ) → storedOf a live (n + 1) ≡ storedOf a live n + one-if (taken (live n) (a n))
+  of-more : (n : ℕ) → storedOf a live (n + 1) ≡ storedOf a live n + one-if (isStored (live n) (a n))
   unfolding storedOf
   of-more n = rw add-one
 
-  pub one-most : (n : ℕ) → one-if (taken (live n) (a n)) ≤ 1
-  one-most n = go (one-if (taken (live n) (a n))) (took (live n) (a n))
+  pub one-most : (n : ℕ) → one-if (isStored (live n) (a n)) ≤ 1
+  one-most n = go (one-if (isStored (live n) (a n))) (took (live n) (a n))
     where
       go : (x : ℕ) → Took x (live n) (a n) → x ≤ 1
       go x (put e l w) = omega arith
@@ -35,7 +35,7 @@ module _ (a : ℕ → ℕ) (live : ℕ → Bool) where
   of-most (suc n) = omega (arith, of-most n, one-most n)
 
 -- no row has gone by
-stored-none : (L : ℕ) (a : ℕ → ℕ) (live : ℕ → Bool) (p low : ℕ) (B slots best : List ℕ) → Stored L a live p p low low B slots best
+stored-none : (L : ℕ) (a : ℕ → ℕ) (live : ℕ → Bool) (p low : ℕ) (B slots best : List ℕ) → SidesStored L a live p p low low B slots best
 stored-none L a live p low B slots best = record {
   order = omega arith;
   from = λ j g h. absurd (omega arith);
@@ -61,7 +61,7 @@ module _ (L b N : ℕ) (f : List ℕ) where
     pub outs-few : m < 128
     outs-few = omega (arith, o .counted, of-most (outSide f) (outLive b N f) i, c .few)
 
-    pub outs-more : {r : ℕ} {B′ outs′ best′ : List ℕ} → Put L (outLive b N f i) (getD f i 0) m i B outs best r B′ outs′ best′
+    pub outs-more : {r : ℕ} {B′ outs′ best′ : List ℕ} → SidePut L (outLive b N f i) (getD f i 0) m i B outs best r B′ outs′ best′
         → Outs L b N f (i + 1) r B′ outs′ best′
     outs-more {r} {B′} {outs′} {best′} u = record {
       room = put-room L (outLive b N f i) (getD f i 0) m i B outs best r B′ outs′ best′ (o .room) outs-few few u;
@@ -89,11 +89,11 @@ module _ (L k N : ℕ) (f : List ℕ) (count low : ℕ) (B₀ best₀ : List ℕ
     pub ins-some : 0 < inSide k f i
     ins-some = rest-some k (getD f i 0) (c .far i h) g
 
-    pub ins-more : {r s : ℕ} {live : Bool} {B′ ins′ best′ : List ℕ} → s ≡ inSide k f i → live ≡ inLive N f i → Put L live s m i B ins best r B′ ins′ best′
+    pub ins-more : {r s : ℕ} {live : Bool} {B′ ins′ best′ : List ℕ} → s ≡ inSide k f i → live ≡ inLive N f i → SidePut L live s m i B ins best r B′ ins′ best′
         → Ins L k N f i count low r B₀ best₀ B′ ins′ best′
     ins-more {r} {s} {live} {B′} {ins′} {best′} es el u = record {
       room = put-room L live s m i B ins best r B′ ins′ best′ (o .room) ins-few few u;
-      counted = omega (arith, u .counted ∙ ap₂ (λ l x. m + one-if (taken l x)) el es, o .counted, of-more (inSide k f) (inLive N f) i);
+      counted = omega (arith, u .counted ∙ ap₂ (λ l x. m + one-if (isStored l x)) el es, o .counted, of-more (inSide k f) (inLive N f) i);
       made = stored-more L live s m i B ins best r B′ ins′ best′ (o .room) ins-few few u (inSide k f) (inLive N f) (i + 1) count i count low (sym es) (sym el)
           (omega arith) (omega arith) (omega arith, h) (λ j x y e. (omega arith, y)) (λ j x y. (rw es (less j x y), λ e. omega arith)) (o .made);
       same = record {

@@ -18,7 +18,7 @@ use Rattle.theory.specs.FarSides.{Nested, Within}
 use Rattle.theory.specs.Laws.Nested.{bit-holds, holds-false, holds-true}
 use Rattle.chains.specs.Chains.{Family}
 use Rattle.brought.specs.Choosing.{inLive, inSide, outLive, outSide}
-use Rattle.brought.specs.Chosen.{Rowed, Stored}
+use Rattle.brought.specs.Chosen.{Rowed, SidesStored}
 use Rattle.brought.specs.Near.{goesIn, goesOut}
 use Rattle.brought.specs.Laws.Turned.{bit-rest, rest-lt}
 use Rattle.chains.specs.Laws.Lowest.{one-below}
@@ -56,7 +56,7 @@ rows-apart k b N S R f g n (inr (inl w)) o i z s r y t = absurd (go (or-cases (e
 rows-apart k b N S R f g n (inr (inr w)) o i z s r y t = holds-false R y (w y (one-below S k y f t) (bit-holds S y t))
 
 module _ (L k b N : ℕ) (f : List ℕ) (count low m : ℕ) (B outs ins best : List ℕ) (r : Rowed k f count) (n : 0 < count → bit N b ≡ 1)
-    (l : Stored L (outSide f) (outLive b N f) 0 count 0 low B outs best) (h : Stored L (inSide k f) (inLive N f) 0 count low m B ins best)
+    (l : SidesStored L (outSide f) (outLive b N f) 0 count 0 low B outs best) (h : SidesStored L (inSide k f) (inLive N f) 0 count low m B ins best)
     (whole : getD B m 0 ≡ 2 ^ k - 1) where
   -- the side at place j: a row, what a row does not hold, or the whole
   data Kind (j : ℕ) : Type 0 where

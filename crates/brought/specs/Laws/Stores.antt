@@ -11,18 +11,18 @@ use borrow.Author.Tests.{eqb-false, eqb-true, not-true}
 use borrow.Table.Steps.{cases}
 use Rattle.ground.specs.Counts.{one-if}
 use Rattle.ground.specs.Laws.Tests.{and-l, and-r}
-use Rattle.brought.specs.Chosen.{Slot, Stored, alone, by-image, nowhere, slotOf, stored, taken}
-use Rattle.brought.specs.Choosing.{Put, Room, Same}
+use Rattle.brought.specs.Chosen.{Slot, SidesStored, oneImage, by-image, nowhere, slotOf, stored, isStored}
+use Rattle.brought.specs.Choosing.{SidePut, Room, Same}
 
 -- a side was stored for good, since it may stay and is no image alone; or it was not
 pub data Took (x : ℕ) (live : Bool) (S : ℕ) : Type 0 where
-  put : x ≡ 1 → live ≡ true → alone S ≡ false → Took x live S
+  put : x ≡ 1 → live ≡ true → oneImage S ≡ false → Took x live S
   left : x ≡ 0 → Took x live S
 
-pub took : (live : Bool) (S : ℕ) → Took (one-if (taken live S)) live S
+pub took : (live : Bool) (S : ℕ) → Took (one-if (isStored live S)) live S
 took live S =
-    cases (taken live S)
-    (λ t. put (rw t) (and-l live (not (alone S)) t) (not-true (alone S) (and-r live (not (alone S)) t)))
+    cases (isStored live S)
+    (λ t. put (rw t) (and-l live (not (oneImage S)) t) (not-true (oneImage S) (and-r live (not (oneImage S)) t)))
     (λ t. left (rw t))
 
 -- more sides, of which the first m are the same
@@ -32,7 +32,7 @@ slot-kept h s (stored j e l t) = stored j e (omega arith) (s j l ∙ t)
 slot-kept h s (nowhere e t) = nowhere e t
 
 pub stored-same : {L : ℕ} {a : ℕ → ℕ} {live : ℕ → Bool} {p q low m : ℕ} {B slots best B′ best′ : List ℕ} → Same m B best B′ best′
-    → Stored L a live p q low m B slots best → Stored L a live p q low m B′ slots best′
+    → SidesStored L a live p q low m B slots best → SidesStored L a live p q low m B′ slots best′
 stored-same s t = record {
   order = t .order;
   from = λ j g h. let r = t .from j g h in (r .0, r .1, r .2, s .sides j h ∙ r .3, r .4);
@@ -42,7 +42,7 @@ stored-same s t = record {
 }
 
 module _ (L : ℕ) (live : Bool) (s m i : ℕ) (B slots best : List ℕ) (r : ℕ) (B′ slots′ best′ : List ℕ) (room : Room B slots best) (g : m < 128)
-    (h : i < 128) (u : Put L live s m i B slots best r B′ slots′ best′) where
+    (h : i < 128) (u : SidePut L live s m i B slots best r B′ slots′ best′) where
   pub put-room : Room B′ slots′ best′
   put-room = record {
     sides = rw (u .side) (simp length-set (room .sides));
@@ -70,14 +70,14 @@ module _ (L : ℕ) (live : Bool) (s m i : ℕ) (B slots best : List ℕ) (r : �
   slot-other j o = ap (λ n. getD n j 0) (u .slot) ∙ getD-set-other slots i j (slotOf live s m) 0 o
 
   pub put-more : m ≤ r
-  put-more = go (one-if (taken live s)) (took live s) (u .counted)
+  put-more = go (one-if (isStored live s)) (took live s) (u .counted)
     where
       go : (x : ℕ) → Took x live s → r ≡ m + x → m ≤ r
       go x t e = omega arith
 
   slot-new : Slot r B′ live s (slotOf live s m)
   slot-new =
-      cases (alone s)
+      cases (oneImage s)
       (λ e. by-image (rw e) e)
       (λ e. cases live
       (λ l. let q : r ≡ m + 1 = u .counted ∙ rw (l, e) in stored m (rw (e, l)) (omega arith) side-here)
@@ -86,7 +86,7 @@ module _ (L : ℕ) (live : Bool) (s m i : ℕ) (B slots best : List ℕ) (r : �
   -- row i joins the rows from p to q, above all of them
   module _ (a : ℕ → ℕ) (lives : ℕ → Bool) (p q p′ q′ low : ℕ) (ea : a i ≡ s) (el : lives i ≡ live) (first : p′ ≤ p) (last : q ≤ q′) (here : (p′ ≤ i) × (i < q′))
       (only : (j : ℕ) → p′ ≤ j → j < q′ → (j ≡ i → ⊥) → (p ≤ j) × (j < q)) (above : (j : ℕ) → p ≤ j → j < q → (a j < s) × (j ≡ i → ⊥))
-      (t : Stored L a lives p q low m B slots best) where
+      (t : SidesStored L a lives p q low m B slots best) where
     slots-more : (j : ℕ) → p′ ≤ j → j < q′ → Slot r B′ (lives j) (a j) (getD slots′ j 0)
     slots-more j x y =
         cases (eqb j i)
@@ -96,10 +96,10 @@ module _ (L : ℕ) (live : Bool) (s m i : ℕ) (B slots best : List ℕ) (r : �
     from-old : (j : ℕ) → low ≤ j → j < m → (r : ℕ) × (p′ ≤ r) × (r < q′) × (getD B′ j 0 ≡ a r) × (lives r ≡ true)
     from-old j x y = let f = t .from j x y in (f .0, omega (arith, f .1), omega (arith, f .2), put-same .sides j y ∙ f .3, f .4)
 
-    pub stored-more : Stored L a lives p′ q′ low r B′ slots′ best′
-    stored-more = go (one-if (taken live s)) (took live s) (u .counted)
+    pub stored-more : SidesStored L a lives p′ q′ low r B′ slots′ best′
+    stored-more = go (one-if (isStored live s)) (took live s) (u .counted)
       where
-        go : (x : ℕ) → Took x live s → r ≡ m + x → Stored L a lives p′ q′ low r B′ slots′ best′
+        go : (x : ℕ) → Took x live s → r ≡ m + x → SidesStored L a lives p′ q′ low r B′ slots′ best′
         go x (left e) c =
             let o : r ≡ m = omega arith in
             record {

@@ -4,7 +4,7 @@ use Prim.Native.Nat.{_-_, _<_, _^_, _≤_, ℕ}
 use native.Mathlib.Omega.{arith}
 use Rattle.ground.specs.Bits.{bit}
 use Rattle.ground.specs.Laws.Bits.{bit-and}
-use Rattle.chains.specs.Links.{Marked}
+use Rattle.chains.specs.Links.{PlacesMarked}
 use Rattle.chains.specs.Laws.Lowest.{lowest-one, without-fits, without-less}
 use Rattle.chains.specs.Laws.Uppers.{marked-more, marked-none}
 use borrow.Author.Needs.{needs}
@@ -12,7 +12,7 @@ use Rattle.chains.proofs.mark.Statement.{statement}
 use Rattle.chains.proofs.mark.Tie as tie
 
 abbrev Inv-loop : tie.InvT-loop
-Inv-loop m j links₀ rest₀ links rest = (rest < 2 ^ 64) × ((z : ℕ) → bit rest z ≤ bit m z) × Marked m j rest links₀ links
+Inv-loop m j links₀ rest₀ links rest = (rest < 2 ^ 64) × ((z : ℕ) → bit rest z ≤ bit m z) × PlacesMarked m j rest links₀ links
 
 abbrev μ-loop : tie.MeasureT-loop
 μ-loop m j links₀ rest₀ links rest = rest

@@ -16,7 +16,7 @@ use Rattle.ground.specs.Laws.Bits.{bit-and, bit-full, bit-lt, bit-none, bit-or}
 use Rattle.theory.specs.Laws.Contained.{within-and}
 use Rattle.theory.specs.Laws.Nested.{bit-holds, holds-true}
 use Rattle.chains.specs.Chains.{Chained, Family}
-use Rattle.chains.specs.Links.{Holder, Linked, Linking, Marked, Next}
+use Rattle.chains.specs.Links.{Holder, Linked, Linking, PlacesMarked, FirstContaining}
 use Rattle.chains.specs.Laws.Lowest.{drop-lowest, lowest-one}
 use Rattle.chains.specs.Laws.Parts.{bit-minus, bits-le}
 
@@ -60,12 +60,12 @@ passed-more B s i j n o l a b e =
 
 -- ## The loop over the images of a number
 
-pub marked-none : (m j : ℕ) (links : List ℕ) → Marked m j m links links
+pub marked-none : (m j : ℕ) (links : List ℕ) → PlacesMarked m j m links links
 marked-none m j links = record { room = refl; here = λ z h a b. absurd (omega arith); there = λ z h a. refl; front = λ i h. refl }
 
 pub marked-more : (m j rest : ℕ) (links links′ : List ℕ) → 0 < rest → rest < 2 ^ 64 → ((z : ℕ) → bit rest z ≤ bit m z) → length links ≡ 192
     → {r x : ℕ} → r ≡ trailingZeros 64 rest → x ≡ bitAnd rest (rest - 1)
-    → Marked m j rest links links′ → Marked m j x links (set links′ (128 + r) j)
+    → PlacesMarked m j rest links links′ → PlacesMarked m j x links (set links′ (128 + r) j)
 marked-more m j rest links links′ some fits within room {r} {x} er ex n = rw (er, ex) (record {
   room = simp length-set (n .room);
   here = λ z h a b. go z h a b (drop-lowest 64 rest z some fits);
@@ -101,7 +101,7 @@ module _ (B : List ℕ) (m i seen : ℕ) (links : List ℕ) (h : i < m) (few : m
   pub both-less : seen ≤ bitOr seen (getD B i 0)
   both-less = bits-le 64 seen (bitOr seen (getD B i 0)) fits (λ j. omega (arith, both-bit j))
 
-  pub linking-more : (v : ℕ) (links′ : List ℕ) → Next B m (getD B i 0) (i + 1) v → Marked (bitOr seen (getD B i 0) - seen) i 0 (set links i v) links′
+  pub linking-more : (v : ℕ) (links′ : List ℕ) → FirstContaining B m (getD B i 0) (i + 1) v → PlacesMarked (bitOr seen (getD B i 0) - seen) i 0 (set links i v) links′
       → Linking B m (i + 1) (bitOr seen (getD B i 0)) links′
   linking-more v links′ n t = record {
     room = t .room ∙ simp length-set (u .room);

@@ -11,7 +11,7 @@ use Rattle.theory.specs.Comparison.{inners}
 use Rattle.stored_links.specs.Said.{imagesOf}
 use Rattle.choice.specs.Call.{sidesOf, taken}
 use Rattle.choice.specs.Laws.Chain.{images-differ, images-same}
-use Rattle.choice.specs.Read.{Listed}
+use Rattle.choice.specs.Read.{SidesListed}
 use Rattle.choice.specs.Laws.Read.{read-listed, read-refused}
 use Rattle.choice.specs.declared.Chosen.the-variants as answer
 use Rattle.choice.proofs.against_second.Statement.{statement}
@@ -35,7 +35,7 @@ enum-known-m c = search needs
 
 -- the far sides of the second table, where it was accepted
 listed : (c : tie.After-m)
-    → Listed oldLinks (begun c .args .second .now) (c .m .given .0 .0) (c .m .given .0 .1 .0) (c .m .given .0 .1 .1 .0)
+    → SidesListed oldLinks (begun c .args .second .now) (c .m .given .0 .0) (c .m .given .0 .1 .0) (c .m .given .0 .1 .1 .0)
     (c .before .before .before .read .last .1 .0)
 listed c = read-listed oldLinks (begun c .args .second .now) (c .before .before .before .read .ensures) (c .m .given .1)
 

@@ -6,7 +6,7 @@ use native.Mathlib.Omega.{arith}
 use lib.Seq.{length-take-le}
 use borrow.Author.Needs.{needs}
 use Rattle.choice.specs.Call.{againstSecond, sidesOf}
-use Rattle.choice.specs.Read.{Listed}
+use Rattle.choice.specs.Read.{SidesListed}
 use Rattle.choice.specs.Laws.Read.{read-listed, read-refused}
 use Rattle.ground.specs.Laws.Refusals.{if-goes, if-stops}
 use Rattle.choice.specs.declared.Chosen.the-variants as answer
@@ -31,7 +31,7 @@ enum-known-n c = search needs
 
 -- the far sides of the first table, where it was accepted
 listed : (c : tie.After-n)
-    → Listed oldLinks (begun c .args .first .now) (c .n .given .0 .0) (c .n .given .0 .1 .0) (c .n .given .0 .1 .1 .0)
+    → SidesListed oldLinks (begun c .args .first .now) (c .n .given .0 .0) (c .n .given .0 .1 .0) (c .n .given .0 .1 .1 .0)
     (c .before .before .before .read .last .1 .0)
 listed c = read-listed oldLinks (begun c .args .first .now) (c .before .before .before .read .ensures) (c .n .given .1)
 

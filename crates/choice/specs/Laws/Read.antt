@@ -23,7 +23,7 @@ use Rattle.stored_links.specs.Said.{costAt, costsOf, countOf, farAt, farsOf, im
 use Rattle.stored_links.specs.declared.StoredLinks.{StoredLinks}
 use Rattle.stored_links.specs.declared.StoredLinks.the-variants.{Table}
 use Rattle.stored_links.specs.declared.StoredLinks.the-variants as stored
-use Rattle.choice.specs.Read.{Listed, Read}
+use Rattle.choice.specs.Read.{SidesListed, TableRead}
 use Rattle.bits.specs.declared.Form.{Form}
 use Rattle.stored_links.specs.Stored.{Stored}
 
@@ -32,7 +32,7 @@ module _ (form : Form) (s : List ℕ) where
   at-front : tableAtChecks form s 0 ≡ tableChecks form s
   at-front = rw (le-ltb (length s) 0 (omega arith))
 
-  pub read-is : {r : StoredLinks} (f v f′ v′ : List ℕ) → length f ≡ 128 → length v ≡ 128 → LeftRows (readOutcome form s 0 f v) r f′ v′ → Read form s r f′
+  pub read-is : {r : StoredLinks} (f v f′ v′ : List ℕ) → length f ≡ 128 → length v ≡ 128 → LeftRows (readOutcome form s 0 f v) r f′ v′ → TableRead form s r f′
   read-is {r} f v f′ v′ a b o =
       let e : readOutcome form s 0 f v ≡ rowsIf (tableChecks form s) form s f v =
       read-enough form s 0 f v (omega arith) (omega arith) ∙ ap (λ (c : Check). rowsIf c form s f v) at-front in
@@ -44,7 +44,7 @@ module _ (form : Form) (s : List ℕ) where
 
   -- ## What the caller learns
 
-  pub read-refused : {r : StoredLinks} {f : List ℕ} {q : Refusal} → Read form s r f → r ≡ stored.Refused q → tableChecks form s ≡ Refused q
+  pub read-refused : {r : StoredLinks} {f : List ℕ} {q : Refusal} → TableRead form s r f → r ≡ stored.Refused q → tableChecks form s ≡ Refused q
   read-refused {q = q} p e = table-refused (tableChecks form s) (imagesOf form s) (countOf form s) (usedOf form s) q (sym (p .answered) ∙ e)
 
   -- what passes is a stored link table
@@ -59,7 +59,7 @@ module _ (form : Form) (s : List ℕ) where
       let q = length-listed (farAt form n s) N ∙ sym (length-listed (costAt form n s) N) in
       rw (rowsOf-fars (farsOf form n N s) (costsOf form n N s) q) at (table-stored e .rows .ascending)
 
-  pub read-listed : {r : StoredLinks} {f : List ℕ} {n k used : ℕ} → Read form s r f → r ≡ Table n k used → Listed form s n k used f
+  pub read-listed : {r : StoredLinks} {f : List ℕ} {n k used : ℕ} → TableRead form s r f → r ≡ Table n k used → SidesListed form s n k used f
   read-listed {f = f} {n = n} {k = k} {used = used} p e =
       let q = table-passed (tableChecks form s) (imagesOf form s) (countOf form s) (usedOf form s) n k used (sym (p .answered) ∙ e) in
       let t = table-stored (q .0) in

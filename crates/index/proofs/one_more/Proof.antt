@@ -6,7 +6,7 @@ use Rattle.ground.specs.Bits.{bit}
 use Rattle.ground.specs.Laws.Bits.{bit-lt}
 use Rattle.theory.specs.OneMore.{broughtFast}
 use Rattle.theory.specs.Tables.{cost, limit}
-use Rattle.index.specs.Sides.{Split}
+use Rattle.index.specs.Sides.{BothSides}
 use Rattle.index.specs.Laws.Sides.{images-wider, more-at}
 use borrow.Author.Needs.{needs}
 use Rattle.index.proofs.one_more.Statement.{statement}
@@ -14,7 +14,7 @@ use Rattle.index.proofs.one_more.Tie as tie
 
 -- the two lists are the two sides of the division
 split : (c : tie.After-sides)
-    → let a = c .before .before .before .before .before .args in Split (bit (a .s)) (bit (a .s) (a .k)) (a .k + 1) (c .sides .result)
+    → let a = c .before .before .before .before .before .args in BothSides (bit (a .s)) (bit (a .s) (a .k)) (a .k + 1) (c .sides .result)
     (c .sides .last .1 .1 .1 .0) (c .sides .last .1 .1 .1 .1 .0)
 split c = rw (c .before .before .before .side .ensures) at (c .sides .ensures)
 

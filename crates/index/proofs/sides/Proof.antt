@@ -4,7 +4,7 @@ use lib.ListN.{length}
 use mathlib.Core.Path.{_≡_}
 use native.Mathlib.Omega.{arith}
 use Rattle.ground.specs.Bits.{bit}
-use Rattle.index.specs.Sides.{Split}
+use Rattle.index.specs.Sides.{BothSides}
 use Rattle.index.specs.Laws.Sides.{split-none}
 use borrow.Author.Needs.{needs}
 use Rattle.index.proofs.sides.Statement.{statement}
@@ -12,7 +12,7 @@ use Rattle.index.proofs.sides.Tie as tie
 
 abbrev Inv-loop : tie.InvT-loop
 Inv-loop s h k own₀ other₀ count₀ b₀ own other count b =
-    (b ≤ suc k) × (length own ≡ length own₀) × (length other ≡ length other₀) × Split (bit s) h b count own other
+    (b ≤ suc k) × (length own ≡ length own₀) × (length other ≡ length other₀) × BothSides (bit s) h b count own other
 
 abbrev μ-loop : tie.MeasureT-loop
 μ-loop s h k own₀ other₀ count₀ b₀ own other count b = suc k - b

@@ -13,7 +13,7 @@ use borrow.Table.Steps.{cases}
 use Rattle.ground.specs.Least.{leastOn}
 use Rattle.ground.specs.Laws.Least.{leastOn-same}
 use Rattle.theory.specs.OneMore.{broughtFast, broughtNear, broughtSide}
-use Rattle.index.specs.Sides.{Gathered, Images, Split, leastAt, moreAt}
+use Rattle.index.specs.Sides.{Gathered, Images, BothSides, leastAt, moreAt}
 
 -- ## One image more
 
@@ -52,12 +52,12 @@ gathered-none : (s : ℕ → ℕ) (g : ℕ) (l : List ℕ) → Gathered 0 s g 0 
 unfolding leastOn
 gathered-none s g l = record { images = record { room = omega arith; below = λ i h. absurd (omega arith) }; least = λ cap f. refl }
 
-pub split-none : (s : ℕ → ℕ) (h : ℕ) (own other : List ℕ) → Split s h 0 0 own other
+pub split-none : (s : ℕ → ℕ) (h : ℕ) (own other : List ℕ) → BothSides s h 0 0 own other
 split-none s h own other = record { few = omega arith; mine = gathered-none s h own; rest = gathered-none s (1 - h) other }
 
 -- image n goes to its own side, stored behind the images of either
-module _ (s : ℕ → ℕ) (h n c : ℕ) (own other : List ℕ) (two : h < 2) (x : c < length own) (y : n - c < length other) (p : Split s h n c own other) where
-  pub split-mine : s n ≡ h → Split s h (n + 1) (c + 1) (set own c n) (set other (n - c) n)
+module _ (s : ℕ → ℕ) (h n c : ℕ) (own other : List ℕ) (two : h < 2) (x : c < length own) (y : n - c < length other) (p : BothSides s h n c own other) where
+  pub split-mine : s n ≡ h → BothSides s h (n + 1) (c + 1) (set own c n) (set other (n - c) n)
   split-mine e =
       let q : n + 1 - (c + 1) ≡ n - c = omega arith in
       record {
@@ -66,7 +66,7 @@ module _ (s : ℕ → ℕ) (h n c : ℕ) (own other : List ℕ) (two : h < 2) (x
         rest = rw q (gathered-skip n s (1 - h) (n - c) n other (ne-eqb (s n) (1 - h) (λ f. omega arith)) (p .rest));
       }
 
-  pub split-rest : s n < 2 → (s n ≡ h → ⊥) → Split s h (n + 1) c (set own c n) (set other (n - c) n)
+  pub split-rest : s n < 2 → (s n ≡ h → ⊥) → BothSides s h (n + 1) c (set own c n) (set other (n - c) n)
   split-rest l e =
       let q : n + 1 - c ≡ n - c + 1 = omega (arith, p .few) in
       record {
@@ -80,11 +80,11 @@ beside : (s : ℕ → ℕ) (k cap : ℕ) (f : ℕ → ℕ) → s k < 2 → least
 unfolding leastOn
 beside s k cap f h = rw (ne-eqb (s k) (1 - s k) (λ e. omega arith))
 
-pub more-at : (L : ℕ) (d : ℕ → ℕ → ℕ) (k : ℕ) (s : ℕ → ℕ) (c : ℕ) (own other : List ℕ) → s k < 2 → Split s (s k) (k + 1) c own other
+pub more-at : (L : ℕ) (d : ℕ → ℕ → ℕ) (k : ℕ) (s : ℕ → ℕ) (c : ℕ) (own other : List ℕ) → s k < 2 → BothSides s (s k) (k + 1) c own other
     → moreAt L d k own c other (k + 1 - c) ≡ broughtFast L d k s
 unfolding broughtFast broughtSide broughtNear
 more-at L d k s c own other h q =
-    let p : Split s (s k) (suc k) c own other = rw add-one at q in
+    let p : BothSides s (s k) (suc k) c own other = rw add-one at q in
     rw add-one
     (p .rest .least _ _ ∙ beside s k _ _ h
     ∙ leastOn-same s s (1 - s k) _ _ _ k (λ i l. refl) (λ e l.

@@ -80,7 +80,7 @@ pub rows-length : (l v : List ℕ) → length l ≡ length v → length (rowsOf 
 rows-length l v e = let q : length (fars (rowsOf l v)) ≡ length l = ap length (rowsOf-fars l v e) in rw length-map at q
 
 -- what passes the sizes
-pub record Sized (n N : ℕ) (l v : List ℕ) : Type 0 where
+pub record LinksSized (n N : ℕ) (l v : List ℕ) : Type 0 where
   pub some : 3 ≤ n
   pub few : n ≤ 64
   pub least : n ≤ N
@@ -103,14 +103,14 @@ length-passed N l v e =
           (not-false _ (refuseIf-passed (not (eqb (length v) N)) _ (p .1))),
     )
 
-pub sizes-passed : (n N : ℕ) (l v : List ℕ) → sizeChecks n N l v ≡ Passed → Sized n N l v
+pub sizes-passed : (n N : ℕ) (l v : List ℕ) → sizeChecks n N l v ≡ Passed → LinksSized n N l v
 sizes-passed n N l v e =
     let p = then-passed (countChecks n N) (lengthChecks N l v) e in
     let a = count-passed n N (p .0) in
     let b = length-passed N l v (p .1) in
     record { some = a .0; few = a .1; least = a .2; most = a .3; counted = b .0; costed = b .1 }
 
-pub passed-sizes : (n N : ℕ) (l v : List ℕ) → Sized n N l v → sizeChecks n N l v ≡ Passed
+pub passed-sizes : (n N : ℕ) (l v : List ℕ) → LinksSized n N l v → sizeChecks n N l v ≡ Passed
 passed-sizes n N l v s =
     rw (
       le-ltb n 3 (s .some),

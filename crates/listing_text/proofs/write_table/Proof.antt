@@ -4,7 +4,7 @@ use Prim.Native.Nat.{ℕ}
 use native.Mathlib.Omega.{arith}
 use lib.ListN.{length-replicate, replicate}
 use borrow.Author.Needs.{needs}
-use Rattle.listing_text.specs.Laws.Accepted.{Read, table-read, table-refused}
+use Rattle.listing_text.specs.Laws.Accepted.{RowsRead, table-read, table-refused}
 use Rattle.listing_text.specs.Laws.Lengths.{refused-fits}
 use Rattle.listing_text.specs.Lines.{refusedLine}
 use Rattle.listing_text.specs.Listing.{tableText}
@@ -34,7 +34,7 @@ refused-is c =
 
 -- accepted
 read-is : (c : tie.After-count)
-    → Read (c .before .before .before .before .before .before .before .before .before .args .n)
+    → RowsRead (c .before .before .before .before .before .before .before .before .before .args .n)
     (c .before .before .before .before .before .before .before .before .before .args .t .now) (c .count .given .0 .0)
     (c .before .before .before .before .exact .last .1 .1 .0) (c .before .before .before .before .exact .last .1 .1 .1 .0)
 read-is c =

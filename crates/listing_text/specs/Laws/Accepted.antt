@@ -81,7 +81,7 @@ table-refused n t f v f′ v′ q c a b l = go (treeCheck limit n t) _ (rw (only
     go (Refused p) m e = let s : p ≡ q = cc in ap refusedLine s
 
 -- the rows r that were left in front: a link table, and the text of the table is theirs
-pub record Read (n : ℕ) (t : List ℕ) (r : ℕ) (f v : List ℕ) : Type 0 where
+pub record RowsRead (n : ℕ) (t : List ℕ) (r : ℕ) (f v : List ℕ) : Type 0 where
   pub few : r ≤ 125
   pub far-length : length (take r f) ≡ r
   pub cost-length : length (take r v) ≡ r
@@ -89,7 +89,7 @@ pub record Read (n : ℕ) (t : List ℕ) (r : ℕ) (f v : List ℕ) : Type 0 whe
   pub text : tableText n t ≡ readingText n (take r f) (take r v) (uppers (take r f)) (images n t 1 n)
 
 pub table-read : (n : ℕ) (t f v f′ v′ : List ℕ) (r : ℕ) → CostTable limit n t → 125 ≤ length f → 125 ≤ length v
-    → LeftRows (exactOutcome limit n t f v) (Places r) f′ v′ → Read n t r f′ v′
+    → LeftRows (exactOutcome limit n t f v) (Places r) f′ v′ → RowsRead n t r f′ v′
 table-read n t f v f′ v′ r c a b l =
     let T = exactRows limit n t in
     let g = go (treeCheck limit n t) _ (rw (only-tree n t f v c a b) at (l .answered)) (rw (only-tree n t f v c a b) at (l .far-sides))

@@ -16,8 +16,8 @@ unfoldable pub placesFrom : (ℕ → ℕ → ℕ) → ℕ → ℕ → ℕ → �
 placesFrom d n f last i = grow d n f (n - 1 - i) last []
 
 -- the lent places o once those from i to n - 1 hold m
-unfoldable pub behind : ℕ → ℕ → List ℕ → List ℕ → List ℕ
-behind n i m o = take i o ++ (m ++ drop n o)
+unfoldable pub writtenBehind : ℕ → ℕ → List ℕ → List ℕ → List ℕ
+writtenBehind n i m o = take i o ++ (m ++ drop n o)
 
 -- ## The list grows to the left
 
@@ -39,17 +39,17 @@ set-left i v [] r h = absurd (omega arith)
 set-left zero v (x ∷ o) r h = refl
 set-left (suc i) v (x ∷ o) r h = ap (λ z. x ∷ z) (set-left i v o r (omega arith))
 
-pub behind-more : (n i v : ℕ) (m o e : List ℕ) → 0 < i → i ≤ length o → e ≡ behind n i m o → set e (i - 1) v ≡ behind n (i - 1) (v ∷ m) o
-unfolding behind
+pub behind-more : (n i v : ℕ) (m o e : List ℕ) → 0 < i → i ≤ length o → e ≡ writtenBehind n i m o → set e (i - 1) v ≡ writtenBehind n (i - 1) (v ∷ m) o
+unfolding writtenBehind
 behind-more n zero v m o e z h q = absurd (omega arith)
 behind-more n (suc i) v m o e z h q = let s : suc i - 1 ≡ i = omega arith in rw (q, s) (set-left i v o (m ++ drop n o) h)
 
-pub behind-none : (n : ℕ) (o : List ℕ) → o ≡ behind n n [] o
-unfolding behind
+pub behind-none : (n : ℕ) (o : List ℕ) → o ≡ writtenBehind n n [] o
+unfolding writtenBehind
 behind-none n o = sym (take-append-drop n o)
 
-pub behind-all : (n : ℕ) (m o p : List ℕ) → length m ≡ n → drop n o ≡ drop n p → behind n 0 m o ≡ front m p
-unfolding behind
+pub behind-all : (n : ℕ) (m o p : List ℕ) → length m ≡ n → drop n o ≡ drop n p → writtenBehind n 0 m o ≡ front m p
+unfolding writtenBehind
 behind-all n m o p e q = rw (e, q)
 
 -- ## The loop: before it, one place more, after it
@@ -62,7 +62,7 @@ module _ (d : ℕ → ℕ → ℕ) (n f last : ℕ) (o : List ℕ) where
     pub here : x ≡ getD (placesFrom d n f last i) 0 0
     pub range : x < n
     pub marks : Marks placed (f ∷ placesFrom d n f last i)
-    pub wrote : e ≡ behind n i (map suc (placesFrom d n f last i)) o
+    pub wrote : e ≡ writtenBehind n i (map suc (placesFrom d n f last i)) o
     pub size : length e ≡ length o
     pub room : n ≤ length o
 
@@ -119,7 +119,7 @@ module _ (d : ℕ → ℕ → ℕ) (n f last : ℕ) (o : List ℕ) where
       let one : i ≡ 1 = omega (arith, s .low) in
       let a = grow d n f (n - 2) last [] in
       let m : n - 1 - 1 ≡ n - 2 = omega arith in
-      let w : e ≡ behind n 1 (map suc a) o = rw (one, m) at (s .wrote) in
+      let w : e ≡ writtenBehind n 1 (map suc a) o = rw (one, m) at (s .wrote) in
       let full : length (map suc (f ∷ a)) ≡ n = omega (arith, s .high, length-map a suc, grow-length d n f (n - 2) last []) in
       let same : drop n o ≡ drop n entry = ap (drop n) q ∙ drop-set-lt n entry (n - 1) (suc last) (omega (arith, s .high)) in
       r ∙ behind-more n 1 (suc f) (map suc a) o e (omega arith) (omega (arith, s .high, s .room)) w

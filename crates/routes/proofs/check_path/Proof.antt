@@ -2,12 +2,12 @@
 use native.Mathlib.Omega.{arith}
 use borrow.Author.Needs.{needs}
 use Rattle.ground.specs.Laws.Refusals.{then-goes, then-stops}
-use Rattle.links.specs.Laws.LinkChecks.{Sized, sizes-passed}
+use Rattle.links.specs.Laws.LinkChecks.{LinksSized, sizes-passed}
 use Rattle.routes.proofs.check_path.Statement.{statement}
 use Rattle.routes.proofs.check_path.Tie as tie
 
 -- behind the first check the sizes are right
-sized : (c : tie.After-enum-told2) → let a = c .before .before .before .before .before .args in Sized (a .n) (a .count) (a .fars .now) (a .costs .now)
+sized : (c : tie.After-enum-told2) → let a = c .before .before .before .before .before .args in LinksSized (a .n) (a .count) (a .fars .now) (a .costs .now)
 sized c = sizes-passed _ _ _ _ (rw (c .before .before .check-rows-size .ensures) at (c .enum-told2 .given .1))
 
 check-rows-size-requires : tie.Need-check-rows-size-requires
