@@ -10,7 +10,7 @@ lastEntryEnd = 131086
 -- numbers so small that nothing overflows
 pub record Small (form : Form) (n : ℕ) : Type 0 where
   pub short : form .head ≤ 7
-  pub narrow : (form .width) ≤ 32
+  pub narrow : form .width ≤ 32
   pub few : n ≤ 64
 
 -- and the entries stand within so many bytes

@@ -10,7 +10,7 @@ lastRowEnd = 11896
 -- numbers so small that nothing overflows
 pub record Small (form : Form) (n N : ℕ) : Type 0 where
   pub short : form .head ≤ 7
-  pub narrow : (form .width) ≤ 32
+  pub narrow : form .width ≤ 32
   pub some : 3 ≤ n
   pub few : n ≤ 64
   pub rows : N ≤ 125

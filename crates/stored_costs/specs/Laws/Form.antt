@@ -34,7 +34,7 @@ module _ (form : Form) (n : ℕ) (d : ℕ → ℕ → ℕ) where
 
   pub length-entry-bits : length entryBits ≡ form .width * entryCount n
   unfolding entryBits
-  length-entry-bits = length-fields (form .width) (entries d n) ∙ ap (λ (x : ℕ). (form .width) * x) (length-entries d n n)
+  length-entry-bits = length-fields (form .width) (entries d n) ∙ ap (λ (x : ℕ). form .width * x) (length-entries d n n)
 
   pub length-front : length (bitsOf (form .head) (form .mark) ++ bitsOf 7 n) ≡ form .head + 7
   length-front = omega (arith, length-append (bitsOf (form .head) (form .mark)) (bitsOf 7 n), length-bitsOf (form .head) (form .mark), length-bitsOf 7 n)

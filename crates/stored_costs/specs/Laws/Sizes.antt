@@ -15,7 +15,7 @@ pub count-le : (n i : ℕ) → n ≤ 64 → i ≤ n → rowStart n i ≤ 4096
 count-le n i h k = omega (arith, row-twice n i k, mul-le-mul {n₁ = i} {m₁ = n} {n₂ = 64} {m₂ = 64} (omega arith) h)
 
 pub at-le : (form : Form) (n i : ℕ) → Small form n → i ≤ n → rowAt form n i ≤ lastEntryEnd
-at-le form n i s h = omega (arith, s .short, mul-le-mul {n₁ = (form .width)} {m₁ = rowStart n i} {n₂ = 32} {m₂ = 4096} (s .narrow) (count-le n i (s .few) h))
+at-le form n i s h = omega (arith, s .short, mul-le-mul {n₁ = form .width} {m₁ = rowStart n i} {n₂ = 32} {m₂ = 4096} (s .narrow) (count-le n i (s .few) h))
 
 pub end-le : (form : Form) (n : ℕ) → Small form n → costEnd form n ≤ lastEntryEnd
 end-le form n s = at-le form n n s (omega arith)
