@@ -1,13 +1,13 @@
 -- The demands of the two readings and of the order, each as one theorem: what a reader of the demands looks for, and what the
 -- crates above cite. Assumes nothing.
-use mathlib.Core.List.{List, [], _++_, _∷_}
+use mathlib.Core.List.{List, List·Memᴰ, [], _++_, _∷_}
 use mathlib.Core.Logic.{_↔_}
 use mathlib.Core.Path.{_≡_}
 use Prim.Native.Nat.{suc, zero, ℕ, _*_, _+_, _<_, _≤_}
 use native.Mathlib.Omega.{arith}
-use lib.ListN.{length}
+use lib.ListN.{getD, length, length-map}
 use Rattle.ground.specs.Bits.{bit}
-use Rattle.theory.specs.FarSides.{FarSide}
+use Rattle.theory.specs.FarSides.{FarSide, own}
 use Rattle.theory.specs.FourPoint.{FourPoint, failing}
 use Rattle.theory.specs.Index.{AtLeast, clipped}
 use Rattle.theory.specs.Laws.ClosedSum.{closed-sum}
@@ -21,21 +21,40 @@ use Rattle.theory.specs.Laws.Stable.{cost-near, measured-cost}
 use Rattle.theory.specs.Laws.Under.{measured-under}
 use Rattle.theory.specs.Laws.NextLeft.{next-left}
 use Rattle.theory.specs.Laws.Walk.{order-all}
-use Rattle.theory.specs.LinkTables.{LinkTable, Row, allCosts, costOf, path}
+use Rattle.theory.specs.LinkTables.{LinkTable, Row, allCosts, costOf, far, fars, path}
 use Rattle.theory.specs.Order.{AllOnce, closed, order}
 use Rattle.theory.specs.OrderRules.{IsNext, OneRun}
 use Rattle.theory.specs.Readings.{Exact, Near, measured}
 use Rattle.theory.specs.Tables.{WellFormed}
+use Rattle.ground.specs.Ascending.{Between}
+use Rattle.ground.specs.Members.{placeOf}
+use Rattle.theory.specs.Laws.Routes.{route-ends, upper-rows}
+use Rattle.theory.specs.Routes.{route, uppers}
 
--- A link table, and as many rows as a tree has: the drawn links form one tree.
+-- A link table, as many rows as a tree has, and all of them hang together, rows being numbered from 1: the drawn links form one tree.
 pub record OneTree (L n : ℕ) (T : List Row) : Type 0 where
   pub tree : LinkTable L n T
   pub least : n ≤ length T
   pub most : length T + 3 ≤ 2 * n
+  -- every row but the last has an upper row, and it is a later one
+  pub above : (p : ℕ) → suc p < length T → (suc p < getD (uppers (fars T)) p 0) × (getD (uppers (fars T)) p 0 ≤ length T)
+  -- the route of every image climbs strictly from its own link and holds the last row, so it ends there
+  pub climbs : (i : ℕ) → i < n
+      → Between (placeOf 1 (own n i) (fars T)) (route n (fars T) i) (suc (length T)) × List·Memᴰ (length T) (route n (fars T) i)
 
--- Every link table has n to 2 n - 3 rows.
+-- Every link table is one.
 pub one-tree : (L n : ℕ) (T : List Row) → 3 ≤ n → LinkTable L n T → OneTree L n T
-one-tree L n T h t = let c = row-count L n T h t in record { tree = t; least = c .0; most = c .1 }
+one-tree L zero T h t = absurd (omega arith)
+one-tree L (suc k) T h t =
+    let c = row-count L (suc k) T h t in
+    let m = length-map T far in
+    record {
+      tree = t;
+      least = c .0;
+      most = c .1;
+      above = λ p l. let u = upper-rows L k T t .later p (omega (arith, m)) in (u .0, omega (arith, u .1, m));
+      climbs = λ i l. rw (← m) (route-ends L k T t i l);
+    }
 
 -- ## Demand 2, of a well-formed table
 

@@ -8,5 +8,3 @@ pub mod Held
 pub mod Rowed
 pub mod Grown
 pub mod Writing
--- Every link table is one tree.
-pub mod Connected
