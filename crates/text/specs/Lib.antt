@@ -1,0 +1,9 @@
+-- A number as text, and numbers in a line.
+pub mod Decimal
+pub mod Fields
+-- How text is written, piece by piece.
+pub mod Putting
+-- Examples that antt computes.
+pub mod Examples
+-- What is true of it.
+pub mod Laws
