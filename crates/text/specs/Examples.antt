@@ -1,7 +1,13 @@
--- Settled examples of numbers as text, computed. Assumes nothing.
+-- Settled examples of words and numbers as text, computed. Assumes nothing.
 use mathlib.Core.List.{[], _∷_}
 use mathlib.Core.Path.{refl, _≡_}
 use Rattle.text.specs.Decimal.{decimal, digits}
+use Rattle.text.specs.Words.{bytesOf}
+
+-- letters, a blank and a full stop
+pub word-written : bytesOf "3..64 Az" ≡ 51 ∷ 46 ∷ 46 ∷ 54 ∷ 52 ∷ 32 ∷ 65 ∷ 122 ∷ []
+unfolding bytesOf
+word-written = refl
 
 -- 0 has one digit
 pub zero-written : decimal 0 ≡ 48 ∷ []

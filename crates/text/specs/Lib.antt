@@ -1,4 +1,5 @@
--- A number as text, and numbers in a line.
+-- A word and a number as text, and numbers in a line.
+pub mod Words
 pub mod Decimal
 pub mod Fields
 -- How text is written, piece by piece.
