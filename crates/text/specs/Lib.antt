@@ -2,6 +2,7 @@
 pub mod Words
 pub mod Decimal
 pub mod Fields
+pub mod Zeros
 -- How text is written, piece by piece.
 pub mod Putting
 -- Examples that antt computes.
