@@ -30,7 +30,15 @@ fn put_two(out: &mut [u8], at: usize, words: &[u8], a: usize, b: usize) -> usize
 }
 
 // Words, and all four places behind them.
-fn put_four(out: &mut [u8], at: usize, words: &[u8], a: usize, b: usize, c: usize, d: usize) -> usize
+fn put_four(
+    out: &mut [u8],
+    at: usize,
+    words: &[u8],
+    a: usize,
+    b: usize,
+    c: usize,
+    d: usize,
+) -> usize
     requires { ⌜ at + length (now words) + 84 ≤ length (now out) ⌝ }
     ensures { λ r. ⌜ Put (now (words .entry) ++ fields (a ∷ b ∷ c ∷ d ∷ [])) at (now (out .entry)) r (now (out .exit)) ⌝ }
 {
@@ -71,7 +79,15 @@ fn put_further(out: &mut [u8], at: usize, number: usize, a: usize) -> usize
 }
 
 // What is said of a refusal, whatever its number.
-fn put_said(out: &mut [u8], at: usize, number: usize, a: usize, b: usize, c: usize, d: usize) -> usize
+fn put_said(
+    out: &mut [u8],
+    at: usize,
+    number: usize,
+    a: usize,
+    b: usize,
+    c: usize,
+    d: usize,
+) -> usize
     requires { ⌜ at + 163 ≤ length (now out) ⌝ }
     ensures { λ r. ⌜ Put (saidOf number a b c d) at (now (out .entry)) r (now (out .exit)) ⌝ }
 {

@@ -44,10 +44,19 @@ returns-9 : tie.Need-returns-9
 unfolding sayingText sayingIn furtherSayings bytesOf fields
 returns-9 c =
     let m = c .before .before .before .before .before .match .rest in
-    rw (ne-eqb _ _ (m .0 .0 .0 .0 .0 .0 .0 .1), ne-eqb _ _ (m .0 .0 .0 .0 .0 .0 .1), ne-eqb _ _ (m .0 .0 .0 .0 .0 .1),
-      ne-eqb _ _ (m .0 .0 .0 .0 .1), ne-eqb _ _ (m .0 .0 .0 .1), ne-eqb _ _ (m .0 .0 .1), ne-eqb _ _ (m .0 .1), ne-eqb _ _ (m .1))
+    rw (
+      ne-eqb _ _ (m .0 .0 .0 .0 .0 .0 .0 .1),
+      ne-eqb _ _ (m .0 .0 .0 .0 .0 .0 .1),
+      ne-eqb _ _ (m .0 .0 .0 .0 .0 .1),
+      ne-eqb _ _ (m .0 .0 .0 .0 .1),
+      ne-eqb _ _ (m .0 .0 .0 .1),
+      ne-eqb _ _ (m .0 .0 .1),
+      ne-eqb _ _ (m .0 .1),
+      ne-eqb _ _ (m .1),
+    )
     (c .before .before .put-one3 .ensures)
 
+-- in order: for each arm that its words are lent whole and fit, then for each arm that the length stays and that its text is the number's
 pub put-further-spec : {M : Type 1} → statement M
 put-further-spec =
     tie.close
