@@ -885,7 +885,7 @@ def read_costs_cases(dice):
     yield stored[:-1] + [stored[-1] + 1], 0, [8] * 4096
     yield too_large, 0, [8] * 4096
     yield too_large[:-1] + [too_large[-1] + 1], 0, [8] * 4096
-    yield too_large[:-1], 0, [8] * 4096
+    yield stored_costs(64, table_from(64, [1000001] + upper[1:]))[:-1], 0, [8] * 4096
     yield [130] + stored[1:], 0, [8] * 4096
     yield [7] + stored, 8 * 5042, [8] * 4096
 
