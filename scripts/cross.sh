@@ -29,16 +29,17 @@ make_archive() {
 need_archive() { { [ -f "$archive" ] && [ -f "$archive.sum" ] && [ "$(archive_sum)" = "$(cat "$archive.sum")" ]; } || make_archive; }
 
 want() { # PROGRAM PACKAGE..
-    have "$1" && return 0
-    { [ "${may_install:-yes}" = yes ] && [ "$(id -u)" = 0 ] && have apt-get; } || return 0
-    shift
-    echo "${0##*/}: installing $*" >&2
-    install_packages "$@" || { timeout 120 apt-get update -qq </dev/null >/dev/null 2>&1 && install_packages "$@"; } || true
+    have "$1" || install_packages "${@:2}"
 }
 
-install_packages() {
-    DEBIAN_FRONTEND=noninteractive timeout 400 apt-get install -y -qq --no-install-recommends "$@" </dev/null >/dev/null 2>&1
+# Installs from Debian where that may be done. The lists of packages are only fetched if it does not work with those that are there.
+install_packages() { # PACKAGE..
+    { [ "${may_install:-yes}" = yes ] && [ "$(id -u)" = 0 ] && have apt-get; } || return 0
+    echo "${0##*/}: installing $*" >&2
+    packages install --no-install-recommends "$@" || { packages update && packages install --no-install-recommends "$@"; } || true
 }
+
+packages() { DEBIAN_FRONTEND=noninteractive timeout 300 apt-get -y -qq "$@" </dev/null >/dev/null 2>&1; }
 
 want python3 python3
 want pkg-config pkg-config
