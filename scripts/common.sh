@@ -1,12 +1,15 @@
 # For the other scripts, to be sourced at the top of the repository: what they say and ask in the same way.
 
+# The name in front of what is said on standard error.
+said_by=${said_by:-${0##*/}}
+
 have() { command -v "$1" >/dev/null 2>&1; }
 
 # What could not be run, in the form that the gate looks for.
 not_run() { echo "NOT RUN: $1, $2"; } # WHAT WHY
 
 need_kit() {
-    have rt || { echo "${0##*/}: rt, the command of the Rattle kit, is not on the path" >&2; exit 2; }
+    have rt || { echo "$said_by: rt, the command of the Rattle kit, is not on the path" >&2; exit 2; }
     kit=$(dirname "$(dirname "$(rt doc)")")
 }
 
@@ -48,7 +51,7 @@ prove() { # NAME..
             count=$((count + 1))
             case $line in *"(unchanged since"*) continue ;; esac
             name=${line#rt: }
-            echo "${0##*/}: proving, crate $count of $all (${name%% *}) done, $((SECONDS - began)) s" >&2
+            echo "$said_by: proving, crate $count of $all (${name%% *}) done, $((SECONDS - began)) s" >&2
         done
     } || status=$?
     [ $status = 0 ] || tail -n 5 "$log" >&2

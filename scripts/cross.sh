@@ -20,7 +20,7 @@ make_archive() {
     # shellcheck disable=SC2046
     prove $(sed -n 's/^kemotuiki://p' crates.txt) || return
     local log=target/log/archive.log
-    echo "${0##*/}: making the archive" >&2
+    echo "$said_by: making the archive" >&2
     rt staticlib kemotuiki >"$log" 2>&1 || { tail -n 5 "$log" >&2; return 1; }
     archive_sum >"$archive.sum"
 }
@@ -35,7 +35,7 @@ want() { # PROGRAM PACKAGE..
 # Installs from Debian where that may be done. The lists of packages are only fetched if it does not work with those that are there.
 install_packages() { # PACKAGE..
     { [ "${may_install:-yes}" = yes ] && [ "$(id -u)" = 0 ] && have apt-get; } || return 0
-    echo "${0##*/}: installing $*" >&2
+    echo "$said_by: installing $*" >&2
     packages install --no-install-recommends "$@" || { packages update && packages install --no-install-recommends "$@"; } || true
 }
 

@@ -51,11 +51,10 @@ else
     "$FC" -fcoarray=lib -std=f2018 -O2 -Wall -J "$work" "${sources[@]}" "$archive" "$libraries/libcaf_mpich.so.3" \
         -Wl,-rpath-link,"$libraries:$work/root/lib/x86_64-linux-gnu" -o "$work/team"
     start=(mpiexec.hydra -n 9 "$(emulator)" -L "$work/root")
-    # With the transports that it chooses itself, MPICH under the emulator does not come to an end.
-    export UCX_TLS=posix,self
 fi
-# MPICH's warnings about OpenCoarrays' last messages would stand between the lines.
-export UCX_LOG_LEVEL=error
+# All images are on one machine, so MPICH needs shared memory alone. With the transports that it chooses itself it does not come to
+# an end under the emulator. Its warnings about OpenCoarrays' last messages would stand between the lines.
+export UCX_TLS=posix,self UCX_LOG_LEVEL=error UCX_LOG_FILE=stderr
 timeout -k 10 120 "${start[@]}" "$work/team" </dev/null >"$work/out" || { echo "coarray: the images ended with status $?"; exit 1; }
 LC_ALL=C sort "$work/out" | diff examples/coarray/expected.txt - || exit 1
 echo "coarray: nine images, as expected"
