@@ -1,7 +1,6 @@
 #!/usr/bin/env bash
 # Builds team.f90 against the archive, runs it with nine images and compares its lines, sorted, with expected.txt. On x86-64 this
-# takes caf and cafrun of OpenCoarrays, those over MPICH if there are several; where this runs as root they are installed from
-# Debian if they are missing. Elsewhere MPICH of this machine starts nine emulators, and the x86-64 libraries of OpenCoarrays and
+# takes caf of OpenCoarrays, Debian's over MPICH before another; where this runs as root it is installed if it is missing. Elsewhere MPICH of this machine starts nine emulators, and the x86-64 libraries of OpenCoarrays and
 # MPICH are unpacked from Debian's packages into a folder that is removed at the end. Status 1 on a difference or if the images do
 # not end in two minutes, 0 if all is the same or nothing could be run, which is said.
 set -euo pipefail
@@ -19,24 +18,25 @@ foreign() {
         </dev/null >/dev/null 2>&1
 }
 
-# Sets kind to what stands behind the names caf and cafrun. Open MPI refuses to start as root, so MPICH comes first. It has to build
-# a program: Debian's OpenCoarrays does not bring all that this needs.
+# Sets build and start. What is taken has to build a program, since Debian's OpenCoarrays does not bring all that this needs. Debian's
+# cafrun.mpich would start whatever mpiexec the machine has, which may be that of Open MPI, so MPICH's own is called.
 find_caf() {
     echo end >"$work/nothing.f90"
-    for kind in .mpich ''; do
-        if have "caf$kind" && have "cafrun$kind" && "caf$kind" "$work/nothing.f90" -o "$work/nothing" >/dev/null 2>&1; then return 0; fi
-    done
-    return 1
+    build=caf.mpich start=(mpiexec.mpich -n 9)
+    if builds_and_starts; then return 0; fi
+    build=caf start=(cafrun -n 9)
+    builds_and_starts
 }
+
+builds_and_starts() { have "$build" && have "${start[0]}" && "$build" "$work/nothing.f90" -o "$work/nothing" >/dev/null 2>&1; }
 
 if [ "$(uname -m)" = x86_64 ]; then
     find_caf || install_packages libcoarrays-mpich-dev libmpich-dev
-    find_caf || skip "no caf and cafrun of OpenCoarrays that build a program"
+    find_caf || skip "no caf of OpenCoarrays that builds a program"
     need_archive
-    "caf$kind" -std=f2018 -O2 -Wall -J "$work" "${sources[@]}" "$archive" -o "$work/team"
-    start=("cafrun$kind" -n 9)
-    # Open MPI starts no more images than there are cores unless it is told to.
-    export OMPI_MCA_rmaps_base_oversubscribe=1
+    "$build" -std=f2018 -O2 -Wall -J "$work" "${sources[@]}" "$archive" -o "$work/team"
+    # Open MPI starts no more images than there are cores, and none as root, unless it is told to.
+    export OMPI_MCA_rmaps_base_oversubscribe=1 OMPI_ALLOW_RUN_AS_ROOT=1 OMPI_ALLOW_RUN_AS_ROOT_CONFIRM=1
 else
     want mpiexec.hydra mpich
     [ -n "$FC" ] && [ "$RUN" != none ] && have mpiexec.hydra || skip "no Fortran compiler for x86-64, emulator or MPICH"
