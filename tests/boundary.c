@@ -313,6 +313,17 @@ static void do_choice(void) {
     settle(&lb, 0);
 }
 
+static void do_refusal_text(void) {
+    Lent lo;
+    size_t head[6];
+    for (int i = 0; i < 6; i++) head[i] = number();
+    uint8_t *out = read8(&lo);
+    KemotuikiBytes r = kemotuiki_refusal_text(head[0], head[1], head[2], head[3], head[4], head[5], (char *)out, lo.count);
+    if (ANSWER(r, 0)) printf(" %zu", r.used);
+    show8(out, lo.count);
+    settle(&lo, r.used);
+}
+
 static const struct {
     const char *name;
     void (*run)(void);
@@ -321,7 +332,7 @@ static const struct {
     {"exact", do_exact},           {"path", do_path},             {"upper_rows", do_upper_rows},
     {"route", do_route},           {"compare", do_compare},       {"write_costs", do_write_costs},
     {"read_costs", do_read_costs}, {"write_links", do_write_links}, {"read_links", do_read_links},
-    {"write_batch", do_write_batch}, {"choice", do_choice},
+    {"write_batch", do_write_batch}, {"choice", do_choice},       {"refusal_text", do_refusal_text},
 };
 
 static int cases(const char *folder) {

@@ -1,7 +1,7 @@
 #!/usr/bin/env bash
 # Runs the cases of crates/cases/data through the archive and compares with crates/cases/stdout, but for the calls of the reader,
-# which are not exported; then null pointers and large numbers. Status 1 on a difference, 0 if all is the same or nothing could be
-# run, which is said.
+# which are not exported; then null pointers, large numbers and the text of every answer; then the header in every language that it
+# is for. Status 1 on a difference, 0 if all is the same or nothing could be run, which is said.
 set -euo pipefail
 cd "$(dirname "$0")/.."
 . scripts/cross.sh
@@ -34,18 +34,21 @@ else
     status=1
 fi
 if $RUN "$work/boundary" --edges; then
-    echo "boundary: null pointers and large numbers, as expected"
+    echo "boundary: null pointers, large numbers and the text of every answer, as expected"
 else
     status=1
 fi
 
-# The struct has the size that the archive writes, and the header is also C++.
-printf '#include "kemotuiki.h"\nint main(void) { return sizeof(KemotuikiAnswer) == 88 ? 0 : 1; }\n' >"$work/size.c"
-"$CC" -Iinclude "$work/size.c" -o "$work/size"
-$RUN "$work/size" || { echo "boundary: the struct is not 88 bytes"; status=1; }
+# The header is C from C89 on and C++ from C++98 on, without a warning; in each the sizes of the structs are asserted.
+printf '#include "kemotuiki.h"\nint main(void) { return KEMOTUIKI_ACCEPTED; }\n' >"$work/header.c"
+header() { # STANDARD COMPILER..
+    "${@:2}" -std="$1" -pedantic -Wall -Wextra -Werror -Iinclude -fsyntax-only "$work/header.c" || { echo "boundary: the header is not $1"; status=1; }
+}
+for standard in c89 c99 c11 c17; do header "$standard" "$CC"; done
 if [ -n "$CXX" ]; then
-    "$CXX" -x c++ -Wall -Wextra -Werror -Iinclude -fsyntax-only "$work/size.c" || { echo "boundary: the header is not C++"; status=1; }
+    for standard in c++98 c++11 c++14 c++17; do header "$standard" "$CXX" -x c++; done
 else
     not_run "the header as C++" "no C++ compiler for x86-64"
 fi
+[ $status != 0 ] || echo "boundary: the header in every C from C89 and C++ from C++98, without a warning"
 exit $status

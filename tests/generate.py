@@ -60,6 +60,7 @@ CALLS = {
     "first_links": (law.first_links, "8 n 64* 32*", (1, 3, 9, 10, 11, 12, 13)),
     "two_costs": (law.two_costs, "8 32* 32*", (1, 3, 4, 9, 11)),
     "two_fields": (law.two_fields, "8 n n n", (3, 9)),
+    "refusal_text": (law.refusal_text, "n n n n n n 8*", (3,)),
 }
 
 # Those that put a table's number behind a refusal number.
@@ -1159,6 +1160,20 @@ def two_fields_cases(dice):
                 yield stored, position, width, dice.one_of([0, 1, 8, 64, 65, 2 ** 64 - 1])
 
 
+def refusal_text_cases(dice):
+    """Every number with a table and without one, in just enough room and in more; numbers that
+    no refusal has; the longest text; and too little room."""
+    enough = law.TEXT_BYTES
+    unknown = [16, 17, 64, 99, 2 ** 32 + 7, 2 ** 63, 2 ** 64 - 1]
+    for number in list(range(16)) + unknown:
+        for table in (0, 1, dice.one_of([2, 10, 64, 500])):
+            places_of = [dice.one_of([1, 2, 9, 10, 33, 64, 99, 100, 12345]) for _ in range(4)]
+            yield (number, table, *places_of, byte_places(dice, dice.one_of([enough, enough, enough + 3])))
+        yield number, 0, 0, 0, 0, 0, byte_places(dice, enough)
+        yield (number, *[2 ** 64 - 1] * 5, byte_places(dice, enough))
+        yield number, 3, 1, 2, 3, 5, byte_places(dice, dice.one_of([0, 1, 20, enough - 1, enough - 1]))
+
+
 CASES = {
     "index": index_cases,
     "order": order_cases,
@@ -1178,6 +1193,7 @@ CASES = {
     "first_links": first_links_cases,
     "two_costs": two_costs_cases,
     "two_fields": two_fields_cases,
+    "refusal_text": refusal_text_cases,
 }
 
 

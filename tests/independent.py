@@ -580,6 +580,51 @@ def read_links(stored, position, fars, costs):
     return 0, n, len(found), used
 
 
+# What each number says, and what its places are called; the number of places is that of the
+# letters behind it. Refusal 12 has no place where the index call gives it.
+SAYINGS = {
+    0: ("accepted", None, ""),
+    1: ("n outside 3..64", "n", "a"),
+    2: ("a length does not fit n or the row count", None, ""),
+    3: ("too little room", None, ""),
+    4: ("entry above 1,000,000", "row and column", "ab"),
+    5: ("diagonal not zero", "image", "a"),
+    6: ("asymmetric", "row and column", "ab"),
+    7: ("no wiring", "images", "abcd"),
+    8: ("image outside 1..n, or first and last the same", None, ""),
+    9: ("stored bytes end early", None, ""),
+    10: ("row count outside n..2n-3", "count", "a"),
+    11: ("fill bits not zero", None, ""),
+    12: ("bad far side or bad row", "row", "a"),
+    13: ("an own link is missing", "image", "a"),
+    14: ("neither table includes the other", None, ""),
+    15: ("stored tables of different n", None, ""),
+}
+TEXT_BYTES = 192
+
+
+def answer_text(number, table, a, b, c, d):
+    """What an answer says: the table, if a refusal is about one, the phrase, and the places."""
+    if number not in SAYINGS:
+        words = "no such refusal: number %d" % number
+    else:
+        phrase, label, letters = SAYINGS[number]
+        places = [{"a": a, "b": b, "c": c, "d": d}[letter] for letter in letters]
+        if number == 12 and a == 0:
+            places = []
+        words = phrase + (": " + " ".join([label] + [str(place) for place in places]) if places else "")
+    return ("table %d: " % table if number and table else "") + words
+
+
+@call
+def refusal_text(number, table, a, b, c, d, out):
+    check_room(out, TEXT_BYTES)
+    text = list(answer_text(number, table, a, b, c, d).encode("ascii")) + [0]
+    assert len(text) <= TEXT_BYTES and 0 not in text[:-1]
+    out[:len(text)] = text
+    return 0, len(text)
+
+
 @call
 def read_field(stored, position, width):
     """The number in the width bits from the position on: 9 where so many are not there,

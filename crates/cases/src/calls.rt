@@ -1,5 +1,5 @@
 // The calls by number. Those whose cases begin with a cost table come first, then those with a link table, then those with stored
-// bytes and a position, and the calls over several tables. The calls of the reader are last.
+// bytes and a position, the calls over several tables, the calls of the reader, and the text of an answer.
 pub const INDEX: u32 = 1;
 
 pub const ORDER: u32 = 2;
@@ -35,3 +35,5 @@ pub const FIRST_LINKS: u32 = 16;
 pub const TWO_COSTS: u32 = 17;
 
 pub const TWO_FIELDS: u32 = 18;
+
+pub const REFUSAL_TEXT: u32 = 19;

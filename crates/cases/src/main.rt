@@ -7,6 +7,7 @@ mod choice_cases;
 mod cost_cases;
 mod link_cases;
 mod reader_cases;
+mod text_cases;
 
 use libc::STDOUT_FILENO;
 
@@ -26,6 +27,9 @@ fn one_case(call: u32, text: &[u8], at: usize) -> usize {
     }
     if call == calls::CHOICE {
         return choice_cases::choice_case(text, at);
+    }
+    if call == calls::REFUSAL_TEXT {
+        return text_cases::text_case(text, at);
     }
     reader_cases::reader_case(call, text, at)
 }
@@ -75,4 +79,5 @@ fn main() {
     run(calls::FIRST_LINKS, b"first_links", b"first_links.txt");
     run(calls::TWO_COSTS, b"two_costs", b"two_costs.txt");
     run(calls::TWO_FIELDS, b"two_fields", b"two_fields.txt");
+    run(calls::REFUSAL_TEXT, b"refusal_text", b"refusal_text.txt");
 }
