@@ -7,28 +7,16 @@
  * Images, rows and tables are counted from 1.
  *
  * Every call takes every argument: it answers or refuses, and always ends. A slice is a pointer and the count of its
- * elements; with count 0 the pointer may be null. Any other pointer is to that many elements, aligned as its type asks;
- * a slice that is written overlaps no other slice of the call. Nothing is allocated and nothing is kept between calls, so
- * calls on different buffers may run at the same time.
+ * elements; with count 0 the pointer may be null. Any other pointer is to that many elements, aligned as its type asks.
+ * A slice that is written overlaps no other slice of the call, which restrict says; slices that are only read may overlap.
+ * Nothing is allocated and nothing is kept between calls, so calls on different buffers may run at the same time.
  *
  * A refused call alters no lent place. An accepted call writes only the places that its answer names, from the front.
  *
- *   No.  Given when                                                Places
- *    1   n outside 3..64                                           n
- *    2   a slice's length does not fit n or the row count
- *    3   too little room
- *    4   entry above 1,000,000                                     row, column
- *    5   diagonal not zero                                         image
- *    6   asymmetric                                                row, column
- *    7   no wiring                                                 four images
- *    8   image outside 1..n; in the order call also first = last
- *    9   stored bytes end early
- *   10   row count outside n..2n-3                                 count
- *   11   fill bits not zero
- *   12   bad far side or bad row                                   row, 0 for the index call
- *   13   an own link is missing                                    image
- *   14   neither table includes the other
- *   15   stored tables of different n
+ * Single numbers are size_t, far sides 64 bits, stored bytes 8 bits. All other slices hold 32 bits, the batch's numbers of
+ * images and of rows as well, so that default integers of Fortran cross as they are.
+ *
+ * The header is C89 with <stdint.h>, later C, and C++.
  */
 #ifndef KEMOTUIKI_H
 #define KEMOTUIKI_H
@@ -36,133 +24,252 @@
 #include <stddef.h>
 #include <stdint.h>
 
-#ifdef __cplusplus
-extern "C" {
-#endif
+/* The version, as the file VERSION has it. */
+#define KEMOTUIKI_VERSION "1.0.0"
+#define KEMOTUIKI_VERSION_MAJOR 1
+#define KEMOTUIKI_VERSION_MINOR 0
+#define KEMOTUIKI_VERSION_PATCH 0
 
-/* Room that is enough for every n: places for the rows of a tree, bytes for the stored forms. */
+/* Room that is enough for every n: images, rows of a tree, bytes of the stored forms; and bytes of a refusal's text. */
 #define KEMOTUIKI_IMAGES 64
 #define KEMOTUIKI_ROWS 125
 #define KEMOTUIKI_COST_BYTES 5041
 #define KEMOTUIKI_LINK_BYTES 1315
+#define KEMOTUIKI_TEXT_BYTES 192
+
+#if defined(__STDC_VERSION__) && __STDC_VERSION__ >= 199901L
+#define KEMOTUIKI_RESTRICT restrict
+#elif defined(__GNUC__) || defined(_MSC_VER)
+#define KEMOTUIKI_RESTRICT __restrict
+#else
+#define KEMOTUIKI_RESTRICT
+#endif
+
+#if defined(__cplusplus) && __cplusplus >= 201103L
+#define KEMOTUIKI_ASSERT(name, condition) static_assert(condition, #name)
+#elif defined(__STDC_VERSION__) && __STDC_VERSION__ >= 201112L
+#define KEMOTUIKI_ASSERT(name, condition) _Static_assert(condition, #name)
+#else
+#define KEMOTUIKI_ASSERT(name, condition) typedef char name[(condition) ? 1 : -1]
+#endif
+
+#ifdef __cplusplus
+extern "C" {
+#endif
+
+/* What an answer's number says, and behind it what its places a, b, c, d are; a place that is not named is 0. */
+enum KemotuikiNumber {
+    KEMOTUIKI_ACCEPTED = 0,
+    KEMOTUIKI_BAD_N = 1,             /* n outside 3..64: n */
+    KEMOTUIKI_BAD_LENGTH = 2,        /* a slice's length does not fit n or the row count */
+    KEMOTUIKI_NO_ROOM = 3,           /* too little room */
+    KEMOTUIKI_ENTRY_TOO_LARGE = 4,   /* entry above 1,000,000: row, column */
+    KEMOTUIKI_DIAGONAL_NOT_ZERO = 5, /* diagonal not zero: image */
+    KEMOTUIKI_ASYMMETRIC = 6,        /* asymmetric: row, column */
+    KEMOTUIKI_NO_WIRING = 7,         /* no wiring: four images */
+    KEMOTUIKI_BAD_IMAGE = 8,         /* image outside 1..n; in the order call also first = last */
+    KEMOTUIKI_BYTES_END = 9,         /* stored bytes end early */
+    KEMOTUIKI_BAD_ROW_COUNT = 10,    /* row count outside n..2n-3: count */
+    KEMOTUIKI_FILL_NOT_ZERO = 11,    /* fill bits not zero */
+    KEMOTUIKI_BAD_ROW = 12,          /* bad far side or bad row: row, 0 for the index call */
+    KEMOTUIKI_OWN_LINK_MISSING = 13, /* an own link is missing: image */
+    KEMOTUIKI_NEITHER_INCLUDES = 14, /* neither table includes the other */
+    KEMOTUIKI_DIFFERENT_N = 15       /* stored tables of different n */
+};
 
 /*
- * What every call answers. number is 0 where the call was accepted, else the refusal's number. Unused fields are 0.
- * table: which table was refused, in calls that take more than one. a, b, c, d: the refusal's places.
- * value, second, third, fourth, fifth: the values of an accepted call, as each call says.
+ * What the calls answer. All structs begin alike: number is 0 where the call was accepted, else the refusal's number; table is
+ * the table that was refused, in calls that take more than one, else 0; a, b, c, d are the refusal's places. Behind them stand
+ * the values of an accepted call, 0 in a refusal. There is no padding, and the same answer always is the same bytes.
  */
-typedef struct KemotuikiAnswer {
-    uint32_t number;
-    size_t table;
-    size_t a, b, c, d;
-    size_t value, second, third, fourth, fifth;
-} KemotuikiAnswer;
+
+/* How strongly all choices of images support a division. */
+typedef struct KemotuikiIndex {
+    size_t number, table, a, b, c, d;
+    size_t index;
+} KemotuikiIndex;
+
+/* How many images were written. */
+typedef struct KemotuikiOrder {
+    size_t number, table, a, b, c, d;
+    size_t images;
+} KemotuikiOrder;
+
+/* How many rows were written. */
+typedef struct KemotuikiRows {
+    size_t number, table, a, b, c, d;
+    size_t rows;
+} KemotuikiRows;
+
+/* The path cost of two images, doubled as the costs of the rows are. */
+typedef struct KemotuikiPath {
+    size_t number, table, a, b, c, d;
+    size_t cost;
+} KemotuikiPath;
+
+/*
+ * Two trees compared: the inner rows of each, the inner far sides common to both, the Robinson-Foulds count, which is how many
+ * inner far sides are in exactly one, and what that count stands over: 2n-6, and 1 when n = 3.
+ */
+typedef struct KemotuikiComparison {
+    size_t number, table, a, b, c, d;
+    size_t inner_first, inner_second, common, count, over;
+} KemotuikiComparison;
+
+/* How many bytes were written. */
+typedef struct KemotuikiBytes {
+    size_t number, table, a, b, c, d;
+    size_t used;
+} KemotuikiBytes;
+
+/* A stored cost table: its images, and the bytes that this table alone used. */
+typedef struct KemotuikiCosts {
+    size_t number, table, a, b, c, d;
+    size_t n, used;
+} KemotuikiCosts;
+
+/* A stored link table: its images, its rows, and the bytes that this table alone used. */
+typedef struct KemotuikiLinks {
+    size_t number, table, a, b, c, d;
+    size_t n, rows, used;
+} KemotuikiLinks;
+
+/* The chosen table, 1 or 2, and its used bytes, from the front of its own buffer. */
+typedef struct KemotuikiChoice {
+    size_t number, table, a, b, c, d;
+    size_t chosen, used;
+} KemotuikiChoice;
+
+KEMOTUIKI_ASSERT(kemotuiki_words_of_64_bits, sizeof(size_t) == 8);
+KEMOTUIKI_ASSERT(kemotuiki_index_size, sizeof(KemotuikiIndex) == 56);
+KEMOTUIKI_ASSERT(kemotuiki_order_size, sizeof(KemotuikiOrder) == 56);
+KEMOTUIKI_ASSERT(kemotuiki_rows_size, sizeof(KemotuikiRows) == 56);
+KEMOTUIKI_ASSERT(kemotuiki_path_size, sizeof(KemotuikiPath) == 56);
+KEMOTUIKI_ASSERT(kemotuiki_comparison_size, sizeof(KemotuikiComparison) == 88);
+KEMOTUIKI_ASSERT(kemotuiki_bytes_size, sizeof(KemotuikiBytes) == 56);
+KEMOTUIKI_ASSERT(kemotuiki_costs_size, sizeof(KemotuikiCosts) == 64);
+KEMOTUIKI_ASSERT(kemotuiki_links_size, sizeof(KemotuikiLinks) == 72);
+KEMOTUIKI_ASSERT(kemotuiki_choice_size, sizeof(KemotuikiChoice) == 64);
 
 /*
  * The index of the division with the far side s: how strongly all choices of images support it, 0 where it is negative.
- * value: the index. Refusals 1, 2, 4, 5, 6, 12.
+ * Answers the index. Refusals 1, 2, 4, 5, 6, 12.
  */
-KemotuikiAnswer kemotuiki_index(size_t n, const uint32_t *t, size_t t_count, uint64_t s);
+KemotuikiIndex kemotuiki_index(size_t n, const uint32_t *t, size_t t_count, uint64_t s);
 
 /*
  * The order around the tree from image first to image last, all images once.
- * value: n, the images written to out. Room: n places. Refusals 1, 2, 3, 4, 5, 6, 8.
+ * Answers n, the images written to out. Room: n places. Refusals 1, 2, 3, 4, 5, 6, 8.
  */
-KemotuikiAnswer kemotuiki_order(size_t n, const uint32_t *t, size_t t_count, size_t first, size_t last,
-                                uint32_t *out, size_t out_count);
+KemotuikiOrder kemotuiki_order(size_t n, const uint32_t *t, size_t t_count, size_t first, size_t last,
+                               uint32_t *KEMOTUIKI_RESTRICT out, size_t out_count);
 
 /*
  * The measured reading: each image's own link, and an inner row for every division with an index above 0.
- * value: the rows written to fars and costs. Room: 2n-3 places in each. Refusals 1, 2, 3, 4, 5, 6.
+ * Answers the rows written to fars and costs. Room: 2n-3 places in each. Refusals 1, 2, 3, 4, 5, 6.
  */
-KemotuikiAnswer kemotuiki_measured(size_t n, const uint32_t *t, size_t t_count, uint64_t *fars, size_t fars_count,
-                                   uint32_t *costs, size_t costs_count);
+KemotuikiRows kemotuiki_measured(size_t n, const uint32_t *t, size_t t_count,
+                                 uint64_t *KEMOTUIKI_RESTRICT fars, size_t fars_count,
+                                 uint32_t *KEMOTUIKI_RESTRICT costs, size_t costs_count);
 
 /*
  * The exact reading: the one link table whose path costs are twice the entries.
- * value: the rows written to fars and costs. Room: 2n-3 places in each. Refusals 1, 2, 3, 4, 5, 6, 7; 7 names the first
+ * Answers the rows written to fars and costs. Room: 2n-3 places in each. Refusals 1, 2, 3, 4, 5, 6, 7; 7 names the first
  * four images for which no wiring can give the entries.
  */
-KemotuikiAnswer kemotuiki_exact(size_t n, const uint32_t *t, size_t t_count, uint64_t *fars, size_t fars_count,
-                                uint32_t *costs, size_t costs_count);
+KemotuikiRows kemotuiki_exact(size_t n, const uint32_t *t, size_t t_count,
+                              uint64_t *KEMOTUIKI_RESTRICT fars, size_t fars_count,
+                              uint32_t *KEMOTUIKI_RESTRICT costs, size_t costs_count);
 
 /*
  * The path cost of images i and j in the link table of count rows: the sum of the doubled costs between them.
- * value: the path cost. Refusals 1, 10, 2, 12, 13, 8.
+ * Answers the cost. Refusals 1, 10, 2, 12, 13, 8.
  */
-KemotuikiAnswer kemotuiki_path(size_t n, size_t count, const uint64_t *fars, size_t fars_count,
-                               const uint32_t *costs, size_t costs_count, size_t i, size_t j);
+KemotuikiPath kemotuiki_path(size_t n, size_t count, const uint64_t *fars, size_t fars_count,
+                             const uint32_t *costs, size_t costs_count, size_t i, size_t j);
 
 /*
  * The upper row of each row: the first later row whose far side contains it, 0 for the last row.
- * value: count, the rows written to out. Room: 2n-3 places. Refusals 1, 10, 2, 3, 12, 13.
+ * Answers count, the rows written to out. Room: 2n-3 places. Refusals 1, 10, 2, 3, 12, 13.
  */
-KemotuikiAnswer kemotuiki_upper_rows(size_t n, size_t count, const uint64_t *fars, size_t fars_count,
-                                     const uint32_t *costs, size_t costs_count, uint32_t *out, size_t out_count);
+KemotuikiRows kemotuiki_upper_rows(size_t n, size_t count, const uint64_t *fars, size_t fars_count,
+                                   const uint32_t *costs, size_t costs_count,
+                                   uint32_t *KEMOTUIKI_RESTRICT out, size_t out_count);
 
 /*
  * The route of image i: the rows from its own link by upper rows to the last row.
- * value: the rows written to out. Room: 2n-3 places. Refusals 1, 10, 2, 3, 12, 13, 8.
+ * Answers the rows written to out. Room: 2n-3 places. Refusals 1, 10, 2, 3, 12, 13, 8.
  */
-KemotuikiAnswer kemotuiki_route(size_t n, size_t count, const uint64_t *fars, size_t fars_count,
-                                const uint32_t *costs, size_t costs_count, size_t i, uint32_t *out, size_t out_count);
+KemotuikiRows kemotuiki_route(size_t n, size_t count, const uint64_t *fars, size_t fars_count,
+                              const uint32_t *costs, size_t costs_count, size_t i,
+                              uint32_t *KEMOTUIKI_RESTRICT out, size_t out_count);
 
 /*
- * Two cost tables compared by their exact readings.
- * value: inner rows of the first; second: of the second; third: common far sides; fourth: the Robinson-Foulds count, the
- * inner far sides in exactly one; fifth: what that count stands over, 2n-6, and 1 when n = 3.
+ * Two cost tables compared by their exact readings. Their trees have the same inner far sides exactly when count is 0.
  * Refusals 1 with table 0, then 2, 4, 5, 6, 7 of the first table and then of the second, with the table's number.
  */
-KemotuikiAnswer kemotuiki_compare(size_t n, const uint32_t *first, size_t first_count,
-                                  const uint32_t *second, size_t second_count);
+KemotuikiComparison kemotuiki_compare(size_t n, const uint32_t *first, size_t first_count,
+                                      const uint32_t *second, size_t second_count);
 
 /*
  * The stored form of a cost table.
- * value: the bytes written to out. Room: those bytes, (7 + 10*n*(n-1) + 7) / 8. Refusals 1, 2, 4, 5, 6, 3.
+ * Answers the bytes written to out. Room: those bytes, (7 + 10*n*(n-1) + 7) / 8. Refusals 1, 2, 4, 5, 6, 3.
  */
-KemotuikiAnswer kemotuiki_write_costs(size_t n, const uint32_t *t, size_t t_count, uint8_t *out, size_t out_count);
+KemotuikiBytes kemotuiki_write_costs(size_t n, const uint32_t *t, size_t t_count,
+                                     uint8_t *KEMOTUIKI_RESTRICT out, size_t out_count);
 
 /*
  * The stored cost table that begins at a bit position, which is the start of a byte.
- * value: n, of which n*n entries are written to out; second: the bytes that this table alone used. The next table begins
- * at position + 8 * second. Room: n*n places. Refusals 9, 1, 3, 9, 11, 4.
+ * Answers n, of which n*n entries are written to out, and the used bytes: the next table begins at position + 8 * used.
+ * Room: n*n places. Refusals 9, 1, 3, 9, 11, 4.
  */
-KemotuikiAnswer kemotuiki_read_costs(const uint8_t *bytes, size_t bytes_count, size_t position,
-                                     uint32_t *out, size_t out_count);
+KemotuikiCosts kemotuiki_read_costs(const uint8_t *bytes, size_t bytes_count, size_t position,
+                                    uint32_t *KEMOTUIKI_RESTRICT out, size_t out_count);
 
 /*
  * The stored form of the link table of count rows.
- * value: the bytes written to out. Room: those bytes, (14 + count*(n+20) + 7) / 8. Refusals 1, 10, 2, 12, 13, 3.
+ * Answers the bytes written to out. Room: those bytes, (14 + count*(n+20) + 7) / 8. Refusals 1, 10, 2, 12, 13, 3.
  */
-KemotuikiAnswer kemotuiki_write_links(size_t n, size_t count, const uint64_t *fars, size_t fars_count,
-                                      const uint32_t *costs, size_t costs_count, uint8_t *out, size_t out_count);
+KemotuikiBytes kemotuiki_write_links(size_t n, size_t count, const uint64_t *fars, size_t fars_count,
+                                     const uint32_t *costs, size_t costs_count,
+                                     uint8_t *KEMOTUIKI_RESTRICT out, size_t out_count);
 
 /*
  * The stored link table that begins at a bit position, which is the start of a byte.
- * value: n; second: the rows written to fars and costs; third: the bytes that this table alone used. The next table
- * begins at position + 8 * third. Room: 2n-3 places in each. Refusals 9, 1, 10, 3, 9, 11, 12, 13.
+ * Answers n, the rows written to fars and costs, and the used bytes: the next table begins at position + 8 * used.
+ * Room: 2n-3 places in each. Refusals 9, 1, 10, 3, 9, 11, 12, 13.
  */
-KemotuikiAnswer kemotuiki_read_links(const uint8_t *bytes, size_t bytes_count, size_t position,
-                                     uint64_t *fars, size_t fars_count, uint32_t *costs, size_t costs_count);
+KemotuikiLinks kemotuiki_read_links(const uint8_t *bytes, size_t bytes_count, size_t position,
+                                    uint64_t *KEMOTUIKI_RESTRICT fars, size_t fars_count,
+                                    uint32_t *KEMOTUIKI_RESTRICT costs, size_t costs_count);
 
 /*
  * Link tables stored one after another. ns and counts say, table by table, the number of images and the row count; fars and
  * costs are the rows of all tables joined.
- * value: the bytes written to out. Room: the bytes of all tables. Refusals 2 with table 0 where ns and counts differ in
+ * Answers the bytes written to out. Room: the bytes of all tables. Refusals 2 with table 0 where ns and counts differ in
  * length; then table by table, with its number, those of kemotuiki_write_links, 2 where either joined slice runs out; 2 with
  * the last table's number, 0 in an empty batch, where rows are left over.
  */
-KemotuikiAnswer kemotuiki_write_batch(const uint32_t *ns, size_t ns_count, const uint32_t *counts, size_t counts_count,
-                                      const uint64_t *fars, size_t fars_count, const uint32_t *costs, size_t costs_count,
-                                      uint8_t *out, size_t out_count);
+KemotuikiBytes kemotuiki_write_batch(const uint32_t *ns, size_t ns_count, const uint32_t *counts, size_t counts_count,
+                                     const uint64_t *fars, size_t fars_count, const uint32_t *costs, size_t costs_count,
+                                     uint8_t *KEMOTUIKI_RESTRICT out, size_t out_count);
 
 /*
  * Of two stored link tables over the same images, the one whose inner far sides include all of the other's; the first if
  * both do. Each stands at the front of its buffer.
- * value: 1 or 2, the chosen table; second: its used bytes, from the front of its own buffer. Refusals 9, 1, 10, 9, 11, 12,
- * 13 of the first table and then of the second, with the table's number; 15; 14, both with table 0.
+ * Refusals 9, 1, 10, 9, 11, 12, 13 of the first table and then of the second, with the table's number; 15; 14, both with
+ * table 0.
  */
-KemotuikiAnswer kemotuiki_choice(const uint8_t *first, size_t first_count, const uint8_t *second, size_t second_count);
+KemotuikiChoice kemotuiki_choice(const uint8_t *first, size_t first_count, const uint8_t *second, size_t second_count);
+
+/*
+ * What an answer says, as text with a zero byte behind it: "accepted", "no wiring: images 1 2 3 5", "table 2: asymmetric: row
+ * and column 1 3". Its first six arguments are the fields that all answers begin with, KEMOTUIKI_HEAD(r) of an answer r.
+ * Answers the bytes written to out, the zero byte among them. Room: KEMOTUIKI_TEXT_BYTES. Refusal 3.
+ */
+#define KEMOTUIKI_HEAD(r) (r).number, (r).table, (r).a, (r).b, (r).c, (r).d
+KemotuikiBytes kemotuiki_refusal_text(size_t number, size_t table, size_t a, size_t b, size_t c, size_t d,
+                                      char *KEMOTUIKI_RESTRICT out, size_t out_count);
 
 #ifdef __cplusplus
 }

@@ -23,8 +23,12 @@ use Rattle.tree.specs.InOrder.{exact-order, exactSteps, measured-order, measure
 use Rattle.tree.specs.Readings.{exactCheck, exactOutcome, measuredCheck, measuredOutcome}
 use Rattle.compare.specs.Call.{comparison}
 use Rattle.compare.specs.InOrder.{compare-decides, compareSteps}
-use Rattle.numbers.specs.Numbers.{ofAnswer, ofComparison, ofWritten}
-use Rattle.numbers.specs.declared.KemotuikiAnswer.{KemotuikiAnswer}
+use Rattle.numbers.specs.Numbers.{ofComparison, ofIndex, ofOrder, ofPath, ofRows}
+use Rattle.numbers.specs.declared.KemotuikiComparison.{KemotuikiComparison}
+use Rattle.numbers.specs.declared.KemotuikiIndex.{KemotuikiIndex}
+use Rattle.numbers.specs.declared.KemotuikiOrder.{KemotuikiOrder}
+use Rattle.numbers.specs.declared.KemotuikiPath.{KemotuikiPath}
+use Rattle.numbers.specs.declared.KemotuikiRows.{KemotuikiRows}
 use Rattle.kemotuiki.specs.Crossing.{crossed, crossedRows}
 use Rattle.kemotuiki.specs.Laws.Refusals.{by-check, by-left, by-rows, refusals}
 use Rattle.kemotuiki.specs.Refusals.{Refusals}
@@ -34,49 +38,56 @@ use Rattle.compare.specs.declared.Comparison.the-variants as compared
 
 -- ## Cost tables
 
-pub index : (n : ℕ) (t : List ℕ) (s : ℕ) (r : KemotuikiAnswer) → r ≡ ofAnswer (indexAnswer limit n t s)
-    → Refusals (ofTable 0 (1 ∷ 2 ∷ 4 ∷ 5 ∷ 6 ∷ 12 ∷ [])) (indexSteps limit n t s) r [] []
-index n t s r e = by-check ofAnswer answer.Refused (λ q. refl) (indexCheck limit n t s) _ refl refl (index-order limit n t s) e (λ q p. refl)
+pub index : (n : ℕ) (t : List ℕ) (s : ℕ) (r : KemotuikiIndex) → r ≡ ofIndex (indexAnswer limit n t s)
+    → Refusals (ofTable 0 (1 ∷ 2 ∷ 4 ∷ 5 ∷ 6 ∷ 12 ∷ [])) (indexSteps limit n t s) (r .head) [] []
+index n t s r e =
+    by-check (λ (k : KemotuikiIndex). k .head) ofIndex answer.Refused (λ q. refl) (indexCheck limit n t s) _ refl refl (index-order limit n t s) e
+    (λ q p. refl)
 
-pub order : (n : ℕ) (t : List ℕ) (first last : ℕ) (out out′ : List ℕ) (r : KemotuikiAnswer)
-    → Left (crossed ofWritten (orderOutcome limit n t first last out)) r out′
-    → Refusals (ofTable 0 (1 ∷ 2 ∷ 3 ∷ 4 ∷ 5 ∷ 6 ∷ 8 ∷ [])) (orderSteps limit n t first last (length out)) r (out ∷ []) (out′ ∷ [])
+pub order : (n : ℕ) (t : List ℕ) (first last : ℕ) (out out′ : List ℕ) (r : KemotuikiOrder)
+    → Left (crossed ofOrder (orderOutcome limit n t first last out)) r out′
+    → Refusals (ofTable 0 (1 ∷ 2 ∷ 3 ∷ 4 ∷ 5 ∷ 6 ∷ 8 ∷ [])) (orderSteps limit n t first last (length out)) (r .head) (out ∷ []) (out′ ∷ [])
 order n t first last out out′ r p =
-    by-left ofWritten written.Refused (λ q. refl) (orderChecks limit n t first last (length out)) _ _ out refl refl
+    by-left (λ (k : KemotuikiOrder). k .head) ofOrder written.Refused (λ q. refl) (orderChecks limit n t first last (length out)) _ _ out refl refl
     (order-order limit n t first last (length out)) p
 
-pub measured : (n : ℕ) (t f v f′ v′ : List ℕ) (r : KemotuikiAnswer) → LeftRows (crossedRows ofWritten (measuredOutcome limit n t f v)) r f′ v′
-    → Refusals (ofTable 0 (1 ∷ 2 ∷ 3 ∷ 4 ∷ 5 ∷ 6 ∷ [])) (measuredSteps limit n t (length f) (length v)) r (f ∷ v ∷ []) (f′ ∷ v′ ∷ [])
+pub measured : (n : ℕ) (t f v f′ v′ : List ℕ) (r : KemotuikiRows) → LeftRows (crossedRows ofRows (measuredOutcome limit n t f v)) r f′ v′
+    → Refusals (ofTable 0 (1 ∷ 2 ∷ 3 ∷ 4 ∷ 5 ∷ 6 ∷ [])) (measuredSteps limit n t (length f) (length v)) (r .head) (f ∷ v ∷ []) (f′ ∷ v′ ∷ [])
 measured n t f v f′ v′ r p =
     let c = measuredCheck limit n t (length f) (length v) in
-    by-rows ofWritten written.Refused (λ q. refl) c _ (measuredOutcome limit n t f v) f v refl refl (measured-order limit n t (length f) (length v))
-    (outcome-places c _ f v) (outcome-unaltered c _ f v) p
+    by-rows (λ (k : KemotuikiRows). k .head) ofRows written.Refused (λ q. refl) c _ (measuredOutcome limit n t f v) f v refl refl
+    (measured-order limit n t (length f) (length v)) (outcome-places c _ f v) (outcome-unaltered c _ f v) p
 
-pub exact : (n : ℕ) (t f v f′ v′ : List ℕ) (r : KemotuikiAnswer) → LeftRows (crossedRows ofWritten (exactOutcome limit n t f v)) r f′ v′
-    → Refusals (ofTable 0 (1 ∷ 2 ∷ 3 ∷ 4 ∷ 5 ∷ 6 ∷ 7 ∷ [])) (exactSteps limit n t (length f) (length v)) r (f ∷ v ∷ []) (f′ ∷ v′ ∷ [])
+pub exact : (n : ℕ) (t f v f′ v′ : List ℕ) (r : KemotuikiRows) → LeftRows (crossedRows ofRows (exactOutcome limit n t f v)) r f′ v′
+    → Refusals (ofTable 0 (1 ∷ 2 ∷ 3 ∷ 4 ∷ 5 ∷ 6 ∷ 7 ∷ [])) (exactSteps limit n t (length f) (length v)) (r .head) (f ∷ v ∷ []) (f′ ∷ v′ ∷ [])
 exact n t f v f′ v′ r p =
     let c = exactCheck limit n t (length f) (length v) in
-    by-rows ofWritten written.Refused (λ q. refl) c _ (exactOutcome limit n t f v) f v refl refl (exact-order limit n t (length f) (length v))
-    (outcome-places c _ f v) (outcome-unaltered c _ f v) p
+    by-rows (λ (k : KemotuikiRows). k .head) ofRows written.Refused (λ q. refl) c _ (exactOutcome limit n t f v) f v refl refl
+    (exact-order limit n t (length f) (length v)) (outcome-places c _ f v) (outcome-unaltered c _ f v) p
 
 -- 1 with number 0, then each table's with its own
-pub compare : (n : ℕ) (t u : List ℕ) (r : KemotuikiAnswer) → r ≡ ofComparison (comparison limit n t u)
-    → Refusals (ofTable 0 (1 ∷ []) ++ (ofTable 1 (2 ∷ 4 ∷ 5 ∷ 6 ∷ 7 ∷ []) ++ ofTable 2 (2 ∷ 4 ∷ 5 ∷ 6 ∷ 7 ∷ []))) (compareSteps limit n t u) r [] []
-compare n t u r e = refusals ofComparison compared.Refused (λ m q. refl) refl refl (compare-decides limit n t u) e (λ s q f. refl)
+pub compare : (n : ℕ) (t u : List ℕ) (r : KemotuikiComparison) → r ≡ ofComparison (comparison limit n t u)
+    → Refusals (ofTable 0 (1 ∷ []) ++ (ofTable 1 (2 ∷ 4 ∷ 5 ∷ 6 ∷ 7 ∷ []) ++ ofTable 2 (2 ∷ 4 ∷ 5 ∷ 6 ∷ 7 ∷ []))) (compareSteps limit n t u) (r .head) [] []
+compare n t u r e =
+    refusals (λ (k : KemotuikiComparison). k .head) ofComparison compared.Refused (λ m q. refl) refl refl (compare-decides limit n t u) e
+    (λ s q f. refl)
 
 -- ## Link tables
 
-pub path : (n N : ℕ) (f v : List ℕ) (i j : ℕ) (r : KemotuikiAnswer) → r ≡ ofAnswer (pathOutcome limit n N f v i j)
-    → Refusals (ofTable 0 (1 ∷ 10 ∷ 2 ∷ 12 ∷ 13 ∷ 8 ∷ [])) (pathSteps limit n N f v i j) r [] []
+pub path : (n N : ℕ) (f v : List ℕ) (i j : ℕ) (r : KemotuikiPath) → r ≡ ofPath (pathOutcome limit n N f v i j)
+    → Refusals (ofTable 0 (1 ∷ 10 ∷ 2 ∷ 12 ∷ 13 ∷ 8 ∷ [])) (pathSteps limit n N f v i j) (r .head) [] []
 path n N f v i j r e =
-    by-check ofAnswer answer.Refused (λ q. refl) (pathChecks limit n N f v i j) _ refl refl (path-order limit n N f v i j) e (λ q p. refl)
+    by-check (λ (k : KemotuikiPath). k .head) ofPath answer.Refused (λ q. refl) (pathChecks limit n N f v i j) _ refl refl
+    (path-order limit n N f v i j) e (λ q p. refl)
 
-pub upper-rows : (n N : ℕ) (f v out out′ : List ℕ) (r : KemotuikiAnswer) → Left (crossed ofWritten (upperOutcome limit n N f v out)) r out′
-    → Refusals (ofTable 0 (1 ∷ 10 ∷ 2 ∷ 3 ∷ 12 ∷ 13 ∷ [])) (upperSteps limit n N f v (length out)) r (out ∷ []) (out′ ∷ [])
+pub upper-rows : (n N : ℕ) (f v out out′ : List ℕ) (r : KemotuikiRows) → Left (crossed ofRows (upperOutcome limit n N f v out)) r out′
+    → Refusals (ofTable 0 (1 ∷ 10 ∷ 2 ∷ 3 ∷ 12 ∷ 13 ∷ [])) (upperSteps limit n N f v (length out)) (r .head) (out ∷ []) (out′ ∷ [])
 upper-rows n N f v out out′ r p =
-    by-left ofWritten written.Refused (λ q. refl) (upperChecks limit n N f v (length out)) _ _ out refl refl (upper-order limit n N f v (length out)) p
+    by-left (λ (k : KemotuikiRows). k .head) ofRows written.Refused (λ q. refl) (upperChecks limit n N f v (length out)) _ _ out refl refl
+    (upper-order limit n N f v (length out)) p
 
-pub route : (n N : ℕ) (f v : List ℕ) (i : ℕ) (out out′ : List ℕ) (r : KemotuikiAnswer) → Left (crossed ofWritten (routeOutcome limit n N f v i out)) r out′
-    → Refusals (ofTable 0 (1 ∷ 10 ∷ 2 ∷ 3 ∷ 12 ∷ 13 ∷ 8 ∷ [])) (routeSteps limit n N f v i (length out)) r (out ∷ []) (out′ ∷ [])
+pub route : (n N : ℕ) (f v : List ℕ) (i : ℕ) (out out′ : List ℕ) (r : KemotuikiRows) → Left (crossed ofRows (routeOutcome limit n N f v i out)) r out′
+    → Refusals (ofTable 0 (1 ∷ 10 ∷ 2 ∷ 3 ∷ 12 ∷ 13 ∷ 8 ∷ [])) (routeSteps limit n N f v i (length out)) (r .head) (out ∷ []) (out′ ∷ [])
 route n N f v i out out′ r p =
-    by-left ofWritten written.Refused (λ q. refl) (routeChecks limit n N f v i (length out)) _ _ out refl refl (route-order limit n N f v i (length out)) p
+    by-left (λ (k : KemotuikiRows). k .head) ofRows written.Refused (λ q. refl) (routeChecks limit n N f v i (length out)) _ _ out refl refl
+    (route-order limit n N f v i (length out)) p

@@ -15,9 +15,11 @@ use Rattle.batch.specs.InOrder.{batch-decides, batch-numbers, batch-unaltered, 
 use Rattle.batch.specs.Tables.{tables}
 use Rattle.choice.specs.Call.{choiceOf}
 use Rattle.choice.specs.InOrder.{choice-decides, choiceSteps}
-use Rattle.numbers.specs.Numbers.{ofWritten}
-use Rattle.numbers.specs.Stored.{ofBatched, ofChosen, ofStoredCosts, ofStoredLinks}
-use Rattle.numbers.specs.declared.KemotuikiAnswer.{KemotuikiAnswer}
+use Rattle.numbers.specs.Stored.{ofBatched, ofBytes, ofChosen, ofCosts, ofLinks}
+use Rattle.numbers.specs.declared.KemotuikiBytes.{KemotuikiBytes}
+use Rattle.numbers.specs.declared.KemotuikiChoice.{KemotuikiChoice}
+use Rattle.numbers.specs.declared.KemotuikiCosts.{KemotuikiCosts}
+use Rattle.numbers.specs.declared.KemotuikiLinks.{KemotuikiLinks}
 use Rattle.kemotuiki.specs.Crossing.{crossed, crossedRows}
 use Rattle.kemotuiki.specs.Laws.Refusals.{by-left, by-rows, refusals}
 use Rattle.kemotuiki.specs.Refusals.{Refusals}
@@ -37,49 +39,50 @@ use Rattle.stored_links.specs.declared.StoredLinks.the-variants as stored-links
 use Rattle.batch.specs.declared.Batched.the-variants as batched
 use Rattle.choice.specs.declared.Chosen.the-variants as chosen
 
-pub write-costs : (n : ℕ) (t out out′ : List ℕ) (r : KemotuikiAnswer) → Left (crossed ofWritten (costs-writing.writeOutcome oldCosts n t out)) r out′
-    → Refusals (ofTable 0 (1 ∷ 2 ∷ 4 ∷ 5 ∷ 6 ∷ 3 ∷ [])) (costs-written.writeSteps oldCosts n t (length out)) r (out ∷ []) (out′ ∷ [])
+pub write-costs : (n : ℕ) (t out out′ : List ℕ) (r : KemotuikiBytes) → Left (crossed ofBytes (costs-writing.writeOutcome oldCosts n t out)) r out′
+    → Refusals (ofTable 0 (1 ∷ 2 ∷ 4 ∷ 5 ∷ 6 ∷ 3 ∷ [])) (costs-written.writeSteps oldCosts n t (length out)) (r .head) (out ∷ []) (out′ ∷ [])
 write-costs n t out out′ r p =
-    by-left ofWritten written.Refused (λ q. refl) (costs-writing.writeChecks oldCosts n t (length out)) _ _ out refl refl
+    by-left (λ (k : KemotuikiBytes). k .head) ofBytes written.Refused (λ q. refl) (costs-writing.writeChecks oldCosts n t (length out)) _ _ out refl refl
     (costs-written.write-order oldCosts n t (length out)) p
 
 -- 9 of the position before all else
-pub read-costs : (bytes : List ℕ) (position : ℕ) (out out′ : List ℕ) (r : KemotuikiAnswer)
-    → Left (crossed ofStoredCosts (costs-reading.readOutcome oldCosts bytes position out)) r out′
-    → Refusals (ofTable 0 (9 ∷ 9 ∷ 1 ∷ 3 ∷ 9 ∷ 11 ∷ 4 ∷ [])) (costs-read.readAtSteps oldCosts bytes position (length out)) r (out ∷ []) (out′ ∷ [])
+pub read-costs : (bytes : List ℕ) (position : ℕ) (out out′ : List ℕ) (r : KemotuikiCosts)
+    → Left (crossed ofCosts (costs-reading.readOutcome oldCosts bytes position out)) r out′
+    → Refusals (ofTable 0 (9 ∷ 9 ∷ 1 ∷ 3 ∷ 9 ∷ 11 ∷ 4 ∷ [])) (costs-read.readAtSteps oldCosts bytes position (length out)) (r .head) (out ∷ []) (out′ ∷ [])
 read-costs bytes position out out′ r p =
-    by-left ofStoredCosts stored-costs.Refused (λ q. refl) (costs-checks.readAtChecks oldCosts bytes position (length out)) _ _ out refl refl
-    (costs-read.read-at-order oldCosts bytes position (length out)) p
+    by-left (λ (k : KemotuikiCosts). k .head) ofCosts stored-costs.Refused (λ q. refl) (costs-checks.readAtChecks oldCosts bytes position (length out)) _ _
+    out refl refl (costs-read.read-at-order oldCosts bytes position (length out)) p
 
-pub write-links : (n N : ℕ) (f v out out′ : List ℕ) (r : KemotuikiAnswer) → Left (crossed ofWritten (links-writing.writeOutcome oldLinks n N f v out)) r out′
-    → Refusals (ofTable 0 (1 ∷ 10 ∷ 2 ∷ 12 ∷ 13 ∷ 3 ∷ [])) (links-written.writeSteps oldLinks n N f v (length out)) r (out ∷ []) (out′ ∷ [])
+pub write-links : (n N : ℕ) (f v out out′ : List ℕ) (r : KemotuikiBytes) → Left (crossed ofBytes (links-writing.writeOutcome oldLinks n N f v out)) r out′
+    → Refusals (ofTable 0 (1 ∷ 10 ∷ 2 ∷ 12 ∷ 13 ∷ 3 ∷ [])) (links-written.writeSteps oldLinks n N f v (length out)) (r .head) (out ∷ []) (out′ ∷ [])
 write-links n N f v out out′ r p =
-    by-left ofWritten written.Refused (λ q. refl) (links-writing.writeChecks oldLinks n N f v (length out)) _ _ out refl refl
+    by-left (λ (k : KemotuikiBytes). k .head) ofBytes written.Refused (λ q. refl) (links-writing.writeChecks oldLinks n N f v (length out)) _ _ out refl refl
     (links-written.write-order oldLinks n N f v (length out)) p
 
 -- 9 of the position before all else; the shorter of the two lent buffers is the room
-pub read-links : (bytes : List ℕ) (position : ℕ) (f v f′ v′ : List ℕ) (r : KemotuikiAnswer)
-    → LeftRows (crossedRows ofStoredLinks (links-reading.readOutcome oldLinks bytes position f v)) r f′ v′
-    → Refusals (ofTable 0 (9 ∷ 9 ∷ 1 ∷ 10 ∷ 3 ∷ 9 ∷ 11 ∷ 12 ∷ 13 ∷ [])) (links-read.readAtSteps oldLinks bytes position (min (length f) (length v))) r
+pub read-links : (bytes : List ℕ) (position : ℕ) (f v f′ v′ : List ℕ) (r : KemotuikiLinks)
+    → LeftRows (crossedRows ofLinks (links-reading.readOutcome oldLinks bytes position f v)) r f′ v′
+    → Refusals (ofTable 0 (9 ∷ 9 ∷ 1 ∷ 10 ∷ 3 ∷ 9 ∷ 11 ∷ 12 ∷ 13 ∷ [])) (links-read.readAtSteps oldLinks bytes position (min (length f) (length v))) (r .head)
     (f ∷ v ∷ []) (f′ ∷ v′ ∷ [])
 read-links bytes position f v f′ v′ r p =
     let c = links-checks.readAtChecks oldLinks bytes position (min (length f) (length v)) in
-    by-rows ofStoredLinks stored-links.Refused (λ q. refl) c _ (links-reading.readOutcome oldLinks bytes position f v) f v refl refl
+    by-rows (λ (k : KemotuikiLinks). k .head) ofLinks stored-links.Refused (λ q. refl) c _ (links-reading.readOutcome oldLinks bytes position f v) f v refl refl
     (links-read.read-at-order oldLinks bytes position (min (length f) (length v))) refl (λ q e. (sym (front-stops c _ f e), sym (front-stops c _ v e))) p
 
 -- 2 with number 0 for lists of two lengths; then the link writer's, table by table; then 2 for places left over, with the last table's number
-pub write-batch : (ns counts f v out out′ : List ℕ) (r : KemotuikiAnswer) → Left (crossed ofBatched (batchOutcome oldLinks ns counts f v out)) r out′
+pub write-batch : (ns counts f v out out′ : List ℕ) (r : KemotuikiBytes) → Left (crossed ofBatched (batchOutcome oldLinks ns counts f v out)) r out′
     → Refusals
     (ofTable 0 (2 ∷ [])
     ++ (gather (from 1 (length (tables ns counts))) (λ k. ofTable k (1 ∷ 10 ∷ 2 ∷ 12 ∷ 13 ∷ 3 ∷ [])) ++ ofTable (length (tables ns counts)) (2 ∷ [])))
-    (batchSteps oldLinks ns counts f v (length out)) r (out ∷ []) (out′ ∷ [])
+    (batchSteps oldLinks ns counts f v (length out)) (r .head) (out ∷ []) (out′ ∷ [])
 write-batch ns counts f v out out′ r p =
     let d = batch-decides oldLinks ns counts f v (length out) in
-    refusals ofBatched batched.Refused (λ m q. refl) (batch-numbers oldLinks ns counts f v (length out)) refl (d .1) (p .answered)
+    refusals (λ (k : KemotuikiBytes). k .head) ofBatched batched.Refused (λ m q. refl) (batch-numbers oldLinks ns counts f v (length out)) refl (d .1)
+    (p .answered)
     (λ s q e. ap (λ (x : List ℕ). x ∷ []) (p .left ∙ batch-unaltered oldLinks ns counts f v out s q e))
 
 -- each table's with its own number, without 3; then 15 and 14 with number 0
-pub choice : (s t : List ℕ) (r : KemotuikiAnswer) → r ≡ ofChosen (choiceOf oldLinks s t)
+pub choice : (s t : List ℕ) (r : KemotuikiChoice) → r ≡ ofChosen (choiceOf oldLinks s t)
     → Refusals (ofTable 1 (9 ∷ 1 ∷ 10 ∷ 9 ∷ 11 ∷ 12 ∷ 13 ∷ []) ++ (ofTable 2 (9 ∷ 1 ∷ 10 ∷ 9 ∷ 11 ∷ 12 ∷ 13 ∷ []) ++ ofTable 0 (15 ∷ 14 ∷ [])))
-    (choiceSteps oldLinks s t) r [] []
-choice s t r e = refusals ofChosen chosen.Refused (λ m q. refl) refl refl (choice-decides oldLinks s t .2) e (λ a q f. refl)
+    (choiceSteps oldLinks s t) (r .head) [] []
+choice s t r e = refusals (λ (k : KemotuikiChoice). k .head) ofChosen chosen.Refused (λ m q. refl) refl refl (choice-decides oldLinks s t .2) e (λ a q f. refl)

@@ -8,12 +8,12 @@ use Rattle.ground.specs.Filters.{Each}
 use Rattle.ground.specs.InOrder.{Own}
 use Rattle.ground.specs.Steps.{FirstRefused, Passes, Step, numbersOf}
 use Rattle.ground.specs.declared.Refusal.{Refusal}
-use Rattle.numbers.specs.Numbers.{refused}
-use Rattle.numbers.specs.declared.KemotuikiAnswer.{KemotuikiAnswer}
+use Rattle.numbers.specs.Heads.{refused}
+use Rattle.numbers.specs.declared.KemotuikiHead.{KemotuikiHead}
 
--- the call answered r; l are the numbers that it refuses by, in document 01's order, and steps its checks;
+-- the call's answer has the head r; l are the numbers that it refuses by, in document 01's order, and steps its checks;
 -- before and after are what the lent buffers hold
-pub record Refusals (l : List (ℕ × ℕ)) (steps : List Step) (r : KemotuikiAnswer) (before after : List (List ℕ)) : Type 0 where
+pub record Refusals (l : List (ℕ × ℕ)) (steps : List Step) (r : KemotuikiHead) (before after : List (List ℕ)) : Type 0 where
   -- the checks run in the order of l, each refusing by its own number alone, which is not 0
   pub in-order : numbersOf steps ≡ l
   pub own : Each steps Own

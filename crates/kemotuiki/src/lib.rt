@@ -1,6 +1,14 @@
 // The public calls for C and Fortran. Each is thin: it makes the Rattle call and turns the answer into numbers. A slice crosses as a
 // pointer and a count.
-use numbers::KemotuikiAnswer;
+use numbers::KemotuikiBytes;
+use numbers::KemotuikiChoice;
+use numbers::KemotuikiComparison;
+use numbers::KemotuikiCosts;
+use numbers::KemotuikiIndex;
+use numbers::KemotuikiLinks;
+use numbers::KemotuikiOrder;
+use numbers::KemotuikiPath;
+use numbers::KemotuikiRows;
 ghost use mathlib.Core.Path.{_≡_};
 ghost use Rattle.ground.specs.Outcomes.{Left};
 ghost use Rattle.theory.specs.Outcomes.{LeftRows};
@@ -16,18 +24,18 @@ ghost use Rattle.link_writer.specs.Writing as links-writing;
 ghost use Rattle.stored_links.specs.Outcomes as links-reading;
 ghost use Rattle.batch.specs.Batch.{batchOutcome};
 ghost use Rattle.choice.specs.Call.{choiceOf};
-ghost use Rattle.numbers.specs.Numbers.{ofAnswer, ofWritten, ofComparison};
-ghost use Rattle.numbers.specs.Stored.{ofStoredCosts, ofStoredLinks, ofBatched, ofChosen};
+ghost use Rattle.numbers.specs.Numbers.{ofIndex, ofOrder, ofRows, ofPath, ofComparison};
+ghost use Rattle.numbers.specs.Stored.{ofBytes, ofBatched, ofCosts, ofLinks, ofChosen};
 ghost use Rattle.kemotuiki.specs.Crossing.{crossed, crossedRows};
 ghost use Rattle.stored_costs.specs.Form.{oldCosts};
 ghost use Rattle.stored_links.specs.Form.{oldLinks};
 
 // The index of the division with the far side s.
 #[no_mangle]
-pub extern "C" fn kemotuiki_index(n: usize, t: &[u32], s: u64) -> KemotuikiAnswer
-    ensures { λ r. ⌜ r ≡ ofAnswer (indexAnswer limit n (now (t .entry)) s) ⌝ }
+pub extern "C" fn kemotuiki_index(n: usize, t: &[u32], s: u64) -> KemotuikiIndex
+    ensures { λ r. ⌜ r ≡ ofIndex (indexAnswer limit n (now (t .entry)) s) ⌝ }
 {
-    numbers::of_answer(index::index(n, t, s))
+    numbers::of_index(index::index(n, t, s))
 }
 
 // The order around the tree from first to last.
@@ -38,10 +46,10 @@ pub extern "C" fn kemotuiki_order(
     first: usize,
     last: usize,
     out: &mut [u32],
-) -> KemotuikiAnswer
-    ensures { λ r. ⌜ Left (crossed ofWritten (orderOutcome limit n (now (t .entry)) first last (now (out .entry)))) r (now (out .exit)) ⌝ }
+) -> KemotuikiOrder
+    ensures { λ r. ⌜ Left (crossed ofOrder (orderOutcome limit n (now (t .entry)) first last (now (out .entry)))) r (now (out .exit)) ⌝ }
 {
-    numbers::of_written(order::order(n, t, first, last, out))
+    numbers::of_order(order::order(n, t, first, last, out))
 }
 
 // The measured reading.
@@ -51,11 +59,11 @@ pub extern "C" fn kemotuiki_measured(
     t: &[u32],
     fars: &mut [u64],
     costs: &mut [u32],
-) -> KemotuikiAnswer
-    ensures { λ r. ⌜ LeftRows (crossedRows ofWritten (measuredOutcome limit n (now (t .entry)) (now (fars .entry)) (now (costs .entry)))) r
+) -> KemotuikiRows
+    ensures { λ r. ⌜ LeftRows (crossedRows ofRows (measuredOutcome limit n (now (t .entry)) (now (fars .entry)) (now (costs .entry)))) r
         (now (fars .exit)) (now (costs .exit)) ⌝ }
 {
-    numbers::of_written(tree::measured(n, t, fars, costs))
+    numbers::of_rows(tree::measured(n, t, fars, costs))
 }
 
 // The exact reading.
@@ -65,11 +73,11 @@ pub extern "C" fn kemotuiki_exact(
     t: &[u32],
     fars: &mut [u64],
     costs: &mut [u32],
-) -> KemotuikiAnswer
-    ensures { λ r. ⌜ LeftRows (crossedRows ofWritten (exactOutcome limit n (now (t .entry)) (now (fars .entry)) (now (costs .entry)))) r
+) -> KemotuikiRows
+    ensures { λ r. ⌜ LeftRows (crossedRows ofRows (exactOutcome limit n (now (t .entry)) (now (fars .entry)) (now (costs .entry)))) r
         (now (fars .exit)) (now (costs .exit)) ⌝ }
 {
-    numbers::of_written(tree::exact(n, t, fars, costs))
+    numbers::of_rows(tree::exact(n, t, fars, costs))
 }
 
 // The path cost of images i and j.
@@ -81,10 +89,10 @@ pub extern "C" fn kemotuiki_path(
     costs: &[u32],
     i: usize,
     j: usize,
-) -> KemotuikiAnswer
-    ensures { λ r. ⌜ r ≡ ofAnswer (pathOutcome limit n count (now (fars .entry)) (now (costs .entry)) i j) ⌝ }
+) -> KemotuikiPath
+    ensures { λ r. ⌜ r ≡ ofPath (pathOutcome limit n count (now (fars .entry)) (now (costs .entry)) i j) ⌝ }
 {
-    numbers::of_answer(routes::path(n, count, fars, costs, i, j))
+    numbers::of_path(routes::path(n, count, fars, costs, i, j))
 }
 
 // The upper row of each row.
@@ -95,10 +103,10 @@ pub extern "C" fn kemotuiki_upper_rows(
     fars: &[u64],
     costs: &[u32],
     out: &mut [u32],
-) -> KemotuikiAnswer
-    ensures { λ r. ⌜ Left (crossed ofWritten (upperOutcome limit n count (now (fars .entry)) (now (costs .entry)) (now (out .entry)))) r (now (out .exit)) ⌝ }
+) -> KemotuikiRows
+    ensures { λ r. ⌜ Left (crossed ofRows (upperOutcome limit n count (now (fars .entry)) (now (costs .entry)) (now (out .entry)))) r (now (out .exit)) ⌝ }
 {
-    numbers::of_written(routes::upper_rows(n, count, fars, costs, out))
+    numbers::of_rows(routes::upper_rows(n, count, fars, costs, out))
 }
 
 // The route of image i.
@@ -110,15 +118,15 @@ pub extern "C" fn kemotuiki_route(
     costs: &[u32],
     i: usize,
     out: &mut [u32],
-) -> KemotuikiAnswer
-    ensures { λ r. ⌜ Left (crossed ofWritten (routeOutcome limit n count (now (fars .entry)) (now (costs .entry)) i (now (out .entry)))) r (now (out .exit)) ⌝ }
+) -> KemotuikiRows
+    ensures { λ r. ⌜ Left (crossed ofRows (routeOutcome limit n count (now (fars .entry)) (now (costs .entry)) i (now (out .entry)))) r (now (out .exit)) ⌝ }
 {
-    numbers::of_written(routes::route(n, count, fars, costs, i, out))
+    numbers::of_rows(routes::route(n, count, fars, costs, i, out))
 }
 
 // Two tables compared by their trees.
 #[no_mangle]
-pub extern "C" fn kemotuiki_compare(n: usize, first: &[u32], second: &[u32]) -> KemotuikiAnswer
+pub extern "C" fn kemotuiki_compare(n: usize, first: &[u32], second: &[u32]) -> KemotuikiComparison
     ensures { λ r. ⌜ r ≡ ofComparison (comparison limit n (now (first .entry)) (now (second .entry))) ⌝ }
 {
     numbers::of_comparison(compare::compare(n, first, second))
@@ -126,10 +134,10 @@ pub extern "C" fn kemotuiki_compare(n: usize, first: &[u32], second: &[u32]) -> 
 
 // A cost table stored.
 #[no_mangle]
-pub extern "C" fn kemotuiki_write_costs(n: usize, t: &[u32], out: &mut [u8]) -> KemotuikiAnswer
-    ensures { λ r. ⌜ Left (crossed ofWritten (costs-writing.writeOutcome oldCosts n (now (t .entry)) (now (out .entry)))) r (now (out .exit)) ⌝ }
+pub extern "C" fn kemotuiki_write_costs(n: usize, t: &[u32], out: &mut [u8]) -> KemotuikiBytes
+    ensures { λ r. ⌜ Left (crossed ofBytes (costs-writing.writeOutcome oldCosts n (now (t .entry)) (now (out .entry)))) r (now (out .exit)) ⌝ }
 {
-    numbers::of_written(cost_writer::write_costs(n, t, out))
+    numbers::of_bytes(cost_writer::write_costs(n, t, out))
 }
 
 // A stored cost table read.
@@ -138,10 +146,10 @@ pub extern "C" fn kemotuiki_read_costs(
     bytes: &[u8],
     position: usize,
     out: &mut [u32],
-) -> KemotuikiAnswer
-    ensures { λ r. ⌜ Left (crossed ofStoredCosts (costs-reading.readOutcome oldCosts (now (bytes .entry)) position (now (out .entry)))) r (now (out .exit)) ⌝ }
+) -> KemotuikiCosts
+    ensures { λ r. ⌜ Left (crossed ofCosts (costs-reading.readOutcome oldCosts (now (bytes .entry)) position (now (out .entry)))) r (now (out .exit)) ⌝ }
 {
-    numbers::of_stored_costs(stored_costs::read_costs(bytes, position, out))
+    numbers::of_costs(stored_costs::read_costs(bytes, position, out))
 }
 
 // A link table stored.
@@ -152,11 +160,11 @@ pub extern "C" fn kemotuiki_write_links(
     fars: &[u64],
     costs: &[u32],
     out: &mut [u8],
-) -> KemotuikiAnswer
-    ensures { λ r. ⌜ Left (crossed ofWritten (links-writing.writeOutcome oldLinks n count (now (fars .entry)) (now (costs .entry))
+) -> KemotuikiBytes
+    ensures { λ r. ⌜ Left (crossed ofBytes (links-writing.writeOutcome oldLinks n count (now (fars .entry)) (now (costs .entry))
         (now (out .entry)))) r (now (out .exit)) ⌝ }
 {
-    numbers::of_written(link_writer::write_links(n, count, fars, costs, out))
+    numbers::of_bytes(link_writer::write_links(n, count, fars, costs, out))
 }
 
 // A stored link table read.
@@ -166,12 +174,12 @@ pub extern "C" fn kemotuiki_read_links(
     position: usize,
     fars: &mut [u64],
     costs: &mut [u32],
-) -> KemotuikiAnswer
-    ensures { λ r. ⌜ LeftRows (crossedRows ofStoredLinks
+) -> KemotuikiLinks
+    ensures { λ r. ⌜ LeftRows (crossedRows ofLinks
         (links-reading.readOutcome oldLinks (now (bytes .entry)) position (now (fars .entry)) (now (costs .entry)))) r (now (fars .exit))
         (now (costs .exit)) ⌝ }
 {
-    numbers::of_stored_links(stored_links::read_links(bytes, position, fars, costs))
+    numbers::of_links(stored_links::read_links(bytes, position, fars, costs))
 }
 
 // Link tables stored one after another.
@@ -182,7 +190,7 @@ pub extern "C" fn kemotuiki_write_batch(
     fars: &[u64],
     costs: &[u32],
     out: &mut [u8],
-) -> KemotuikiAnswer
+) -> KemotuikiBytes
     ensures { λ r. ⌜ Left (crossed ofBatched (batchOutcome oldLinks (now (ns .entry)) (now (counts .entry)) (now (fars .entry)) (now (costs .entry))
         (now (out .entry)))) r (now (out .exit)) ⌝ }
 {
@@ -191,7 +199,7 @@ pub extern "C" fn kemotuiki_write_batch(
 
 // Which of two stored link tables includes the other. A part of a buffer cannot cross, but its number and its used bytes say it.
 #[no_mangle]
-pub extern "C" fn kemotuiki_choice(first: &[u8], second: &[u8]) -> KemotuikiAnswer
+pub extern "C" fn kemotuiki_choice(first: &[u8], second: &[u8]) -> KemotuikiChoice
     ensures { λ r. ⌜ r ≡ ofChosen (choiceOf oldLinks (now (first .entry)) (now (second .entry))) ⌝ }
 {
     numbers::of_chosen(choice::choice(first, second))

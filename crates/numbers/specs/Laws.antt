@@ -1,2 +1,3 @@
--- Every kind of answer crosses and nothing is lost.
+-- Nothing is lost: each kind of answer is read back from its numbers.
 pub mod Kept
+pub mod KeptStored

@@ -1,4 +1,5 @@
--- What the contracts of `numbers` cite: the numbers of each answer.
+-- What the contracts of `numbers` cite: the head of an answer, and the numbers of each kind.
+pub mod Heads
 pub mod Numbers
 pub mod Stored
 -- Nothing is lost.

@@ -1,38 +1,50 @@
--- Document 01's number and values for each case of an answer, as the fields of one struct; those about stored tables are in Stored.antt. Assumes nothing.
-use Prim.Native.Nat.{ℕ}
+-- The struct of numbers for each case of an answer; those of bytes and stored tables are in Stored.antt. A refusal has no values: they are 0.
+-- Assumes nothing.
 use Rattle.ground.specs.declared.Answer.{Answer}
 use Rattle.ground.specs.declared.Answer.the-variants.{Value}
-use Rattle.ground.specs.declared.Refusal.{Refusal}
 use Rattle.ground.specs.declared.Written.{Written}
 use Rattle.ground.specs.declared.Written.the-variants.{Places}
 use Rattle.compare.specs.declared.Comparison.{Comparison}
 use Rattle.compare.specs.declared.Comparison.the-variants.{Compared}
-use Rattle.numbers.specs.declared.KemotuikiAnswer.{KemotuikiAnswer}
+use Rattle.numbers.specs.Heads.{accepted, refused}
+use Rattle.numbers.specs.declared.KemotuikiComparison.{KemotuikiComparison}
+use Rattle.numbers.specs.declared.KemotuikiIndex.{KemotuikiIndex}
+use Rattle.numbers.specs.declared.KemotuikiOrder.{KemotuikiOrder}
+use Rattle.numbers.specs.declared.KemotuikiPath.{KemotuikiPath}
+use Rattle.numbers.specs.declared.KemotuikiRows.{KemotuikiRows}
 use Rattle.ground.specs.declared.Answer.the-variants as answer
 use Rattle.ground.specs.declared.Written.the-variants as written
 use Rattle.compare.specs.declared.Comparison.the-variants as compared
 
--- accepted is number 0, with up to five values, unused ones 0
-abbrev pub accepted : ℕ → ℕ → ℕ → ℕ → ℕ → KemotuikiAnswer
-accepted v w x y z =
-    record { number = 0; table = 0; a = 0; b = 0; c = 0; d = 0; value = v; second = w; third = x; fourth = y; fifth = z }
+-- the index
+abbrev pub ofIndex : Answer → KemotuikiIndex
+ofIndex (Value v) = record { head = accepted; index = v }
+ofIndex (answer.Refused r) = record { head = refused 0 r; index = 0 }
 
--- a refusal's number and places, with the table's number beside them, and no value
-abbrev pub refused : ℕ → Refusal → KemotuikiAnswer
-refused m r =
-    record { number = r .number; table = m; a = r .a; b = r .b; c = r .c; d = r .d; value = 0; second = 0; third = 0; fourth = 0; fifth = 0 }
+-- the images written
+abbrev pub ofOrder : Written → KemotuikiOrder
+ofOrder (Places m) = record { head = accepted; images = m }
+ofOrder (written.Refused r) = record { head = refused 0 r; images = 0 }
 
--- the value
-abbrev pub ofAnswer : Answer → KemotuikiAnswer
-ofAnswer (Value v) = accepted v 0 0 0 0
-ofAnswer (answer.Refused r) = refused 0 r
+-- the rows written
+abbrev pub ofRows : Written → KemotuikiRows
+ofRows (Places m) = record { head = accepted; rows = m }
+ofRows (written.Refused r) = record { head = refused 0 r; rows = 0 }
 
--- the number of places written
-abbrev pub ofWritten : Written → KemotuikiAnswer
-ofWritten (Places m) = accepted m 0 0 0 0
-ofWritten (written.Refused r) = refused 0 r
+-- the path cost
+abbrev pub ofPath : Answer → KemotuikiPath
+ofPath (Value v) = record { head = accepted; cost = v }
+ofPath (answer.Refused r) = record { head = refused 0 r; cost = 0 }
 
 -- inner rows of the first and of the second, common far sides, the Robinson-Foulds count and what it stands over
-abbrev pub ofComparison : Comparison → KemotuikiAnswer
-ofComparison (Compared w) = accepted (w .first) (w .second) (w .common) (w .count) (w .over)
-ofComparison (compared.Refused m r) = refused m r
+abbrev pub ofComparison : Comparison → KemotuikiComparison
+ofComparison (Compared w) = record {
+  head = accepted;
+  «inner_first» = w .first;
+  «inner_second» = w .second;
+  common = w .common;
+  count = w .count;
+  over = w .over;
+}
+ofComparison (compared.Refused m r) =
+    record { head = refused m r; «inner_first» = 0; «inner_second» = 0; common = 0; count = 0; over = 0 }

@@ -1,157 +1,301 @@
-// Every answer of a public call as one struct of numbers, so that it can cross to C and Fortran.
+// Every answer of a public call as a struct of numbers, so that it can cross to C and Fortran. Each kind of answer has a struct of its own;
+// all begin with the same head. Every field is a machine word, so that no struct has padding.
 use batch::Batched;
 use choice::Chosen;
 use compare::Comparison;
-use counts::Difference;
 use ground::Answer;
 use ground::Refusal;
 use ground::Written;
 use stored_costs::StoredCosts;
 use stored_links::StoredLinks;
 ghost use mathlib.Core.Path.{_≡_};
-ghost use Rattle.numbers.specs.Numbers.{accepted, refused, ofAnswer, ofWritten, ofComparison};
-ghost use Rattle.numbers.specs.Stored.{ofStoredCosts, ofStoredLinks, ofBatched, ofChosen};
+ghost use Rattle.numbers.specs.Heads.{accepted, refused};
+ghost use Rattle.numbers.specs.Numbers.{ofIndex, ofOrder, ofRows, ofPath, ofComparison};
+ghost use Rattle.numbers.specs.Stored.{ofBytes, ofBatched, ofCosts, ofLinks, ofChosen};
 
-// An answer: the refusal's number, 0 where the call was accepted; the table that was refused, where a call takes more than one; the
-// refusal's places; and the values of an accepted call. Unused fields are 0.
+// The refusal's number, 0 where the call was accepted; the table that was refused, where a call takes more than one; the refusal's places.
+// Unused ones are 0.
 #[repr(C)]
-pub struct KemotuikiAnswer {
-    pub number: u32,
+pub struct KemotuikiHead {
+    pub number: usize,
     pub table: usize,
     pub a: usize,
     pub b: usize,
     pub c: usize,
     pub d: usize,
-    pub value: usize,
-    pub second: usize,
-    pub third: usize,
-    pub fourth: usize,
-    pub fifth: usize,
 }
 
-// Accepted, with up to three values; the comparison alone has five.
-fn accept(value: usize, second: usize, third: usize) -> KemotuikiAnswer
-    ensures { λ r. ⌜ r ≡ accepted value second third 0 0 ⌝ }
+// The index of a division.
+#[repr(C)]
+pub struct KemotuikiIndex {
+    pub head: KemotuikiHead,
+    pub index: usize,
+}
+
+// How many images were written.
+#[repr(C)]
+pub struct KemotuikiOrder {
+    pub head: KemotuikiHead,
+    pub images: usize,
+}
+
+// How many rows were written.
+#[repr(C)]
+pub struct KemotuikiRows {
+    pub head: KemotuikiHead,
+    pub rows: usize,
+}
+
+// The path cost of two images.
+#[repr(C)]
+pub struct KemotuikiPath {
+    pub head: KemotuikiHead,
+    pub cost: usize,
+}
+
+// Two trees compared: inner rows of each, common far sides, the Robinson-Foulds count and what it stands over.
+#[repr(C)]
+pub struct KemotuikiComparison {
+    pub head: KemotuikiHead,
+    pub inner_first: usize,
+    pub inner_second: usize,
+    pub common: usize,
+    pub count: usize,
+    pub over: usize,
+}
+
+// How many bytes were written.
+#[repr(C)]
+pub struct KemotuikiBytes {
+    pub head: KemotuikiHead,
+    pub used: usize,
+}
+
+// A stored cost table: its images, and the bytes that it used.
+#[repr(C)]
+pub struct KemotuikiCosts {
+    pub head: KemotuikiHead,
+    pub n: usize,
+    pub used: usize,
+}
+
+// A stored link table: its images, its rows, and the bytes that it used.
+#[repr(C)]
+pub struct KemotuikiLinks {
+    pub head: KemotuikiHead,
+    pub n: usize,
+    pub rows: usize,
+    pub used: usize,
+}
+
+// The table that was chosen, 1 or 2, and the bytes that it used.
+#[repr(C)]
+pub struct KemotuikiChoice {
+    pub head: KemotuikiHead,
+    pub chosen: usize,
+    pub used: usize,
+}
+
+// The head of an accepted answer.
+fn accept() -> KemotuikiHead
+    ensures { λ r. ⌜ r ≡ accepted ⌝ }
 {
-    KemotuikiAnswer {
+    KemotuikiHead {
         number: 0,
         table: 0,
         a: 0,
         b: 0,
         c: 0,
         d: 0,
-        value,
-        second,
-        third,
-        fourth: 0,
-        fifth: 0,
     }
 }
 
-// Refused, with the table's number beside the places.
-fn refuse(table: usize, r: Refusal) -> KemotuikiAnswer
+// The head of a refusal, with the table's number beside the places.
+fn refuse(table: usize, r: Refusal) -> KemotuikiHead
     ensures { λ x. ⌜ x ≡ refused table r ⌝ }
 {
-    KemotuikiAnswer {
-        number: r.number,
+    KemotuikiHead {
+        number: r.number as usize,
         table,
         a: r.a,
         b: r.b,
         c: r.c,
         d: r.d,
-        value: 0,
-        second: 0,
-        third: 0,
-        fourth: 0,
-        fifth: 0,
     }
 }
 
-// The comparison's five values.
-fn compared(w: Difference) -> KemotuikiAnswer
-    ensures { λ r. ⌜ r ≡ accepted (w .first) (w .second) (w .common) (w .count) (w .over) ⌝ }
-{
-    KemotuikiAnswer {
-        number: 0,
-        table: 0,
-        a: 0,
-        b: 0,
-        c: 0,
-        d: 0,
-        value: w.first,
-        second: w.second,
-        third: w.common,
-        fourth: w.count,
-        fifth: w.over,
-    }
-}
-
-// The numbers of an answer with one value.
-pub fn of_answer(x: Answer) -> KemotuikiAnswer
-    ensures { λ r. ⌜ r ≡ ofAnswer x ⌝ }
+// The numbers of an index.
+pub fn of_index(x: Answer) -> KemotuikiIndex
+    ensures { λ r. ⌜ r ≡ ofIndex x ⌝ }
 {
     match x {
-        Answer::Value(v) => accept(v as usize, 0, 0),
-        Answer::Refused(r) => refuse(0, r),
+        Answer::Value(v) => KemotuikiIndex {
+            head: accept(),
+            index: v as usize,
+        },
+        Answer::Refused(r) => KemotuikiIndex {
+            head: refuse(0, r),
+            index: 0,
+        },
     }
 }
 
-// The numbers of a call that wrote so many places.
-pub fn of_written(x: Written) -> KemotuikiAnswer
-    ensures { λ r. ⌜ r ≡ ofWritten x ⌝ }
+// The numbers of an order.
+pub fn of_order(x: Written) -> KemotuikiOrder
+    ensures { λ r. ⌜ r ≡ ofOrder x ⌝ }
 {
     match x {
-        Written::Places(count) => accept(count, 0, 0),
-        Written::Refused(r) => refuse(0, r),
+        Written::Places(images) => KemotuikiOrder {
+            head: accept(),
+            images,
+        },
+        Written::Refused(r) => KemotuikiOrder {
+            head: refuse(0, r),
+            images: 0,
+        },
+    }
+}
+
+// The numbers of a call that wrote rows.
+pub fn of_rows(x: Written) -> KemotuikiRows
+    ensures { λ r. ⌜ r ≡ ofRows x ⌝ }
+{
+    match x {
+        Written::Places(rows) => KemotuikiRows {
+            head: accept(),
+            rows,
+        },
+        Written::Refused(r) => KemotuikiRows {
+            head: refuse(0, r),
+            rows: 0,
+        },
+    }
+}
+
+// The numbers of a path cost.
+pub fn of_path(x: Answer) -> KemotuikiPath
+    ensures { λ r. ⌜ r ≡ ofPath x ⌝ }
+{
+    match x {
+        Answer::Value(v) => KemotuikiPath {
+            head: accept(),
+            cost: v as usize,
+        },
+        Answer::Refused(r) => KemotuikiPath {
+            head: refuse(0, r),
+            cost: 0,
+        },
     }
 }
 
 // The numbers of a comparison.
-pub fn of_comparison(x: Comparison) -> KemotuikiAnswer
+pub fn of_comparison(x: Comparison) -> KemotuikiComparison
     ensures { λ r. ⌜ r ≡ ofComparison x ⌝ }
 {
     match x {
-        Comparison::Compared(w) => compared(w),
-        Comparison::Refused(table, r) => refuse(table, r),
+        Comparison::Compared(w) => KemotuikiComparison {
+            head: accept(),
+            inner_first: w.first,
+            inner_second: w.second,
+            common: w.common,
+            count: w.count,
+            over: w.over,
+        },
+        Comparison::Refused(table, r) => KemotuikiComparison {
+            head: refuse(table, r),
+            inner_first: 0,
+            inner_second: 0,
+            common: 0,
+            count: 0,
+            over: 0,
+        },
     }
 }
 
-// The numbers of a stored cost table: n and the bytes used.
-pub fn of_stored_costs(x: StoredCosts) -> KemotuikiAnswer
-    ensures { λ r. ⌜ r ≡ ofStoredCosts x ⌝ }
+// The numbers of a call that wrote bytes.
+pub fn of_bytes(x: Written) -> KemotuikiBytes
+    ensures { λ r. ⌜ r ≡ ofBytes x ⌝ }
 {
     match x {
-        StoredCosts::Table { n, used } => accept(n, used, 0),
-        StoredCosts::Refused(r) => refuse(0, r),
+        Written::Places(used) => KemotuikiBytes {
+            head: accept(),
+            used,
+        },
+        Written::Refused(r) => KemotuikiBytes {
+            head: refuse(0, r),
+            used: 0,
+        },
     }
 }
 
-// The numbers of a stored link table: n, the row count and the bytes used.
-pub fn of_stored_links(x: StoredLinks) -> KemotuikiAnswer
-    ensures { λ r. ⌜ r ≡ ofStoredLinks x ⌝ }
-{
-    match x {
-        StoredLinks::Table { n, count, used } => accept(n, count, used),
-        StoredLinks::Refused(r) => refuse(0, r),
-    }
-}
-
-// The numbers of a batch: the bytes written.
-pub fn of_batched(x: Batched) -> KemotuikiAnswer
+// The numbers of a batch.
+pub fn of_batched(x: Batched) -> KemotuikiBytes
     ensures { λ r. ⌜ r ≡ ofBatched x ⌝ }
 {
     match x {
-        Batched::Bytes(used) => accept(used, 0, 0),
-        Batched::Refused(table, r) => refuse(table, r),
+        Batched::Bytes(used) => KemotuikiBytes {
+            head: accept(),
+            used,
+        },
+        Batched::Refused(table, r) => KemotuikiBytes {
+            head: refuse(table, r),
+            used: 0,
+        },
     }
 }
 
-// The numbers of a choice: the chosen table and its bytes used.
-pub fn of_chosen(x: Chosen) -> KemotuikiAnswer
+// The numbers of a stored cost table.
+pub fn of_costs(x: StoredCosts) -> KemotuikiCosts
+    ensures { λ r. ⌜ r ≡ ofCosts x ⌝ }
+{
+    match x {
+        StoredCosts::Table { n, used } => KemotuikiCosts {
+            head: accept(),
+            n,
+            used,
+        },
+        StoredCosts::Refused(r) => KemotuikiCosts {
+            head: refuse(0, r),
+            n: 0,
+            used: 0,
+        },
+    }
+}
+
+// The numbers of a stored link table.
+pub fn of_links(x: StoredLinks) -> KemotuikiLinks
+    ensures { λ r. ⌜ r ≡ ofLinks x ⌝ }
+{
+    match x {
+        StoredLinks::Table { n, count, used } => KemotuikiLinks {
+            head: accept(),
+            n,
+            rows: count,
+            used,
+        },
+        StoredLinks::Refused(r) => KemotuikiLinks {
+            head: refuse(0, r),
+            n: 0,
+            rows: 0,
+            used: 0,
+        },
+    }
+}
+
+// The numbers of a choice.
+pub fn of_chosen(x: Chosen) -> KemotuikiChoice
     ensures { λ r. ⌜ r ≡ ofChosen x ⌝ }
 {
     match x {
-        Chosen::Table(table, used) => accept(table, used, 0),
-        Chosen::Refused(table, r) => refuse(table, r),
+        Chosen::Table(chosen, used) => KemotuikiChoice {
+            head: accept(),
+            chosen,
+            used,
+        },
+        Chosen::Refused(table, r) => KemotuikiChoice {
+            head: refuse(table, r),
+            chosen: 0,
+            used: 0,
+        },
     }
 }

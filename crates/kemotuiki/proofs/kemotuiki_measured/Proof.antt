@@ -1,6 +1,6 @@
 -- `kemotuiki::kemotuiki_measured` meets its contract: the numbers of what the call promises, and the lent slices as it leaves them. Assumes nothing.
 use borrow.Author.Needs.{needs}
-use Rattle.numbers.specs.Numbers.{ofWritten}
+use Rattle.numbers.specs.Numbers.{ofRows}
 use Rattle.kemotuiki.specs.Laws.Crossing.{left-rows}
 use Rattle.kemotuiki.proofs.kemotuiki_measured.Statement.{statement}
 use Rattle.kemotuiki.proofs.kemotuiki_measured.Tie as tie
@@ -8,8 +8,8 @@ use Rattle.kemotuiki.proofs.kemotuiki_measured.Tie as tie
 measured-requires : tie.Need-measured-requires
 measured-requires c κs = search needs
 
-of-written-requires : tie.Need-of-written-requires
-of-written-requires c κs = search needs
+of-rows-requires : tie.Need-of-rows-requires
+of-rows-requires c κs = search needs
 
 same-length : tie.Need-same-length
 same-length c = search needs
@@ -18,8 +18,8 @@ same-length-2 : tie.Need-same-length-2
 same-length-2 c = search needs
 
 returns : tie.Need-returns
-returns c = left-rows ofWritten _ (c .before .before .before .before .before .measured .ensures) (c .of-written .ensures)
+returns c = left-rows ofRows _ (c .before .before .before .before .before .measured .ensures) (c .of-rows .ensures)
 
 pub kemotuiki-measured-spec : {M : Type 1} → statement M
 kemotuiki-measured-spec =
-    tie.close (tie.spec measured-requires of-written-requires same-length same-length-2 returns)
+    tie.close (tie.spec measured-requires of-rows-requires same-length same-length-2 returns)

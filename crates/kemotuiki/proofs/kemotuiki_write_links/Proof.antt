@@ -1,22 +1,22 @@
 -- `kemotuiki::kemotuiki_write_links` meets its contract: the numbers of what the call promises, and the lent slice as it leaves it. Assumes nothing.
 use borrow.Author.Needs.{needs}
 use Rattle.kemotuiki.specs.Laws.Crossing.{left-crossed}
-use Rattle.numbers.specs.Numbers.{ofWritten}
+use Rattle.numbers.specs.Stored.{ofBytes}
 use Rattle.kemotuiki.proofs.kemotuiki_write_links.Statement.{statement}
 use Rattle.kemotuiki.proofs.kemotuiki_write_links.Tie as tie
 
 write-links-requires : tie.Need-write-links-requires
 write-links-requires c κs = search needs
 
-of-written-requires : tie.Need-of-written-requires
-of-written-requires c κs = search needs
+of-bytes-requires : tie.Need-of-bytes-requires
+of-bytes-requires c κs = search needs
 
 same-length : tie.Need-same-length
 same-length c = search needs
 
 returns : tie.Need-returns
-returns c = left-crossed ofWritten _ (c .before .before .before .write-links .ensures) (c .of-written .ensures)
+returns c = left-crossed ofBytes _ (c .before .before .before .write-links .ensures) (c .of-bytes .ensures)
 
 pub kemotuiki-write-links-spec : {M : Type 1} → statement M
 kemotuiki-write-links-spec =
-    tie.close (tie.spec write-links-requires of-written-requires same-length returns)
+    tie.close (tie.spec write-links-requires of-bytes-requires same-length returns)

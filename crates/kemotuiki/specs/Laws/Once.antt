@@ -12,7 +12,7 @@ use Rattle.ground.specs.declared.Check.{Check}
 use Rattle.ground.specs.declared.Check.the-variants.{Passed, Refused}
 use Rattle.ground.specs.declared.Refusal.{Refusal}
 use Rattle.numbers.specs.Kept.{Kept, Numbered}
-use Rattle.numbers.specs.declared.KemotuikiAnswer.{KemotuikiAnswer}
+use Rattle.numbers.specs.declared.KemotuikiHead.{KemotuikiHead}
 
 module _ {A : Type 0} (refuse : ℕ → Refusal → A) (same : (m n : ℕ) (p q : Refusal) → refuse m p ≡ refuse n q → p ≡ q) (y : A) (plain : Numbered refuse y) where
   decided-numbered : (l : List Step) → Each l Own → Numbered refuse (decided refuse l y)
@@ -30,7 +30,7 @@ module _ {A : Type 0} (refuse : ℕ → Refusal → A) (same : (m n : ℕ) (p q 
   decides-numbered {l} d m q e = decided-numbered l (d .own) m q (sym (d .same) ∙ e)
 
 -- so two answers with the same numbers are the same
-pub crosses-once : {A : Type 0} {numbers : A → KemotuikiAnswer} {refuse : ℕ → Refusal → A} → Kept numbers refuse
+pub crosses-once : {A K : Type 0} {head : K → KemotuikiHead} {numbers : A → K} {refuse : ℕ → Refusal → A} → Kept head numbers refuse
     → ((m n : ℕ) (p q : Refusal) → refuse m p ≡ refuse n q → p ≡ q) → {k l : List Step} {y z x w : A} → Numbered refuse y → Numbered refuse z
     → Decides refuse k y x → Decides refuse l z w → numbers x ≡ numbers w → x ≡ w
 crosses-once {refuse = refuse} h same {y = y} {z} {x} {w} p q d e =

@@ -1,7 +1,5 @@
 -- `numbers::of_batched` meets its contract: the bytes written, or the refusal with its table. Assumes nothing.
-use mathlib.Core.Path.{ap, sym, _∙_}
 use borrow.Author.Needs.{needs}
-use Rattle.numbers.specs.Stored.{ofBatched}
 use Rattle.numbers.proofs.of_batched.Statement.{statement}
 use Rattle.numbers.proofs.of_batched.Tie as tie
 
@@ -18,10 +16,10 @@ refuse-requires : tie.Need-refuse-requires
 refuse-requires c κs = search needs
 
 returns : tie.Need-returns
-returns c = c .accept .ensures ∙ sym (ap ofBatched (c .before .before .x .given .1))
+returns c = rw (c .accept .ensures, c .before .before .x .given .1)
 
 returns-2 : tie.Need-returns-2
-returns-2 c = c .refuse .ensures ∙ sym (ap ofBatched (c .before .before .x2 .given .1))
+returns-2 c = rw (c .refuse .ensures, c .before .before .x2 .given .1)
 
 pub of-batched-spec : {M : Type 1} → statement M
 of-batched-spec =

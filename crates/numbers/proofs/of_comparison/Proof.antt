@@ -1,15 +1,13 @@
 -- `numbers::of_comparison` meets its contract: five values, or the refusal with its table. Assumes nothing.
-use mathlib.Core.Path.{ap, sym, _∙_}
 use borrow.Author.Needs.{needs}
-use Rattle.numbers.specs.Numbers.{ofComparison}
 use Rattle.numbers.proofs.of_comparison.Statement.{statement}
 use Rattle.numbers.proofs.of_comparison.Tie as tie
 
 enum-known-x : tie.Need-enum-known-x
 enum-known-x c = search needs
 
-compared-requires : tie.Need-compared-requires
-compared-requires c κs = search needs
+accept-requires : tie.Need-accept-requires
+accept-requires c κs = search needs
 
 enum-known-x-2 : tie.Need-enum-known-x-2
 enum-known-x-2 c = search needs
@@ -18,12 +16,12 @@ refuse-requires : tie.Need-refuse-requires
 refuse-requires c κs = search needs
 
 returns : tie.Need-returns
-returns c = c .compared .ensures ∙ sym (ap ofComparison (c .before .before .x .given .1))
+returns c = rw (c .accept .ensures, c .before .before .x .given .1)
 
 returns-2 : tie.Need-returns-2
-returns-2 c = c .refuse .ensures ∙ sym (ap ofComparison (c .before .before .x2 .given .1))
+returns-2 c = rw (c .refuse .ensures, c .before .before .x2 .given .1)
 
 pub of-comparison-spec : {M : Type 1} → statement M
 of-comparison-spec =
     tie.close
-    (tie.spec enum-known-x compared-requires enum-known-x-2 refuse-requires returns returns-2)
+    (tie.spec enum-known-x accept-requires enum-known-x-2 refuse-requires returns returns-2)
