@@ -480,9 +480,11 @@ contains
     subroutine place_by_rows(r, t)
         class(kemotuiki_answer), intent(inout) :: r
         integer(int32), intent(in) :: t(:, :)
+        integer(int32), allocatable :: by_rows(:, :)
         type(one_value) :: again
         if (r%number /= kemotuiki_entry_too_large) return
-        again = c_index(size(t, 1, word), transpose(t), size(t, kind=word), 0_c_int64_t)
+        by_rows = transpose(t)
+        again = c_index(size(t, 1, word), by_rows, size(t, kind=word), 0_c_int64_t)
         r%a = again%head(3)
         r%b = again%head(4)
     end subroutine
