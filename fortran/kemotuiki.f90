@@ -480,10 +480,10 @@ contains
     subroutine place_by_rows(r, t)
         class(kemotuiki_answer), intent(inout) :: r
         integer(int32), intent(in) :: t(:, :)
-        integer(int32), allocatable :: by_rows(:, :)
+        integer(int32) :: by_rows(kemotuiki_images**2)
         type(one_value) :: again
         if (r%number /= kemotuiki_entry_too_large) return
-        by_rows = transpose(t)
+        by_rows(:size(t)) = reshape(transpose(t), [size(t)])
         again = c_index(size(t, 1, word), by_rows, size(t, kind=word), 0_c_int64_t)
         r%a = again%head(3)
         r%b = again%head(4)
