@@ -19,27 +19,27 @@ static uint8_t cost_bytes[KEMOTUIKI_COST_BYTES], link_bytes[KEMOTUIKI_LINK_BYTES
 static volatile size_t sink;
 static int printing;
 
-static void ours_exact(void) { sink = kemotuiki_exact(n, tree, n * n, fars, 125, costs, 125).value; }
+static void ours_exact(void) { sink = kemotuiki_exact(n, tree, n * n, fars, 125, costs, 125).rows; }
 static void c_exact(void) { plain_exact(n, tree, n * n, plain_fars, plain_costs, 125, &plain_rows); sink = plain_rows; }
 static void c_exact_all(void) { plain_exact_all_fours(n, tree, n * n, plain_fars, plain_costs, 125, &plain_rows); sink = plain_rows; }
-static void ours_measured(void) { sink = kemotuiki_measured(n, noisy, n * n, fars, 125, costs, 125).value; }
+static void ours_measured(void) { sink = kemotuiki_measured(n, noisy, n * n, fars, 125, costs, 125).rows; }
 static void c_measured(void) { plain_measured(n, noisy, n * n, plain_fars, plain_costs, 125, &plain_rows); sink = plain_rows; }
-static void ours_index(void) { sink = kemotuiki_index(n, tree, n * n, inner_side).value; }
+static void ours_index(void) { sink = kemotuiki_index(n, tree, n * n, inner_side).index; }
 static void c_index(void) { size_t v = 0; plain_index(n, tree, n * n, inner_side, &v); sink = v; }
-static void ours_order(void) { sink = kemotuiki_order(n, tree, n * n, 1, n, out, 64).value + out[1]; }
+static void ours_order(void) { sink = kemotuiki_order(n, tree, n * n, 1, n, out, 64).images + out[1]; }
 static void c_order(void) { plain_order(n, tree, n * n, 1, n, plain_out, 64); sink = n + plain_out[1]; }
-static void ours_compare(void) { KemotuikiAnswer r = kemotuiki_compare(n, tree, n * n, other, n * n); sink = r.value + 1000 * r.fourth; }
+static void ours_compare(void) { KemotuikiComparison r = kemotuiki_compare(n, tree, n * n, other, n * n); sink = r.inner_first + 1000 * r.count; }
 static void c_compare(void) { size_t v[5] = {0}; plain_compare(n, tree, n * n, other, n * n, v); sink = v[0] + 1000 * v[3]; }
-static void ours_write_costs(void) { sink = kemotuiki_write_costs(n, tree, n * n, cost_bytes, sizeof cost_bytes).value; }
+static void ours_write_costs(void) { sink = kemotuiki_write_costs(n, tree, n * n, cost_bytes, sizeof cost_bytes).used; }
 static void c_write_costs(void) { size_t u = 0; plain_write_costs(n, tree, n * n, bytes, sizeof bytes, &u); sink = u; }
-static void ours_read_costs(void) { sink = kemotuiki_read_costs(cost_bytes, stored_costs, 0, back, 4096).second; }
+static void ours_read_costs(void) { sink = kemotuiki_read_costs(cost_bytes, stored_costs, 0, back, 4096).used; }
 static void c_read_costs(void) { size_t m = 0, u = 0; plain_read_costs(cost_bytes, stored_costs, 0, back, 4096, &m, &u); sink = u; }
-static void ours_write_links(void) { sink = kemotuiki_write_links(n, rows, fars, rows, costs, rows, link_bytes, sizeof link_bytes).value; }
+static void ours_write_links(void) { sink = kemotuiki_write_links(n, rows, fars, rows, costs, rows, link_bytes, sizeof link_bytes).used; }
 static void c_write_links(void) { size_t u = 0; plain_write_links(n, rows, fars, costs, bytes, sizeof bytes, &u); sink = u; }
-static void ours_read_links(void) { sink = kemotuiki_read_links(link_bytes, stored_links, 0, plain_fars, 125, plain_costs, 125).third; }
+static void ours_read_links(void) { sink = kemotuiki_read_links(link_bytes, stored_links, 0, plain_fars, 125, plain_costs, 125).used; }
 static void c_read_links(void) { size_t m = 0, k = 0, u = 0; plain_read_links(link_bytes, stored_links, 0, plain_fars, plain_costs, 125, &m, &k, &u); sink = u; }
 
-static void ours_choice(void) { KemotuikiAnswer r = kemotuiki_choice(fewer_bytes, stored_fewer, link_bytes, stored_links); sink = r.value + 10 * r.second; }
+static void ours_choice(void) { KemotuikiChoice r = kemotuiki_choice(fewer_bytes, stored_fewer, link_bytes, stored_links); sink = r.chosen + 10 * r.used; }
 static void c_choice(void) { size_t k = 0, u = 0; plain_choice(fewer_bytes, stored_fewer, link_bytes, stored_links, &k, &u); sink = k + 10 * u; }
 
 /* The same tree with every second inner link left out, stored: what the whole tree is chosen against. */
@@ -50,7 +50,7 @@ static void store_fewer(void) {
         if (!own && inner++ % 2) continue;
         plain_fars[kept] = fars[i], plain_costs[kept++] = costs[i];
     }
-    stored_fewer = kemotuiki_write_links(n, kept, plain_fars, kept, plain_costs, kept, fewer_bytes, sizeof fewer_bytes).value;
+    stored_fewer = kemotuiki_write_links(n, kept, plain_fars, kept, plain_costs, kept, fewer_bytes, sizeof fewer_bytes).used;
 }
 
 static void race_both(const char *name, Call *ours, Call *plain) {
@@ -77,12 +77,12 @@ static int all_calls(void) {
         memcpy(noisy, tree, sizeof noisy);
         raise(n, noisy);
         race_both("exact", ours_exact, c_exact);
-        rows = kemotuiki_exact(n, tree, n * n, fars, 125, costs, 125).value;
+        rows = kemotuiki_exact(n, tree, n * n, fars, 125, costs, 125).rows;
         if (plain_rows != rows || memcmp(fars, plain_fars, rows * 8) || memcmp(costs, plain_costs, rows * 4)) return 1;
         inner_side = fars[rows / 2];
         race_both("exact, C over all fours", ours_exact, c_exact_all);
         race_both("measured", ours_measured, c_measured);
-        rows = kemotuiki_exact(n, tree, n * n, fars, 125, costs, 125).value;
+        rows = kemotuiki_exact(n, tree, n * n, fars, 125, costs, 125).rows;
         race_both("index", ours_index, c_index);
         race_both("order", ours_order, c_order);
         if (memcmp(out, plain_out, n * 4)) return 1;

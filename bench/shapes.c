@@ -18,12 +18,14 @@ static size_t n, rows;
 static uint32_t table[4096], costs[125];
 static uint64_t fars[125];
 
-static void archive(void) { rows = kemotuiki_measured(n, table, n * n, fars, 125, costs, 125).value; }
+static void archive(void) { rows = kemotuiki_measured(n, table, n * n, fars, 125, costs, 125).rows; }
 static void chains(void) { plain_measured(n, table, n * n, fars, costs, 125, &rows); }
 static void before(void) { plain_measured_before(n, table, n * n, fars, costs, 125, &rows); }
 #ifdef EARLIER
-KemotuikiAnswer earlier_measured(size_t n, const uint32_t *t, size_t t_count, uint64_t *fars, size_t fars_count, uint32_t *costs, size_t costs_count);
-static void earlier(void) { rows = earlier_measured(n, table, n * n, fars, 125, costs, 125).value; }
+/* The answers of all versions have at most eleven words, with the rows in the seventh. */
+typedef struct { size_t words[11]; } Earlier;
+Earlier earlier_measured(size_t n, const uint32_t *t, size_t t_count, uint64_t *fars, size_t fars_count, uint32_t *costs, size_t costs_count);
+static void earlier(void) { rows = earlier_measured(n, table, n * n, fars, 125, costs, 125).words[6]; }
 static Call *const calls[] = {archive, chains, before, earlier};
 static const char head[] = "| Table | n | archive, µs | C, µs | archive / C | before in C, µs | before / archive | earlier archive, µs | earlier / archive |\n|---|---|---|---|---|---|---|---|---|\n";
 #else

@@ -101,21 +101,27 @@ static uint8_t *read8(Lent *l) {
 
 /* ---- printing an answer and the lent outputs ---- */
 
-static void answer(KemotuikiAnswer r, int values, int tables) {
-    size_t v[5] = {r.value, r.second, r.third, r.fourth, r.fifth};
-    printf("%u", r.number);
-    if (r.number) {
-        if (tables) printf(" %zu", r.table);
-        else if (r.table) fault("a table's number from a call with one table");
-        printf(" %zu %zu %zu %zu", r.a, r.b, r.c, r.d);
-        for (int i = 0; i < 5; i++)
-            if (v[i]) fault("a value beside a refusal");
-    } else {
-        for (int i = 0; i < values; i++) printf(" %zu", v[i]);
-        for (int i = values; i < 5; i++)
-            if (v[i]) fault("an unused value is not 0");
-        if (r.table || r.a || r.b || r.c || r.d) fault("places beside an accepted answer");
+/*
+ * The number and, of a refusal, its places; 1 where the call was accepted, and the caller prints the values. All answers are
+ * words without padding: the fields by their names are compared with the words in front, and behind a refusal all words are 0.
+ */
+#define ANSWER(r, tables) answer(KEMOTUIKI_HEAD(r), &(r), sizeof(r) / sizeof(size_t), tables)
+
+static int answer(size_t number, size_t table, size_t a, size_t b, size_t c, size_t d, const void *whole, size_t size, int tables) {
+    size_t named[6] = {number, table, a, b, c, d}, words[11];
+    memcpy(words, whole, size * sizeof(size_t));
+    if (memcmp(words, named, sizeof named)) fault("the head does not stand in front");
+    printf("%zu", number);
+    if (!number) {
+        if (table || a || b || c || d) fault("places beside an accepted answer");
+        return 1;
     }
+    if (tables) printf(" %zu", table);
+    else if (table) fault("a table's number from a call with one table");
+    printf(" %zu %zu %zu %zu", a, b, c, d);
+    for (size_t i = 6; i < size; i++)
+        if (words[i]) fault("a value beside a refusal");
+    return 0;
 }
 
 static void show32(const uint32_t *p, size_t count) {
@@ -133,8 +139,6 @@ static void show8(const uint8_t *p, size_t count) {
     for (size_t i = 0; i < count; i++) printf(" %u", p[i]);
 }
 
-static size_t places(KemotuikiAnswer r, size_t count, size_t width) { return r.number ? 0 : count * width; }
-
 /* ---- the calls ---- */
 
 static void do_index(void) {
@@ -142,7 +146,8 @@ static void do_index(void) {
     size_t n = number();
     uint32_t *t = read32(&lt);
     uint64_t s = number();
-    answer(kemotuiki_index(n, t, lt.count, s), 1, 0);
+    KemotuikiIndex r = kemotuiki_index(n, t, lt.count, s);
+    if (ANSWER(r, 0)) printf(" %zu", r.index);
     settle(&lt, 0);
 }
 
@@ -152,14 +157,14 @@ static void do_order(void) {
     uint32_t *t = read32(&lt);
     size_t first = number(), last = number();
     uint32_t *out = read32(&lo);
-    KemotuikiAnswer r = kemotuiki_order(n, t, lt.count, first, last, out, lo.count);
-    answer(r, 1, 0);
+    KemotuikiOrder r = kemotuiki_order(n, t, lt.count, first, last, out, lo.count);
+    if (ANSWER(r, 0)) printf(" %zu", r.images);
     show32(out, lo.count);
     settle(&lt, 0);
-    settle(&lo, places(r, r.value, 4));
+    settle(&lo, r.images * 4);
 }
 
-typedef KemotuikiAnswer Reading(size_t, const uint32_t *, size_t, uint64_t *, size_t, uint32_t *, size_t);
+typedef KemotuikiRows Reading(size_t, const uint32_t *, size_t, uint64_t *, size_t, uint32_t *, size_t);
 
 static void reading(Reading *call) {
     Lent lt, lf, lc;
@@ -167,13 +172,13 @@ static void reading(Reading *call) {
     uint32_t *t = read32(&lt);
     uint64_t *fars = read64(&lf);
     uint32_t *costs = read32(&lc);
-    KemotuikiAnswer r = call(n, t, lt.count, fars, lf.count, costs, lc.count);
-    answer(r, 1, 0);
+    KemotuikiRows r = call(n, t, lt.count, fars, lf.count, costs, lc.count);
+    if (ANSWER(r, 0)) printf(" %zu", r.rows);
     show64(fars, lf.count);
     show32(costs, lc.count);
     settle(&lt, 0);
-    settle(&lf, places(r, r.value, 8));
-    settle(&lc, places(r, r.value, 4));
+    settle(&lf, r.rows * 8);
+    settle(&lc, r.rows * 4);
 }
 
 static void do_measured(void) { reading(kemotuiki_measured); }
@@ -185,7 +190,8 @@ static void do_path(void) {
     uint64_t *fars = read64(&lf);
     uint32_t *costs = read32(&lc);
     size_t i = number(), j = number();
-    answer(kemotuiki_path(n, count, fars, lf.count, costs, lc.count, i, j), 1, 0);
+    KemotuikiPath r = kemotuiki_path(n, count, fars, lf.count, costs, lc.count, i, j);
+    if (ANSWER(r, 0)) printf(" %zu", r.cost);
     settle(&lf, 0);
     settle(&lc, 0);
 }
@@ -195,12 +201,12 @@ static void do_upper_rows(void) {
     size_t n = number(), count = number();
     uint64_t *fars = read64(&lf);
     uint32_t *costs = read32(&lc), *out = read32(&lo);
-    KemotuikiAnswer r = kemotuiki_upper_rows(n, count, fars, lf.count, costs, lc.count, out, lo.count);
-    answer(r, 1, 0);
+    KemotuikiRows r = kemotuiki_upper_rows(n, count, fars, lf.count, costs, lc.count, out, lo.count);
+    if (ANSWER(r, 0)) printf(" %zu", r.rows);
     show32(out, lo.count);
     settle(&lf, 0);
     settle(&lc, 0);
-    settle(&lo, places(r, r.value, 4));
+    settle(&lo, r.rows * 4);
 }
 
 static void do_route(void) {
@@ -210,19 +216,20 @@ static void do_route(void) {
     uint32_t *costs = read32(&lc);
     size_t i = number();
     uint32_t *out = read32(&lo);
-    KemotuikiAnswer r = kemotuiki_route(n, count, fars, lf.count, costs, lc.count, i, out, lo.count);
-    answer(r, 1, 0);
+    KemotuikiRows r = kemotuiki_route(n, count, fars, lf.count, costs, lc.count, i, out, lo.count);
+    if (ANSWER(r, 0)) printf(" %zu", r.rows);
     show32(out, lo.count);
     settle(&lf, 0);
     settle(&lc, 0);
-    settle(&lo, places(r, r.value, 4));
+    settle(&lo, r.rows * 4);
 }
 
 static void do_compare(void) {
     Lent la, lb;
     size_t n = number();
     uint32_t *first = read32(&la), *second = read32(&lb);
-    answer(kemotuiki_compare(n, first, la.count, second, lb.count), 5, 1);
+    KemotuikiComparison r = kemotuiki_compare(n, first, la.count, second, lb.count);
+    if (ANSWER(r, 1)) printf(" %zu %zu %zu %zu %zu", r.inner_first, r.inner_second, r.common, r.count, r.over);
     settle(&la, 0);
     settle(&lb, 0);
 }
@@ -232,11 +239,11 @@ static void do_write_costs(void) {
     size_t n = number();
     uint32_t *t = read32(&lt);
     uint8_t *out = read8(&lo);
-    KemotuikiAnswer r = kemotuiki_write_costs(n, t, lt.count, out, lo.count);
-    answer(r, 1, 0);
+    KemotuikiBytes r = kemotuiki_write_costs(n, t, lt.count, out, lo.count);
+    if (ANSWER(r, 0)) printf(" %zu", r.used);
     show8(out, lo.count);
     settle(&lt, 0);
-    settle(&lo, places(r, r.value, 1));
+    settle(&lo, r.used);
 }
 
 static void do_read_costs(void) {
@@ -244,11 +251,11 @@ static void do_read_costs(void) {
     uint8_t *bytes = read8(&lb);
     size_t position = number();
     uint32_t *out = read32(&lo);
-    KemotuikiAnswer r = kemotuiki_read_costs(bytes, lb.count, position, out, lo.count);
-    answer(r, 2, 0);
+    KemotuikiCosts r = kemotuiki_read_costs(bytes, lb.count, position, out, lo.count);
+    if (ANSWER(r, 0)) printf(" %zu %zu", r.n, r.used);
     show32(out, lo.count);
     settle(&lb, 0);
-    settle(&lo, places(r, r.value * r.value, 4));
+    settle(&lo, r.n * r.n * 4);
 }
 
 static void do_write_links(void) {
@@ -257,12 +264,12 @@ static void do_write_links(void) {
     uint64_t *fars = read64(&lf);
     uint32_t *costs = read32(&lc);
     uint8_t *out = read8(&lo);
-    KemotuikiAnswer r = kemotuiki_write_links(n, count, fars, lf.count, costs, lc.count, out, lo.count);
-    answer(r, 1, 0);
+    KemotuikiBytes r = kemotuiki_write_links(n, count, fars, lf.count, costs, lc.count, out, lo.count);
+    if (ANSWER(r, 0)) printf(" %zu", r.used);
     show8(out, lo.count);
     settle(&lf, 0);
     settle(&lc, 0);
-    settle(&lo, places(r, r.value, 1));
+    settle(&lo, r.used);
 }
 
 static void do_read_links(void) {
@@ -271,13 +278,13 @@ static void do_read_links(void) {
     size_t position = number();
     uint64_t *fars = read64(&lf);
     uint32_t *costs = read32(&lc);
-    KemotuikiAnswer r = kemotuiki_read_links(bytes, lb.count, position, fars, lf.count, costs, lc.count);
-    answer(r, 3, 0);
+    KemotuikiLinks r = kemotuiki_read_links(bytes, lb.count, position, fars, lf.count, costs, lc.count);
+    if (ANSWER(r, 0)) printf(" %zu %zu %zu", r.n, r.rows, r.used);
     show64(fars, lf.count);
     show32(costs, lc.count);
     settle(&lb, 0);
-    settle(&lf, places(r, r.second, 8));
-    settle(&lc, places(r, r.second, 4));
+    settle(&lf, r.rows * 8);
+    settle(&lc, r.rows * 4);
 }
 
 static void do_write_batch(void) {
@@ -286,22 +293,22 @@ static void do_write_batch(void) {
     uint64_t *fars = read64(&lf);
     uint32_t *costs = read32(&lc);
     uint8_t *out = read8(&lo);
-    KemotuikiAnswer r = kemotuiki_write_batch(ns, ln.count, counts, lm.count, fars, lf.count, costs, lc.count, out, lo.count);
-    answer(r, 1, 1);
+    KemotuikiBytes r = kemotuiki_write_batch(ns, ln.count, counts, lm.count, fars, lf.count, costs, lc.count, out, lo.count);
+    if (ANSWER(r, 1)) printf(" %zu", r.used);
     show8(out, lo.count);
     settle(&ln, 0);
     settle(&lm, 0);
     settle(&lf, 0);
     settle(&lc, 0);
-    settle(&lo, places(r, r.value, 1));
+    settle(&lo, r.used);
 }
 
 static void do_choice(void) {
     Lent la, lb;
     uint8_t *first = read8(&la), *second = read8(&lb);
-    KemotuikiAnswer r = kemotuiki_choice(first, la.count, second, lb.count);
-    answer(r, 2, 1);
-    show8(r.value == 1 ? first : second, r.second);
+    KemotuikiChoice r = kemotuiki_choice(first, la.count, second, lb.count);
+    if (ANSWER(r, 1)) printf(" %zu %zu", r.chosen, r.used);
+    show8(r.chosen == 1 ? first : second, r.used);
     settle(&la, 0);
     settle(&lb, 0);
 }
@@ -340,10 +347,19 @@ static int cases(const char *folder) {
 
 /* ---- null pointers with count 0, and numbers too large for anything ---- */
 
-static void expect(const char *name, KemotuikiAnswer r, uint32_t want, size_t place) {
+/* The whole answer of one call: refused by this number, at this place and of this table, and all other words 0. */
+#define EXPECT(Kind, name, arguments, want, place, table) \
+    do { \
+        Kind r = kemotuiki_##name arguments; \
+        expect(#name, &r, sizeof r / sizeof(size_t), want, place, table); \
+    } while (0)
+
+static void expect(const char *name, const void *answer, size_t size, size_t want, size_t place, size_t table) {
+    size_t words[11], wanted[11] = {want, table, place};
     call_name = name;
-    if (r.number != want || r.a != place || r.b || r.c || r.d || r.table || r.value || r.second || r.third || r.fourth || r.fifth) {
-        fprintf(stderr, "%s: refusal %u at %zu, not %u at %zu\n", name, r.number, r.a, want, place);
+    memcpy(words, answer, size * sizeof(size_t));
+    if (memcmp(words, wanted, size * sizeof(size_t))) {
+        fprintf(stderr, "%s: refusal %zu at %zu of table %zu, not %zu at %zu of %zu\n", name, words[0], words[2], words[1], want, place, table);
         faults++;
     }
 }
@@ -353,16 +369,16 @@ static void no_images(void) {
     static const size_t bad[] = {0, 1, 2, 65, 66, 4294967295u, (size_t)1 << 32, ((size_t)1 << 32) + 3, SIZE_MAX / 2, SIZE_MAX};
     for (size_t k = 0; k < sizeof bad / sizeof *bad; k++) {
         size_t n = bad[k];
-        expect("index", kemotuiki_index(n, NULL, 0, 2), 1, n);
-        expect("order", kemotuiki_order(n, NULL, 0, 1, 2, NULL, 0), 1, n);
-        expect("measured", kemotuiki_measured(n, NULL, 0, NULL, 0, NULL, 0), 1, n);
-        expect("exact", kemotuiki_exact(n, NULL, 0, NULL, 0, NULL, 0), 1, n);
-        expect("path", kemotuiki_path(n, n, NULL, 0, NULL, 0, 1, 2), 1, n);
-        expect("upper_rows", kemotuiki_upper_rows(n, n, NULL, 0, NULL, 0, NULL, 0), 1, n);
-        expect("route", kemotuiki_route(n, n, NULL, 0, NULL, 0, 1, NULL, 0), 1, n);
-        expect("compare", kemotuiki_compare(n, NULL, 0, NULL, 0), 1, n);
-        expect("write_costs", kemotuiki_write_costs(n, NULL, 0, NULL, 0), 1, n);
-        expect("write_links", kemotuiki_write_links(n, n, NULL, 0, NULL, 0, NULL, 0), 1, n);
+        EXPECT(KemotuikiIndex, index, (n, NULL, 0, 2), KEMOTUIKI_BAD_N, n, 0);
+        EXPECT(KemotuikiOrder, order, (n, NULL, 0, 1, 2, NULL, 0), KEMOTUIKI_BAD_N, n, 0);
+        EXPECT(KemotuikiRows, measured, (n, NULL, 0, NULL, 0, NULL, 0), KEMOTUIKI_BAD_N, n, 0);
+        EXPECT(KemotuikiRows, exact, (n, NULL, 0, NULL, 0, NULL, 0), KEMOTUIKI_BAD_N, n, 0);
+        EXPECT(KemotuikiPath, path, (n, n, NULL, 0, NULL, 0, 1, 2), KEMOTUIKI_BAD_N, n, 0);
+        EXPECT(KemotuikiRows, upper_rows, (n, n, NULL, 0, NULL, 0, NULL, 0), KEMOTUIKI_BAD_N, n, 0);
+        EXPECT(KemotuikiRows, route, (n, n, NULL, 0, NULL, 0, 1, NULL, 0), KEMOTUIKI_BAD_N, n, 0);
+        EXPECT(KemotuikiComparison, compare, (n, NULL, 0, NULL, 0), KEMOTUIKI_BAD_N, n, 0);
+        EXPECT(KemotuikiBytes, write_costs, (n, NULL, 0, NULL, 0), KEMOTUIKI_BAD_N, n, 0);
+        EXPECT(KemotuikiBytes, write_links, (n, n, NULL, 0, NULL, 0, NULL, 0), KEMOTUIKI_BAD_N, n, 0);
     }
 }
 
@@ -371,35 +387,29 @@ static void no_places(void) {
     static const size_t good[] = {3, 4, 33, 64};
     for (size_t k = 0; k < sizeof good / sizeof *good; k++) {
         size_t n = good[k];
-        expect("index", kemotuiki_index(n, NULL, 0, UINT64_MAX), 2, 0);
-        expect("order", kemotuiki_order(n, NULL, 0, SIZE_MAX, SIZE_MAX, NULL, 0), 2, 0);
-        expect("measured", kemotuiki_measured(n, NULL, 0, NULL, 0, NULL, 0), 2, 0);
-        expect("exact", kemotuiki_exact(n, NULL, 0, NULL, 0, NULL, 0), 2, 0);
-        expect("write_costs", kemotuiki_write_costs(n, NULL, 0, NULL, 0), 2, 0);
-        expect("path", kemotuiki_path(n, n, NULL, 0, NULL, 0, SIZE_MAX, SIZE_MAX), 2, 0);
-        expect("path", kemotuiki_path(n, SIZE_MAX, NULL, 0, NULL, 0, 1, 2), 10, SIZE_MAX);
-        expect("upper_rows", kemotuiki_upper_rows(n, SIZE_MAX, NULL, 0, NULL, 0, NULL, 0), 10, SIZE_MAX);
-        expect("route", kemotuiki_route(n, 2 * n - 2, NULL, 0, NULL, 0, 1, NULL, 0), 10, 2 * n - 2);
-        expect("write_links", kemotuiki_write_links(n, n - 1, NULL, 0, NULL, 0, NULL, 0), 10, n - 1);
-        KemotuikiAnswer r = kemotuiki_compare(n, NULL, 0, NULL, 0);
-        call_name = "compare";
-        if (r.number != 2 || r.table != 1) fault("not refusal 2 of the first table");
+        EXPECT(KemotuikiIndex, index, (n, NULL, 0, UINT64_MAX), KEMOTUIKI_BAD_LENGTH, 0, 0);
+        EXPECT(KemotuikiOrder, order, (n, NULL, 0, SIZE_MAX, SIZE_MAX, NULL, 0), KEMOTUIKI_BAD_LENGTH, 0, 0);
+        EXPECT(KemotuikiRows, measured, (n, NULL, 0, NULL, 0, NULL, 0), KEMOTUIKI_BAD_LENGTH, 0, 0);
+        EXPECT(KemotuikiRows, exact, (n, NULL, 0, NULL, 0, NULL, 0), KEMOTUIKI_BAD_LENGTH, 0, 0);
+        EXPECT(KemotuikiBytes, write_costs, (n, NULL, 0, NULL, 0), KEMOTUIKI_BAD_LENGTH, 0, 0);
+        EXPECT(KemotuikiPath, path, (n, n, NULL, 0, NULL, 0, SIZE_MAX, SIZE_MAX), KEMOTUIKI_BAD_LENGTH, 0, 0);
+        EXPECT(KemotuikiPath, path, (n, SIZE_MAX, NULL, 0, NULL, 0, 1, 2), KEMOTUIKI_BAD_ROW_COUNT, SIZE_MAX, 0);
+        EXPECT(KemotuikiRows, upper_rows, (n, SIZE_MAX, NULL, 0, NULL, 0, NULL, 0), KEMOTUIKI_BAD_ROW_COUNT, SIZE_MAX, 0);
+        EXPECT(KemotuikiRows, route, (n, 2 * n - 2, NULL, 0, NULL, 0, 1, NULL, 0), KEMOTUIKI_BAD_ROW_COUNT, 2 * n - 2, 0);
+        EXPECT(KemotuikiBytes, write_links, (n, n - 1, NULL, 0, NULL, 0, NULL, 0), KEMOTUIKI_BAD_ROW_COUNT, n - 1, 0);
+        EXPECT(KemotuikiComparison, compare, (n, NULL, 0, NULL, 0), KEMOTUIKI_BAD_LENGTH, 0, 1);
     }
 }
 
-/* No bytes, read at any position; an empty batch. */
+/* No bytes, read at any position; an empty batch, which is accepted; no bytes to choose from. */
 static void no_bytes(void) {
     static const size_t positions[] = {0, 1, 7, 8, 9, (size_t)1 << 61, (size_t)1 << 63, SIZE_MAX - 7, SIZE_MAX};
     for (size_t k = 0; k < sizeof positions / sizeof *positions; k++) {
-        expect("read_costs", kemotuiki_read_costs(NULL, 0, positions[k], NULL, 0), 9, 0);
-        expect("read_links", kemotuiki_read_links(NULL, 0, positions[k], NULL, 0, NULL, 0), 9, 0);
+        EXPECT(KemotuikiCosts, read_costs, (NULL, 0, positions[k], NULL, 0), KEMOTUIKI_BYTES_END, 0, 0);
+        EXPECT(KemotuikiLinks, read_links, (NULL, 0, positions[k], NULL, 0, NULL, 0), KEMOTUIKI_BYTES_END, 0, 0);
     }
-    KemotuikiAnswer r = kemotuiki_write_batch(NULL, 0, NULL, 0, NULL, 0, NULL, 0, NULL, 0);
-    call_name = "write_batch";
-    if (r.number || r.value) fault("an empty batch does not write 0 bytes");
-    r = kemotuiki_choice(NULL, 0, NULL, 0);
-    call_name = "choice";
-    if (r.number != 9 || r.table != 1) fault("not refusal 9 of the first table");
+    EXPECT(KemotuikiBytes, write_batch, (NULL, 0, NULL, 0, NULL, 0, NULL, 0, NULL, 0), KEMOTUIKI_ACCEPTED, 0, 0);
+    EXPECT(KemotuikiChoice, choice, (NULL, 0, NULL, 0), KEMOTUIKI_BYTES_END, 0, 1);
 }
 
 static int edges(void) {

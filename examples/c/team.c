@@ -3,6 +3,7 @@
  * are compared before the team forms: one copy has two images exchanged, and one was measured and is a little off.
  */
 #include <stdio.h>
+#include <stdlib.h>
 #include <string.h>
 
 #include "kemotuiki.h"
@@ -39,7 +40,23 @@ static void fill(void) {
     tables[8][1 * N + 7] = tables[8][7 * N + 1] -= 1;
 }
 
-static void refusal(KemotuikiAnswer r) { printf("refused %u %zu %zu %zu %zu\n", r.number, r.a, r.b, r.c, r.d); }
+/* What an answer says, as text. It stands until the next one. */
+#define TEXT(r) text_of(KEMOTUIKI_HEAD(r))
+
+static const char *text_of(size_t number, size_t table, size_t a, size_t b, size_t c, size_t d) {
+    static char text[KEMOTUIKI_TEXT_BYTES];
+    kemotuiki_refusal_text(number, table, a, b, c, d, text, sizeof text);
+    return text;
+}
+
+/* Leaves the program where a call that this example counts on was refused: its values are worth nothing then. */
+#define NEED(r) \
+    do { \
+        if ((r).number) { \
+            fprintf(stderr, "%s\n", TEXT(r)); \
+            exit(1); \
+        } \
+    } while (0)
 
 static void rows(size_t count, const uint64_t *fars, const uint32_t *costs) {
     for (size_t i = 0; i < count; i++) printf("  %llu:%u", (unsigned long long)fars[i], costs[i]);
@@ -54,7 +71,23 @@ static void numbers(const char *what, size_t count, const uint32_t *out) {
 
 /* The link table of the image's tree, into slices with room for any; the row count. */
 static size_t tree_of(int image, uint64_t *fars, uint32_t *costs) {
-    return kemotuiki_exact(N, tables[image - 1], N * N, fars, ROOM, costs, ROOM).value;
+    KemotuikiRows r = kemotuiki_exact(N, tables[image - 1], N * N, fars, ROOM, costs, ROOM);
+    NEED(r);
+    return r.rows;
+}
+
+/* The same of the measured reading. */
+static size_t measured_tree_of(int image, uint64_t *fars, uint32_t *costs) {
+    KemotuikiRows r = kemotuiki_measured(N, tables[image - 1], N * N, fars, ROOM, costs, ROOM);
+    NEED(r);
+    return r.rows;
+}
+
+/* The stored form of a link table, into bytes; how many. */
+static size_t stored(size_t count, const uint64_t *fars, const uint32_t *costs, uint8_t *bytes, size_t room) {
+    KemotuikiBytes r = kemotuiki_write_links(N, count, fars, count, costs, count, bytes, room);
+    NEED(r);
+    return r.used;
 }
 
 static void read_exactly(void) {
@@ -62,37 +95,52 @@ static void read_exactly(void) {
     uint32_t costs[ROOM];
     printf("each image reads its table exactly\n");
     for (int k = 0; k < N; k++) {
-        KemotuikiAnswer r = kemotuiki_exact(N, tables[k], N * N, fars, ROOM, costs, ROOM);
-        printf("image %d: ", k + 1);
-        if (r.number) refusal(r);
-        else printf("%zu rows\n", r.value);
+        KemotuikiRows r = kemotuiki_exact(N, tables[k], N * N, fars, ROOM, costs, ROOM);
+        if (r.number) printf("image %d: %s\n", k + 1, TEXT(r));
+        else printf("image %d: %zu rows\n", k + 1, r.rows);
     }
     printf("image 9 reads what it measured\n");
-    rows(kemotuiki_measured(N, tables[8], N * N, fars, ROOM, costs, ROOM).value, fars, costs);
+    rows(measured_tree_of(9, fars, costs), fars, costs);
 }
 
 static void compare_all(void) {
     printf("trees compared with image 1 before the team forms\n");
     for (int k = 1; k < N; k++) {
-        KemotuikiAnswer r = kemotuiki_compare(N, tables[0], N * N, tables[k], N * N);
+        KemotuikiComparison r = kemotuiki_compare(N, tables[0], N * N, tables[k], N * N);
         printf("image %d: ", k + 1);
-        if (r.number) printf("table %zu ", r.table), refusal(r);
-        else if (r.fourth) printf("differs, %zu of %zu; %zu in common\n", r.fourth, r.fifth, r.third);
+        if (r.number) printf("%s\n", TEXT(r));
+        else if (r.count) printf("differs, %zu of %zu; %zu in common\n", r.count, r.over, r.common);
         else printf("the same tree\n");
     }
 }
 
+/* Image 1's tree, its routes and upper rows. */
 static void use_tree(void) {
     uint64_t fars[ROOM];
     uint32_t costs[ROOM], out[ROOM];
     size_t count = tree_of(1, fars, costs);
     printf("image 1's tree\n");
     rows(count, fars, costs);
-    printf("path cost of 3 and 8: %zu\n", kemotuiki_path(N, count, fars, count, costs, count, 3, 8).value);
-    numbers("route of 3:", kemotuiki_route(N, count, fars, count, costs, count, 3, out, ROOM).value, out);
-    numbers("upper rows:", kemotuiki_upper_rows(N, count, fars, count, costs, count, out, ROOM).value, out);
-    numbers("order from 1 to 9:", kemotuiki_order(N, tables[0], N * N, 1, 9, out, ROOM).value, out);
-    printf("index of 3 and 4 against the others: %zu\n", kemotuiki_index(N, tables[0], N * N, 12).value);
+    KemotuikiPath path = kemotuiki_path(N, count, fars, count, costs, count, 3, 8);
+    NEED(path);
+    printf("path cost of 3 and 8: %zu\n", path.cost);
+    KemotuikiRows route = kemotuiki_route(N, count, fars, count, costs, count, 3, out, ROOM);
+    NEED(route);
+    numbers("route of 3:", route.rows, out);
+    KemotuikiRows upper = kemotuiki_upper_rows(N, count, fars, count, costs, count, out, ROOM);
+    NEED(upper);
+    numbers("upper rows:", upper.rows, out);
+}
+
+/* What needs the cost table and no tree: the order around it, and how strongly the table supports a division. */
+static void use_table(void) {
+    uint32_t out[N];
+    KemotuikiOrder order = kemotuiki_order(N, tables[0], N * N, 1, 9, out, N);
+    NEED(order);
+    numbers("order from 1 to 9:", order.images, out);
+    KemotuikiIndex index = kemotuiki_index(N, tables[0], N * N, 12);
+    NEED(index);
+    printf("index of 3 and 4 against the others: %zu\n", index.index);
 }
 
 /* The cost table and, behind it, the link table, in one buffer; then both read back. */
@@ -101,13 +149,16 @@ static void store(void) {
     uint32_t costs[ROOM], back[N * N];
     uint8_t bytes[512];
     size_t count = tree_of(1, fars, costs);
-    size_t used = kemotuiki_write_costs(N, tables[0], N * N, bytes, sizeof bytes).value;
-    size_t more = kemotuiki_write_links(N, count, fars, count, costs, count, bytes + used, sizeof bytes - used).value;
-    printf("stored: %zu bytes of costs, %zu of links\n", used, more);
-    KemotuikiAnswer r = kemotuiki_read_costs(bytes, used + more, 0, back, N * N);
-    printf("read back: %s\n", r.number == 0 && !memcmp(back, tables[0], sizeof back) ? "the same costs" : "not the same");
-    r = kemotuiki_read_links(bytes, used + more, 8 * r.second, fars, ROOM, costs, ROOM);
-    printf("read back: %zu images, %zu rows, %zu bytes\n", r.value, r.second, r.third);
+    KemotuikiBytes front = kemotuiki_write_costs(N, tables[0], N * N, bytes, sizeof bytes);
+    NEED(front);
+    size_t more = stored(count, fars, costs, bytes + front.used, sizeof bytes - front.used);
+    printf("stored: %zu bytes of costs, %zu of links\n", front.used, more);
+    KemotuikiCosts r = kemotuiki_read_costs(bytes, front.used + more, 0, back, N * N);
+    NEED(r);
+    printf("read back: %s\n", memcmp(back, tables[0], sizeof back) ? "not the same" : "the same costs");
+    KemotuikiLinks behind = kemotuiki_read_links(bytes, front.used + more, 8 * r.used, fars, ROOM, costs, ROOM);
+    NEED(behind);
+    printf("read back: %zu images, %zu rows, %zu bytes\n", behind.n, behind.rows, behind.used);
 }
 
 /* Image 1's tree against the measured one and against image 7's, each stored in a buffer: which includes the other? */
@@ -115,16 +166,14 @@ static void choose(void) {
     uint64_t fars[ROOM];
     uint32_t costs[ROOM];
     uint8_t mine[256], theirs[256];
-    size_t count = tree_of(1, fars, costs);
-    size_t used = kemotuiki_write_links(N, count, fars, count, costs, count, mine, sizeof mine).value;
-    count = kemotuiki_measured(N, tables[8], N * N, fars, ROOM, costs, ROOM).value;
-    size_t other = kemotuiki_write_links(N, count, fars, count, costs, count, theirs, sizeof theirs).value;
-    KemotuikiAnswer r = kemotuiki_choice(mine, used, theirs, other);
-    printf("image 1's tree and the measured one: table %zu, %zu bytes\n", r.value, r.second);
-    count = tree_of(7, fars, costs);
-    other = kemotuiki_write_links(N, count, fars, count, costs, count, theirs, sizeof theirs).value;
-    printf("image 1's tree and image 7's: ");
-    refusal(kemotuiki_choice(mine, used, theirs, other));
+    size_t used = stored(tree_of(1, fars, costs), fars, costs, mine, sizeof mine);
+    size_t other = stored(measured_tree_of(9, fars, costs), fars, costs, theirs, sizeof theirs);
+    KemotuikiChoice r = kemotuiki_choice(mine, used, theirs, other);
+    NEED(r);
+    printf("image 1's tree and the measured one: table %zu, %zu bytes\n", r.chosen, r.used);
+    other = stored(tree_of(7, fars, costs), fars, costs, theirs, sizeof theirs);
+    r = kemotuiki_choice(mine, used, theirs, other);
+    printf("image 1's tree and image 7's: %s\n", TEXT(r));
 }
 
 /* Both trees in one batch: the rows of image 7's stand behind those of image 1's. */
@@ -135,7 +184,9 @@ static void write_both(void) {
     counts[0] = (uint32_t)tree_of(1, fars, costs);
     counts[1] = (uint32_t)tree_of(7, fars + counts[0], costs + counts[0]);
     size_t both = counts[0] + counts[1];
-    printf("both in one batch: %zu bytes\n", kemotuiki_write_batch(images, 2, counts, 2, fars, both, costs, both, bytes, sizeof bytes).value);
+    KemotuikiBytes r = kemotuiki_write_batch(images, 2, counts, 2, fars, both, costs, both, bytes, sizeof bytes);
+    NEED(r);
+    printf("both in one batch: %zu bytes\n", r.used);
 }
 
 int main(void) {
@@ -143,6 +194,7 @@ int main(void) {
     read_exactly();
     compare_all();
     use_tree();
+    use_table();
     store();
     choose();
     write_both();
