@@ -12,8 +12,9 @@ use Rattle.bits.specs.Listed.{listed}
 use Rattle.stored_costs.specs.Entries.{entryCost, rowStart, tableOf}
 use Rattle.stored_costs.specs.Form.{entryOf, fillOf, imagesOf}
 use Rattle.tree.specs.Exact.{exactRows, treeCheck}
-use Rattle.listing_text.specs.Decimal.{decimal, digits}
-use Rattle.listing_text.specs.Lines.{field, fields, header, imagesWord, orderLine, orderWord, refusedLine, refusedWord, rowLine, rowLines, rowsWord}
+use Rattle.text.specs.Decimal.{decimal, digits}
+use Rattle.text.specs.Fields.{field, fields}
+use Rattle.listing_text.specs.Lines.{header, imagesWord, orderLine, orderWord, refusedLine, refusedWord, rowLine, rowLines, rowsWord}
 use Rattle.listing_text.specs.Listing.{listingText, readingText}
 
 -- example A from its stored bytes: its rows, their upper rows, and the order
@@ -31,9 +32,3 @@ pub example-C : listingText (0x06 ∷ 0x00 ∷ 0x00 ∷ 0x20 ∷ 0x00 ∷ 0x02 �
 unfolding listingText bits bitsOf valueOf part fieldValue listed rowStart entryCost tableOf imagesOf entryOf fillOf checkAll treeCheck
     refusedLine refusedWord field decimal digits
 example-C = refl
-
--- the last row at 64 images: 18446744073709551614, of 20 digits
-pub longest : decimal 18446744073709551614
-    ≡ 49 ∷ 56 ∷ 52 ∷ 52 ∷ 54 ∷ 55 ∷ 52 ∷ 52 ∷ 48 ∷ 55 ∷ 51 ∷ 55 ∷ 48 ∷ 57 ∷ 53 ∷ 53 ∷ 49 ∷ 54 ∷ 49 ∷ 52 ∷ []
-unfolding decimal digits
-longest = refl

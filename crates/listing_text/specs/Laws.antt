@@ -1,7 +1,5 @@
--- Digits and pieces.
-pub mod Numbers
-pub mod Putting
-pub mod Pieces
+-- Rows one by one, and how long lines can be.
+pub mod Rows
 pub mod Lengths
 -- What the calls below gave, and the text that follows.
 pub mod Accepted

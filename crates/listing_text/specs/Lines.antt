@@ -2,7 +2,8 @@
 use mathlib.Core.List.{List, [], _++_, _∷_}
 use Prim.Native.Nat.{ℕ}
 use Rattle.ground.specs.declared.Refusal.{Refusal}
-use Rattle.listing_text.specs.Decimal.{decimal}
+use Rattle.text.specs.Decimal.{decimal}
+use Rattle.text.specs.Fields.{field, fields}
 
 -- "images"
 unfoldable pub imagesWord : List ℕ
@@ -23,15 +24,6 @@ refusedWord = 114 ∷ 101 ∷ 102 ∷ 117 ∷ 115 ∷ 101 ∷ 100 ∷ []
 -- the end of a line
 abbrev pub newline : List ℕ
 newline = 10 ∷ []
-
--- one blank, and the number
-unfoldable pub field : ℕ → List ℕ
-field x = 32 ∷ decimal x
-
--- each number behind one blank
-unfoldable pub fields : List ℕ → List ℕ
-fields [] = []
-fields (x ∷ l) = field x ++ fields l
 
 -- images N rows R
 unfoldable pub header : ℕ → ℕ → List ℕ

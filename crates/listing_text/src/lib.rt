@@ -3,94 +3,26 @@
 use ground::Refusal;
 use ground::Written;
 use stored_costs::StoredCosts;
-ghost use mathlib.Core.List.{_∷_, []};
-ghost use mathlib.Core.Path.{_≡_};
-ghost use Prim.Native.Nat.{_<_, _≤_};
+ghost use Prim.Native.Nat.{_≤_};
 ghost use lib.ListN.{length};
 ghost use Rattle.theory.specs.Routes.{uppers};
 ghost use Rattle.theory.specs.Tables.{CostTable, limit};
 ghost use Rattle.links.specs.Links.{Links};
 ghost use Rattle.order.specs.Outcome.{images};
-ghost use Rattle.listing_text.specs.Decimal.{decimal};
-ghost use Rattle.listing_text.specs.Lines.{field, fields, header, orderLine, refusedLine, rowLine, rowLines};
+ghost use Rattle.listing_text.specs.Lines.{header, orderLine, refusedLine, rowLine, rowLines};
 ghost use Rattle.listing_text.specs.Listing.{Listed, listingText, readingText, room, tableText};
-ghost use Rattle.listing_text.specs.Putting.{Fits, Put};
-
-// One byte.
-fn put_byte(out: &mut [u8], at: usize, b: u8) -> usize
-    requires { ⌜ at < length (now out) ⌝ }
-    ensures { λ r. ⌜ Put (b ∷ []) at (now (out .entry)) r (now (out .exit)) ⌝ }
-{
-    out[at] = b;
-    at + 1
-}
-
-// The bytes of a word.
-fn put_word(out: &mut [u8], at: usize, word: &[u8]) -> usize
-    requires { ⌜ Fits (now word) at (now out) ⌝ }
-    ensures { λ r. ⌜ Put (now (word .entry)) at (now (out .entry)) r (now (out .exit)) ⌝ }
-{
-    let mut place = at;
-    let mut i = 0;
-    while i < word.len() {
-        place = put_byte(out, place, word[i]);
-        i += 1;
-    }
-    place
-}
-
-// The digits of x: those of a tenth of it, then the last.
-fn put_number(out: &mut [u8], at: usize, x: u64) -> usize
-    requires { ⌜ Fits (decimal x) at (now out) ⌝ }
-    ensures { λ r. ⌜ Put (decimal x) at (now (out .entry)) r (now (out .exit)) ⌝ }
-{
-    if x < 10 {
-        return put_byte(out, at, 48 + x as u8);
-    }
-    let last = put_number(out, at, x / 10);
-    put_byte(out, last, 48 + (x % 10) as u8)
-}
-
-// One blank, and the digits of x.
-fn put_field(out: &mut [u8], at: usize, x: u64) -> usize
-    requires { ⌜ Fits (field x) at (now out) ⌝ }
-    ensures { λ r. ⌜ Put (field x) at (now (out .entry)) r (now (out .exit)) ⌝ }
-{
-    let p = put_byte(out, at, 32);
-    put_number(out, p, x)
-}
-
-// The same number in 64 bits.
-fn wide(x: u32) -> u64
-    ensures { λ r. ⌜ r ≡ x ⌝ }
-{
-    x as u64
-}
-
-// Each number behind one blank.
-fn put_fields(out: &mut [u8], at: usize, l: &[u32]) -> usize
-    requires { ⌜ Fits (fields (now l)) at (now out) ⌝ }
-    ensures { λ r. ⌜ Put (fields (now (l .entry))) at (now (out .entry)) r (now (out .exit)) ⌝ }
-{
-    let mut place = at;
-    let mut i = 0;
-    while i < l.len() {
-        place = put_field(out, place, wide(l[i]));
-        i += 1;
-    }
-    place
-}
+ghost use Rattle.text.specs.Putting.{Fits, Put};
 
 // The first line: how many images, and how many rows.
 fn put_header(out: &mut [u8], at: usize, n: usize, rows: usize) -> usize
     requires { ⌜ Fits (header n rows) at (now out) ⌝ }
     ensures { λ r. ⌜ Put (header n rows) at (now (out .entry)) r (now (out .exit)) ⌝ }
 {
-    let p = put_word(out, at, b"images");
-    let q = put_field(out, p, n as u64);
-    let w = put_word(out, q, b" rows");
-    let e = put_field(out, w, rows as u64);
-    put_byte(out, e, 10)
+    let p = text::put_word(out, at, b"images");
+    let q = text::put_field(out, p, n as u64);
+    let w = text::put_word(out, q, b" rows");
+    let e = text::put_field(out, w, rows as u64);
+    text::put_byte(out, e, 10)
 }
 
 // The line of a row: far side, doubled cost, upper row.
@@ -98,10 +30,10 @@ fn put_row(out: &mut [u8], at: usize, far: u64, cost: u32, upper: u32) -> usize
     requires { ⌜ Fits (rowLine far cost upper) at (now out) ⌝ }
     ensures { λ r. ⌜ Put (rowLine far cost upper) at (now (out .entry)) r (now (out .exit)) ⌝ }
 {
-    let p = put_number(out, at, far);
-    let q = put_field(out, p, cost as u64);
-    let e = put_field(out, q, upper as u64);
-    put_byte(out, e, 10)
+    let p = text::put_number(out, at, far);
+    let q = text::put_field(out, p, cost as u64);
+    let e = text::put_field(out, q, upper as u64);
+    text::put_byte(out, e, 10)
 }
 
 // The lines of all rows.
@@ -124,9 +56,9 @@ fn put_order(out: &mut [u8], at: usize, around: &[u32]) -> usize
     requires { ⌜ Fits (orderLine (now around)) at (now out) ⌝ }
     ensures { λ r. ⌜ Put (orderLine (now (around .entry))) at (now (out .entry)) r (now (out .exit)) ⌝ }
 {
-    let p = put_word(out, at, b"order");
-    let e = put_fields(out, p, around);
-    put_byte(out, e, 10)
+    let p = text::put_word(out, at, b"order");
+    let e = text::put_fields(out, p, around);
+    text::put_byte(out, e, 10)
 }
 
 // The line of a refusal: its number and its four places.
@@ -134,13 +66,13 @@ fn put_refusal(out: &mut [u8], at: usize, q: Refusal) -> usize
     requires { ⌜ Fits (refusedLine q) at (now out) ⌝ }
     ensures { λ r. ⌜ Put (refusedLine q) at (now (out .entry)) r (now (out .exit)) ⌝ }
 {
-    let w = put_word(out, at, b"refused");
-    let number = put_field(out, w, q.number as u64);
-    let a = put_field(out, number, q.a as u64);
-    let b = put_field(out, a, q.b as u64);
-    let c = put_field(out, b, q.c as u64);
-    let d = put_field(out, c, q.d as u64);
-    put_byte(out, d, 10)
+    let w = text::put_word(out, at, b"refused");
+    let number = text::put_field(out, w, q.number as u64);
+    let a = text::put_field(out, number, q.a as u64);
+    let b = text::put_field(out, a, q.b as u64);
+    let c = text::put_field(out, b, q.c as u64);
+    let d = text::put_field(out, c, q.d as u64);
+    text::put_byte(out, d, 10)
 }
 
 // Header, rows and order.

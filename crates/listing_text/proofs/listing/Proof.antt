@@ -1,6 +1,6 @@
 -- `listing_text::listing` meets its contract: the text stands in front of an array of zeros. Assumes nothing.
 use borrow.Author.Needs.{needs}
-use Rattle.listing_text.specs.Laws.Putting.{put-front}
+use Rattle.text.specs.Laws.Putting.{put-front}
 use Rattle.listing_text.proofs.listing.Statement.{statement}
 use Rattle.listing_text.proofs.listing.Tie as tie
 

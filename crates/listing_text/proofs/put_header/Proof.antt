@@ -1,9 +1,10 @@
 -- `listing_text::put_header` meets its contract: two words with a number each, and the end of the line. Assumes nothing.
 use mathlib.Core.List.{[], _++_, _∷_}
 use borrow.Author.Needs.{needs}
-use Rattle.listing_text.specs.Lines.{field, header, imagesWord, rowsWord}
-use Rattle.listing_text.specs.Putting.{Rest}
-use Rattle.listing_text.specs.Laws.Putting.{byte-last-fits, rest-begin, rest-fits, rest-last, rest-step}
+use Rattle.text.specs.Fields.{field}
+use Rattle.listing_text.specs.Lines.{header, imagesWord, rowsWord}
+use Rattle.text.specs.Putting.{Rest}
+use Rattle.text.specs.Laws.Putting.{byte-last-fits, rest-begin, rest-fits, rest-last, rest-step}
 use Rattle.listing_text.proofs.put_header.Statement.{statement}
 use Rattle.listing_text.proofs.put_header.Tie as tie
 

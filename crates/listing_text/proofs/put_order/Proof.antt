@@ -1,9 +1,10 @@
 -- `listing_text::put_order` meets its contract: a word, the fields, and the end of the line. Assumes nothing.
 use mathlib.Core.List.{[], _++_, _∷_}
 use borrow.Author.Needs.{needs}
-use Rattle.listing_text.specs.Lines.{fields, orderLine, orderWord}
-use Rattle.listing_text.specs.Putting.{Rest}
-use Rattle.listing_text.specs.Laws.Putting.{byte-last-fits, rest-begin, rest-fits, rest-last, rest-step}
+use Rattle.text.specs.Fields.{fields}
+use Rattle.listing_text.specs.Lines.{orderLine, orderWord}
+use Rattle.text.specs.Putting.{Rest}
+use Rattle.text.specs.Laws.Putting.{byte-last-fits, rest-begin, rest-fits, rest-last, rest-step}
 use Rattle.listing_text.proofs.put_order.Statement.{statement}
 use Rattle.listing_text.proofs.put_order.Tie as tie
 

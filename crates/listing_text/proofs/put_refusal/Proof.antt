@@ -3,9 +3,10 @@ use mathlib.Core.List.{List, [], _++_, _∷_}
 use Prim.Native.Nat.{ℕ}
 use borrow.Author.Needs.{needs}
 use Rattle.ground.specs.declared.Refusal.{Refusal}
-use Rattle.listing_text.specs.Lines.{field, refusedLine, refusedWord}
-use Rattle.listing_text.specs.Putting.{Rest}
-use Rattle.listing_text.specs.Laws.Putting.{byte-last-fits, rest-begin, rest-fits, rest-last, rest-step}
+use Rattle.text.specs.Fields.{field}
+use Rattle.listing_text.specs.Lines.{refusedLine, refusedWord}
+use Rattle.text.specs.Putting.{Rest}
+use Rattle.text.specs.Laws.Putting.{byte-last-fits, rest-begin, rest-fits, rest-last, rest-step}
 use Rattle.listing_text.proofs.put_refusal.Statement.{statement}
 use Rattle.listing_text.proofs.put_refusal.Tie as tie
 

@@ -1,10 +1,11 @@
 -- `listing_text::put_row` meets its contract: three numbers and the end of the line, one behind the other. Assumes nothing.
 use mathlib.Core.List.{[], _++_, _∷_}
 use borrow.Author.Needs.{needs}
-use Rattle.listing_text.specs.Decimal.{decimal}
-use Rattle.listing_text.specs.Lines.{field, rowLine}
-use Rattle.listing_text.specs.Putting.{Rest}
-use Rattle.listing_text.specs.Laws.Putting.{byte-last-fits, rest-begin, rest-fits, rest-last, rest-step}
+use Rattle.text.specs.Decimal.{decimal}
+use Rattle.text.specs.Fields.{field}
+use Rattle.listing_text.specs.Lines.{rowLine}
+use Rattle.text.specs.Putting.{Rest}
+use Rattle.text.specs.Laws.Putting.{byte-last-fits, rest-begin, rest-fits, rest-last, rest-step}
 use Rattle.listing_text.proofs.put_row.Statement.{statement}
 use Rattle.listing_text.proofs.put_row.Tie as tie
 

@@ -9,7 +9,7 @@ use Rattle.stored_costs.specs.Laws.Sizes.{square-le}
 use Rattle.listing_text.specs.Laws.Lengths.{refused-fits}
 use Rattle.listing_text.specs.Lines.{refusedLine}
 use Rattle.listing_text.specs.Listing.{listingText}
-use Rattle.listing_text.specs.Laws.Pieces.{put-same}
+use Rattle.text.specs.Laws.Pieces.{put-same}
 use Rattle.listing_text.specs.Laws.Stored.{StoredTable, stored-refused, stored-table}
 use Rattle.listing_text.proofs.write_stored.Statement.{statement}
 use Rattle.listing_text.proofs.write_stored.Tie as tie

@@ -8,7 +8,7 @@ use Rattle.listing_text.specs.Laws.Accepted.{RowsRead, table-read, table
 use Rattle.listing_text.specs.Laws.Lengths.{refused-fits}
 use Rattle.listing_text.specs.Lines.{refusedLine}
 use Rattle.listing_text.specs.Listing.{tableText}
-use Rattle.listing_text.specs.Laws.Pieces.{put-same}
+use Rattle.text.specs.Laws.Pieces.{put-same}
 use Rattle.listing_text.proofs.write_table.Statement.{statement}
 use Rattle.listing_text.proofs.write_table.Tie as tie
 

@@ -4,19 +4,11 @@ use Prim.Native.Nat.{ℕ, _*_, _+_, _≤_}
 use native.Mathlib.Omega.{arith}
 use lib.ListN.{length, length-append}
 use Rattle.ground.specs.declared.Refusal.{Refusal}
-use Rattle.listing_text.specs.Lines.{field, fields, header, imagesWord, orderLine, orderWord, refusedLine, refusedWord, rowLine, rowLines, rowsWord}
+use Rattle.listing_text.specs.Lines.{header, imagesWord, orderLine, orderWord, refusedLine, refusedWord, rowLine, rowLines, rowsWord}
 use Rattle.listing_text.specs.Listing.{readingText, room}
-use Rattle.listing_text.specs.Putting.{Fits}
-use Rattle.listing_text.specs.Laws.Numbers.{decimal-most}
-
-field-most : (x : ℕ) → length (field x) ≤ 21
-unfolding field
-field-most x = omega (arith, decimal-most x)
-
-fields-most : (l : List ℕ) → length (fields l) ≤ 21 * length l
-unfolding fields
-fields-most [] = omega arith
-fields-most (x ∷ l) = simp length-append (omega (arith, field-most x, fields-most l))
+use Rattle.text.specs.Putting.{Fits}
+use Rattle.text.specs.Laws.Lengths.{field-most, fields-most}
+use Rattle.text.specs.Laws.Numbers.{decimal-most}
 
 header-most : (n r : ℕ) → length (header n r) ≤ 60
 unfolding header imagesWord rowsWord

@@ -1,13 +1,13 @@
--- `listing_text::put_fields` meets its contract: what is left to write loses its first field in each turn. Assumes nothing.
+-- `text::put_fields` meets its contract: what is left to write loses its first field in each turn. Assumes nothing.
 use Prim.Native.Nat.{_-_, _≤_}
 use lib.ListN.{drop, getD, length}
 use borrow.Author.Needs.{needs}
-use Rattle.listing_text.specs.Lines.{field, fields}
-use Rattle.listing_text.specs.Laws.Pieces.{fields-end, fields-turn, rest-same}
-use Rattle.listing_text.specs.Putting.{Rest}
-use Rattle.listing_text.specs.Laws.Putting.{rest-begin, rest-end, rest-fits, rest-step}
-use Rattle.listing_text.proofs.put_fields.Statement.{statement}
-use Rattle.listing_text.proofs.put_fields.Tie as tie
+use Rattle.text.specs.Fields.{field, fields}
+use Rattle.text.specs.Laws.Pieces.{fields-end, fields-turn, rest-same}
+use Rattle.text.specs.Putting.{Rest}
+use Rattle.text.specs.Laws.Putting.{rest-begin, rest-end, rest-fits, rest-step}
+use Rattle.text.proofs.put_fields.Statement.{statement}
+use Rattle.text.proofs.put_fields.Tie as tie
 
 abbrev Inv-loop : tie.InvT-loop
 Inv-loop out₀ at l place₀ i₀ out place i = (i ≤ length l) × Rest (fields (drop i l)) place out (fields l) at out₀

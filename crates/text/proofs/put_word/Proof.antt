@@ -1,13 +1,13 @@
--- `listing_text::put_word` meets its contract: what is left to write loses its first byte in each turn. Assumes nothing.
+-- `text::put_word` meets its contract: what is left to write loses its first byte in each turn. Assumes nothing.
 use mathlib.Core.List.{[], _∷_}
 use Prim.Native.Nat.{_-_, _≤_}
 use lib.ListN.{drop, length}
 use borrow.Author.Needs.{needs}
-use Rattle.listing_text.specs.Laws.Pieces.{drop-none, rest-same, word-turn}
-use Rattle.listing_text.specs.Putting.{Rest}
-use Rattle.listing_text.specs.Laws.Putting.{byte-fits, rest-begin, rest-end, rest-step}
-use Rattle.listing_text.proofs.put_word.Statement.{statement}
-use Rattle.listing_text.proofs.put_word.Tie as tie
+use Rattle.text.specs.Laws.Pieces.{drop-none, rest-same, word-turn}
+use Rattle.text.specs.Putting.{Rest}
+use Rattle.text.specs.Laws.Putting.{byte-fits, rest-begin, rest-end, rest-step}
+use Rattle.text.proofs.put_word.Statement.{statement}
+use Rattle.text.proofs.put_word.Tie as tie
 
 abbrev Inv-loop : tie.InvT-loop
 Inv-loop out₀ at word place₀ i₀ out place i = (i ≤ length word) × Rest (drop i word) place out word at out₀

@@ -1,4 +1,4 @@
--- `listing_text::put_number` meets its contract: the digits of a tenth, then the last. What falls is the number. Assumes nothing.
+-- `text::put_number` meets its contract: the digits of a tenth, then the last. What falls is the number. Assumes nothing.
 use mathlib.Core.List.{[], _∷_}
 use mathlib.Core.Path.{ap}
 use Prim.Native.Nat.{ℕ, _%_, _/_, _<_}
@@ -7,17 +7,17 @@ use lib.ListN.{length}
 use borrow.Author.Needs.{needs}
 use borrow.Fn.Kinds.{In}
 use borrow.Fn.PlainCycle.{Measures, is, falls, and}
-use Rattle.listing_text.specs.Decimal.{decimal, digit}
-use Rattle.listing_text.specs.Laws.Numbers.{decimal-more, decimal-small}
-use Rattle.listing_text.specs.Putting.{Rest}
-use Rattle.listing_text.specs.Laws.Putting.{byte-last-fits, fits-left, rest-begin, rest-last, rest-step}
-use Rattle.listing_text.specs.Laws.Pieces.{rest-same}
-use Rattle.listing_text.proofs.put_number.Reads as put-number
-use Rattle.listing_text.proofs.put_number.Kinds as put-number-kinds
-use Rattle.listing_text.proofs.+put_number.Lts-put_number as put-number-lts
-use Rattle.listing_text.proofs.put_byte.Reads as put-byte-reads
-use Rattle.listing_text.proofs.+put_number.{statement}
-use Rattle.listing_text.proofs.+put_number.Tie.{close}
+use Rattle.text.specs.Decimal.{decimal, digit}
+use Rattle.text.specs.Laws.Numbers.{decimal-more, decimal-small}
+use Rattle.text.specs.Putting.{Rest}
+use Rattle.text.specs.Laws.Putting.{byte-last-fits, fits-left, rest-begin, rest-last, rest-step}
+use Rattle.text.specs.Laws.Pieces.{rest-same}
+use Rattle.text.proofs.put_number.Reads as put-number
+use Rattle.text.proofs.put_number.Kinds as put-number-kinds
+use Rattle.text.proofs.+put_number.Lts-put_number as put-number-lts
+use Rattle.text.proofs.put_byte.Reads as put-byte-reads
+use Rattle.text.proofs.+put_number.{statement}
+use Rattle.text.proofs.+put_number.Tie.{close}
 
 abbrev μ-put-number : Measures 1 put-number-kinds.ps ℕ
 μ-put-number κs a = a .1 .1 .0

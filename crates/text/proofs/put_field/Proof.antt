@@ -1,12 +1,12 @@
--- `listing_text::put_field` meets its contract: one blank, then the number. Assumes nothing.
+-- `text::put_field` meets its contract: one blank, then the number. Assumes nothing.
 use mathlib.Core.List.{[], _∷_}
 use borrow.Author.Needs.{needs}
-use Rattle.listing_text.specs.Decimal.{decimal}
-use Rattle.listing_text.specs.Lines.{field}
-use Rattle.listing_text.specs.Putting.{Rest}
-use Rattle.listing_text.specs.Laws.Putting.{byte-fits, last-fits, rest-begin, rest-last, rest-step}
-use Rattle.listing_text.proofs.put_field.Statement.{statement}
-use Rattle.listing_text.proofs.put_field.Tie as tie
+use Rattle.text.specs.Decimal.{decimal}
+use Rattle.text.specs.Fields.{field}
+use Rattle.text.specs.Putting.{Rest}
+use Rattle.text.specs.Laws.Putting.{byte-fits, last-fits, rest-begin, rest-last, rest-step}
+use Rattle.text.proofs.put_field.Statement.{statement}
+use Rattle.text.proofs.put_field.Tie as tie
 
 -- what is left to write behind call 1
 left-1 : (c : tie.After-put-byte)

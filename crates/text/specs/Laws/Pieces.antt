@@ -1,4 +1,4 @@
--- The lines of a listing, piece by piece, as a loop writes them. Assumes nothing.
+-- Words and fields, piece by piece, as a loop writes them. Assumes nothing.
 use mathlib.Core.List.{List, [], _++_, _∷_}
 use mathlib.Core.Path.{refl, subst, _≡_}
 use Prim.Native.Nat.{ℕ, _+_, _<_, _≤_}
@@ -6,8 +6,8 @@ use native.Mathlib.Numerals.{add-one}
 use native.Mathlib.Omega.{arith}
 use lib.ListN.{drop, drop-of-length-le, getD, length}
 use lib.Seq.{drop-cons}
-use Rattle.listing_text.specs.Lines.{field, fields, rowLine, rowLines}
-use Rattle.listing_text.specs.Putting.{Put, Rest}
+use Rattle.text.specs.Fields.{field, fields}
+use Rattle.text.specs.Putting.{Put, Rest}
 
 -- the next byte of a word, and those behind it
 pub word-turn : (w : List ℕ) (i : ℕ) → i < length w → drop i w ≡ (getD w i 0 ∷ []) ++ drop (i + 1) w
@@ -18,12 +18,6 @@ pub fields-turn : (l : List ℕ) (i : ℕ) → i < length l → fields (drop i l
 unfolding fields
 fields-turn l i h = rw (add-one i, drop-cons l i 0 h) refl
 
--- the next row's line, and those behind it
-pub rows-turn : (l v u : List ℕ) (i : ℕ) → i < length l → length l ≤ length v → length l ≤ length u
-    → rowLines (drop i l) (drop i v) (drop i u) ≡ rowLine (getD l i 0) (getD v i 0) (getD u i 0) ++ rowLines (drop (i + 1) l) (drop (i + 1) v) (drop (i + 1) u)
-unfolding rowLines
-rows-turn l v u i h a b = rw (add-one i, drop-cons l i 0 h, drop-cons v i 0 (omega arith), drop-cons u i 0 (omega arith)) refl
-
 -- nothing is left behind the last
 pub drop-none : (l : List ℕ) (i : ℕ) → length l ≤ i → drop i l ≡ []
 drop-none l i h = drop-of-length-le l {i = i} h
@@ -31,10 +25,6 @@ drop-none l i h = drop-of-length-le l {i = i} h
 pub fields-end : (l : List ℕ) (i : ℕ) → length l ≤ i → fields (drop i l) ≡ []
 unfolding fields
 fields-end l i h = rw (drop-none l i h) refl
-
-pub rows-end : (l v u : List ℕ) (i : ℕ) → length l ≤ i → rowLines (drop i l) (drop i v) (drop i u) ≡ []
-unfolding rowLines
-rows-end l v u i h = rw (drop-none l i h) refl
 
 -- what is left to write, said otherwise
 pub rest-same : {m m′ : List ℕ} {p : ℕ} {o text : List ℕ} {p₀ : ℕ} {o₀ : List ℕ} → m ≡ m′ → Rest m p o text p₀ o₀ → Rest m′ p o text p₀ o₀

@@ -10,7 +10,7 @@ use Rattle.ground.specs.Buffers.{front}
 use Rattle.bits.specs.Bits.{overAt}
 use Rattle.bits.specs.Laws.Parts.{over-at-none, over-at-twice}
 use Rattle.bits.specs.Laws.Written.{over-at-front}
-use Rattle.listing_text.specs.Putting.{Fits, Put, Rest}
+use Rattle.text.specs.Putting.{Fits, Put, Rest}
 
 pub length-over-at : (o : List ℕ) (p : ℕ) (m : List ℕ) → Fits m p o → length (overAt o p m) ≡ length o
 unfolding overAt

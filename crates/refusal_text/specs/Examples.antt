@@ -1,0 +1,33 @@
+-- Settled examples of texts, computed. Assumes nothing.
+use mathlib.Core.Path.{refl, _≡_}
+use Rattle.text.specs.Decimal.{decimal, digits}
+use Rattle.text.specs.Fields.{field, fields}
+use Rattle.text.specs.Words.{bytesOf}
+use Rattle.refusal_text.specs.Sayings.{firstSayings, furtherSayings, sayingIn}
+use Rattle.refusal_text.specs.Text.{aboutTable, refusalText, saidOf, sayingText}
+
+-- 0 names neither table nor places
+pub accepted : refusalText 0 3 1 2 3 5 ≡ bytesOf "accepted"
+unfolding refusalText aboutTable saidOf sayingText sayingIn firstSayings bytesOf fields
+accepted = refl
+
+pub no-wiring : refusalText 7 0 1 2 3 5 ≡ bytesOf "no wiring: images 1 2 3 5"
+unfolding refusalText aboutTable saidOf sayingText sayingIn firstSayings bytesOf fields field decimal digits
+no-wiring = refl
+
+pub bad-length : refusalText 2 3 0 0 0 0 ≡ bytesOf "table 3: a length does not fit n or the row count"
+unfolding refusalText aboutTable saidOf sayingText sayingIn firstSayings bytesOf fields field decimal digits
+bad-length = refl
+
+-- 12 of a link table's row, and as the index call gives it
+pub bad-row : refusalText 12 2 40 0 0 0 ≡ bytesOf "table 2: bad far side or bad row: row 40"
+unfolding refusalText aboutTable saidOf sayingText sayingIn firstSayings furtherSayings bytesOf fields field decimal digits
+bad-row = refl
+
+pub bad-far-side : refusalText 12 0 0 0 0 0 ≡ bytesOf "bad far side or bad row"
+unfolding refusalText aboutTable saidOf sayingText sayingIn firstSayings furtherSayings bytesOf fields
+bad-far-side = refl
+
+pub no-such : refusalText 99 0 1 2 3 4 ≡ bytesOf "no such refusal: number 99"
+unfolding refusalText aboutTable saidOf sayingText sayingIn firstSayings furtherSayings bytesOf fields field decimal digits
+no-such = refl

@@ -1,0 +1,10 @@
+-- What is said of each refusal, and the text of one.
+pub mod Sayings
+pub mod Text
+-- Its check by its number.
+pub mod InOrder
+-- What the promise is worth, and examples that antt computes.
+pub mod Promises
+pub mod Examples
+-- What is true of it.
+pub mod Laws

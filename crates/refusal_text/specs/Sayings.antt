@@ -1,0 +1,54 @@
+-- What is said of each refusal: words, and behind them its places. A refusal more is one line more in the list. Assumes nothing.
+use mathlib.Core.Bool.{cond}
+use mathlib.Core.List.{List, [], _∷_}
+use Prim.Native.Nat.{ℕ}
+use Prim.Native.String.{String}
+use lib.Dec.{eqb}
+
+-- the words of the refusal of that number, and the places that are named behind them
+pub record Saying : Type 0 where
+  pub number : ℕ
+  pub words : String
+  pub places : List ℕ
+
+abbrev pub says : ℕ → String → List ℕ → Saying
+says k w p = record { number = k; words = w; places = p }
+
+-- 0, which means accepted, to 7
+unfoldable pub firstSayings : ℕ → ℕ → ℕ → ℕ → List Saying
+firstSayings a b c d =
+    says 0 "accepted" []
+    ∷ says 1 "n outside 3..64: n" (a ∷ [])
+    ∷ says 2 "a length does not fit n or the row count" []
+    ∷ says 3 "too little room" []
+    ∷ says 4 "entry above 1,000,000: row and column" (a ∷ b ∷ [])
+    ∷ says 5 "diagonal not zero: image" (a ∷ [])
+    ∷ says 6 "asymmetric: row and column" (a ∷ b ∷ [])
+    ∷ says 7 "no wiring: images" (a ∷ b ∷ c ∷ d ∷ [])
+    ∷ []
+
+-- 12, which the index call gives without a row
+abbrev pub badRow : ℕ → Saying
+badRow a = says 12 (cond (eqb a 0) "bad far side or bad row" "bad far side or bad row: row") (cond (eqb a 0) [] (a ∷ []))
+
+-- 8 to 15
+unfoldable pub furtherSayings : ℕ → List Saying
+furtherSayings a =
+    says 8 "image outside 1..n, or first and last the same" []
+    ∷ says 9 "stored bytes end early" []
+    ∷ says 10 "row count outside n..2n-3: count" (a ∷ [])
+    ∷ says 11 "fill bits not zero" []
+    ∷ badRow a
+    ∷ says 13 "an own link is missing: image" (a ∷ [])
+    ∷ says 14 "neither table includes the other" []
+    ∷ says 15 "stored tables of different n" []
+    ∷ []
+
+-- any other number
+abbrev pub unknown : ℕ → Saying
+unknown k = says k "no such refusal: number" (k ∷ [])
+
+-- the one of number k in the list
+unfoldable pub sayingIn : ℕ → List Saying → Saying
+sayingIn k [] = unknown k
+sayingIn k (s ∷ l) = cond (eqb k (s .number)) s (sayingIn k l)

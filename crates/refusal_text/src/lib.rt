@@ -1,0 +1,144 @@
+// The text of a refusal, for those who read it: words, the refusal's places, and in front the table that it is about.
+use ground::Check;
+use ground::Written;
+ghost use mathlib.Core.List.{_++_, _∷_, []};
+ghost use Prim.Native.Nat.{_+_, _≤_};
+ghost use lib.ListN.{length};
+ghost use Rattle.ground.specs.Outcomes.{Left};
+ghost use Rattle.text.specs.Fields.{fields};
+ghost use Rattle.text.specs.Putting.{Put};
+ghost use Rattle.refusal_text.specs.Sayings.{badRow, firstSayings, furtherSayings, sayingIn};
+ghost use Rattle.refusal_text.specs.Text.{aboutTable, refusalTextOutcome, saidOf, sayingText};
+
+// Words, and one place behind them.
+fn put_one(out: &mut [u8], at: usize, words: &[u8], a: usize) -> usize
+    requires { ⌜ at + length (now words) + 21 ≤ length (now out) ⌝ }
+    ensures { λ r. ⌜ Put (now (words .entry) ++ fields (a ∷ [])) at (now (out .entry)) r (now (out .exit)) ⌝ }
+{
+    let p = text::put_word(out, at, words);
+    text::put_field(out, p, a as u64)
+}
+
+// Words, and two places behind them.
+fn put_two(out: &mut [u8], at: usize, words: &[u8], a: usize, b: usize) -> usize
+    requires { ⌜ at + length (now words) + 42 ≤ length (now out) ⌝ }
+    ensures { λ r. ⌜ Put (now (words .entry) ++ fields (a ∷ b ∷ [])) at (now (out .entry)) r (now (out .exit)) ⌝ }
+{
+    let p = text::put_word(out, at, words);
+    let q = text::put_field(out, p, a as u64);
+    text::put_field(out, q, b as u64)
+}
+
+// Words, and all four places behind them.
+fn put_four(
+    out: &mut [u8],
+    at: usize,
+    words: &[u8],
+    a: usize,
+    b: usize,
+    c: usize,
+    d: usize,
+) -> usize
+    requires { ⌜ at + length (now words) + 84 ≤ length (now out) ⌝ }
+    ensures { λ r. ⌜ Put (now (words .entry) ++ fields (a ∷ b ∷ c ∷ d ∷ [])) at (now (out .entry)) r (now (out .exit)) ⌝ }
+{
+    let p = text::put_word(out, at, words);
+    let q = text::put_field(out, p, a as u64);
+    let s = text::put_field(out, q, b as u64);
+    let t = text::put_field(out, s, c as u64);
+    text::put_field(out, t, d as u64)
+}
+
+// Refusal 12, whose row is 0 where the index call gives it.
+fn put_bad_row(out: &mut [u8], at: usize, row: usize) -> usize
+    requires { ⌜ at + 163 ≤ length (now out) ⌝ }
+    ensures { λ r. ⌜ Put (sayingText (badRow row)) at (now (out .entry)) r (now (out .exit)) ⌝ }
+{
+    if row == 0 {
+        return text::put_word(out, at, b"bad far side or bad row");
+    }
+    put_one(out, at, b"bad far side or bad row: row", row)
+}
+
+// What is said of a refusal from 8 on, and of a number that no refusal has.
+fn put_further(out: &mut [u8], at: usize, number: usize, a: usize) -> usize
+    requires { ⌜ at + 163 ≤ length (now out) ⌝ }
+    ensures { λ r. ⌜ Put (sayingText (sayingIn number (furtherSayings a))) at (now (out .entry)) r (now (out .exit)) ⌝ }
+{
+    match number {
+        8 => text::put_word(out, at, b"image outside 1..n, or first and last the same"),
+        9 => text::put_word(out, at, b"stored bytes end early"),
+        10 => put_one(out, at, b"row count outside n..2n-3: count", a),
+        11 => text::put_word(out, at, b"fill bits not zero"),
+        12 => put_bad_row(out, at, a),
+        13 => put_one(out, at, b"an own link is missing: image", a),
+        14 => text::put_word(out, at, b"neither table includes the other"),
+        15 => text::put_word(out, at, b"stored tables of different n"),
+        _ => put_one(out, at, b"no such refusal: number", number),
+    }
+}
+
+// What is said of a refusal, whatever its number.
+fn put_said(
+    out: &mut [u8],
+    at: usize,
+    number: usize,
+    a: usize,
+    b: usize,
+    c: usize,
+    d: usize,
+) -> usize
+    requires { ⌜ at + 163 ≤ length (now out) ⌝ }
+    ensures { λ r. ⌜ Put (saidOf number a b c d) at (now (out .entry)) r (now (out .exit)) ⌝ }
+{
+    match number {
+        0 => text::put_word(out, at, b"accepted"),
+        1 => put_one(out, at, b"n outside 3..64: n", a),
+        2 => text::put_word(out, at, b"a length does not fit n or the row count"),
+        3 => text::put_word(out, at, b"too little room"),
+        4 => put_two(out, at, b"entry above 1,000,000: row and column", a, b),
+        5 => put_one(out, at, b"diagonal not zero: image", a),
+        6 => put_two(out, at, b"asymmetric: row and column", a, b),
+        7 => put_four(out, at, b"no wiring: images", a, b, c, d),
+        _ => put_further(out, at, number, a),
+    }
+}
+
+// The table that the refusal is about, where it is about one.
+fn put_table(out: &mut [u8], at: usize, number: usize, table: usize) -> usize
+    requires { ⌜ at + 28 ≤ length (now out) ⌝ }
+    ensures { λ r. ⌜ Put (aboutTable number table) at (now (out .entry)) r (now (out .exit)) ⌝ }
+{
+    if number == 0 {
+        return at;
+    }
+    if table == 0 {
+        return at;
+    }
+    let p = text::put_word(out, at, b"table");
+    let q = text::put_field(out, p, table as u64);
+    text::put_word(out, q, b": ")
+}
+
+// The text of the refusal of that number, about that table, 0 for none, with those places, and one zero byte behind it, at the front of the
+// lent bytes. The answer is all bytes written, the zero byte among them. No other byte is written.
+pub fn refusal_text(
+    number: usize,
+    table: usize,
+    a: usize,
+    b: usize,
+    c: usize,
+    d: usize,
+    out: &mut [u8],
+) -> Written
+    ensures { λ r. ⌜ Left (refusalTextOutcome number table a b c d (now (out .entry))) r (now (out .exit)) ⌝ }
+{
+    match ground::refuse_if(out.len() < 192, 3, 0, 0) {
+        Check::Refused(r) => Written::Refused(r),
+        Check::Passed => {
+            let p = put_table(out, 0, number, table);
+            let q = put_said(out, p, number, a, b, c, d);
+            Written::Places(text::put_byte(out, q, 0))
+        }
+    }
+}
