@@ -561,6 +561,7 @@ contains
         call say(kemotuiki_own_link_missing, 0, [5, 0, 0, 0], 'an own link is missing: image 5')
         call say(kemotuiki_neither_includes, 0, [0, 0, 0, 0], 'neither table includes the other')
         call say(kemotuiki_different_n, 0, [0, 0, 0, 0], 'stored tables of different n')
+        call say(16, 0, [0, 0, 0, 0], 'no such refusal: number 16')
     end subroutine
 
     subroutine say(number, table, places, text)
