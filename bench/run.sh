@@ -7,7 +7,7 @@ earlier=${1:+$(realpath "$1")}
 cd "$(dirname "$0")/.."
 . scripts/cross.sh
 if [ -z "$CC" ] || [ "$RUN" = none ]; then
-    echo "bench: SKIPPED, no C compiler for x86-64 or no emulator on this machine"
+    not_run "the benchmark" "no C compiler for x86-64, or no emulator"
     exit 0
 fi
 need_archive

@@ -1,11 +1,11 @@
 #!/usr/bin/env bash
 # Builds both examples against the archive, runs them, and compares what they print with expected.txt. The archive is made if
-# it is not there. Status 1 on a difference.
+# it is not there. Status 1 on a difference, 0 if all is the same or something could not be run, which is said.
 set -euo pipefail
 cd "$(dirname "$0")/.."
 . scripts/cross.sh
 if [ "$RUN" = none ]; then
-    echo "examples: SKIPPED, no emulator on this machine"
+    not_run "the examples" "no emulator of x86-64"
     exit 0
 fi
 need_archive
@@ -22,12 +22,12 @@ if [ -n "$CC" ]; then
     "$CC" -std=c11 -O2 -Wall -Wextra -Iinclude examples/c/team.c "$archive" -o "$work/c"
     run c
 else
-    echo "examples: SKIPPED, no C compiler for x86-64"
+    not_run "the C example" "no C compiler for x86-64"
 fi
 if [ -n "$FC" ]; then
     "$FC" -std=f2018 -O2 -Wall -J "$work" fortran/kemotuiki.f90 examples/fortran/{network,team}.f90 "$archive" -o "$work/fortran"
     run fortran
 else
-    echo "examples: SKIPPED, no Fortran compiler for x86-64"
+    not_run "the Fortran example" "no Fortran compiler for x86-64"
 fi
 exit $status

@@ -1,32 +1,64 @@
-# For the scripts that use the archive, which is x86-64 code: sets archive and the calls that make it, then CC, FC, AR and RUN. On
-# x86-64 those are the machine's own compilers and nothing in front of a program; elsewhere Debian's cross compilers and qemu-user,
-# which are installed if this runs as root and they are not there. What cannot be had is empty, and said.
+# For the scripts that use the archive, which is x86-64 code; to be sourced at the top of the repository. Has the calls that make
+# the archive, and sets CC, CXX, FC, AR, PKG_CONFIG and RUN. On x86-64 those are the machine's own compilers and nothing in front
+# of a program; elsewhere Debian's cross compilers, and an emulator with their C library. What is missing is installed from Debian
+# if this runs as root, unless the script has set may_install=no. What cannot be had is empty, or none for RUN.
+. scripts/common.sh
+need_kit
 archive=target/staticlib/libkemotuiki.a
 
-# The tests and the installer prove and make it anew; what only uses it takes the one that is there.
-make_archive() { rt staticlib kemotuiki; }
-need_archive() { [ -f "$archive" ] || make_archive >/dev/null; }
-
-have() { command -v "$1" >/dev/null 2>&1; }
-
-want() { # PROGRAM PACKAGE..
-    have "$1" && return 0
-    if [ "$(id -u)" = 0 ] && have apt-get; then
-        shift
-        { timeout 60 apt-get update -qq && timeout 240 apt-get install -y -qq "$@"; } </dev/null >/dev/null 2>&1 || true
-    fi
+# One line for the archive, the kit and every file that the archive is made from.
+archive_sum() {
+    {
+        rt version
+        find crates.txt crates -type f \( -name crates.txt -o -name '*.rt' -o -name '*.antt' \) -exec sha256sum {} + | LC_ALL=C sort
+        sha256sum "$archive"
+    } | sha256sum
 }
 
+# Proves and makes the archive. The crates below it are proved first, as many at a time as rt allows.
+make_archive() {
+    # shellcheck disable=SC2046
+    prove $(sed -n 's/^kemotuiki://p' crates.txt) || return
+    local log=target/log/archive.log
+    echo "$said_by: making the archive" >&2
+    rt staticlib kemotuiki >"$log" 2>&1 || { tail -n 5 "$log" >&2; return 1; }
+    archive_sum >"$archive.sum"
+}
+
+# The same, unless the archive is there and was made from these very files.
+need_archive() { { [ -f "$archive" ] && [ -f "$archive.sum" ] && [ "$(archive_sum)" = "$(cat "$archive.sum")" ]; } || make_archive; }
+
+want() { # PROGRAM PACKAGE..
+    have "$1" || install_packages "${@:2}"
+}
+
+# Installs from Debian where that may be done. The lists of packages are only fetched if it does not work with those that are there.
+install_packages() { # PACKAGE..
+    { [ "${may_install:-yes}" = yes ] && [ "$(id -u)" = 0 ] && have apt-get; } || return 0
+    echo "$said_by: installing $*" >&2
+    packages install --no-install-recommends "$@" || { packages update && packages install --no-install-recommends "$@"; } || true
+}
+
+packages() { DEBIAN_FRONTEND=noninteractive timeout 300 apt-get -y -qq "$@" </dev/null >/dev/null 2>&1; }
+
+want python3 python3
+want pkg-config pkg-config
 if [ "$(uname -m)" = x86_64 ]; then
     want gcc gcc libc6-dev
-    want gfortran gfortran
-    CC=gcc FC=gfortran AR=ar RUN=
+    want g++ g++ libc6-dev
+    want gfortran gfortran libc6-dev
+    CC=gcc CXX=g++ FC=gfortran AR=ar RUN=
 else
     want x86_64-linux-gnu-gcc gcc-x86-64-linux-gnu libc6-dev-amd64-cross
-    want x86_64-linux-gnu-gfortran gfortran-x86-64-linux-gnu
-    want qemu-x86_64 qemu-user
-    CC=x86_64-linux-gnu-gcc FC=x86_64-linux-gnu-gfortran AR=x86_64-linux-gnu-ar RUN='qemu-x86_64 -L /usr/x86_64-linux-gnu'
-    have qemu-x86_64 || RUN=none
+    want x86_64-linux-gnu-g++ g++-x86-64-linux-gnu libc6-dev-amd64-cross
+    want x86_64-linux-gnu-gfortran gfortran-x86-64-linux-gnu libc6-dev-amd64-cross
+    CC=x86_64-linux-gnu-gcc CXX=x86_64-linux-gnu-g++ FC=x86_64-linux-gnu-gfortran AR=x86_64-linux-gnu-ar
+    [ -n "$(emulator)" ] || want qemu-x86_64 qemu-user
+    RUN=$(emulator)
+    RUN=${RUN:+$RUN -L /usr/x86_64-linux-gnu}
+    RUN=${RUN:-none}
 fi
 have "$CC" || CC=
+have "$CXX" || CXX=
 have "$FC" || FC=
+PKG_CONFIG=$(command -v pkg-config || command -v pkgconf || true)

@@ -1,23 +1,23 @@
 #!/usr/bin/env bash
 # listing.sh [FILE]: prints the tree of the stored cost table in FILE, or on standard input. The program is proved and built first
-# if it is not there. It is x86-64 code: elsewhere it runs under the emulator that the kit has beside its compiler.
+# if it is not there, which takes minutes and says on standard error how far it is. It is x86-64 code: elsewhere it runs under an
+# emulator. Status 0 if the program ran, 1 if it was not proved, 2 if the file, the kit or the emulator is missing.
 set -euo pipefail
-root=$(cd "$(dirname "$0")/.." && pwd)
-program=$root/target/bin/listing
+table=${1:-/dev/stdin}
+case $table in /*) ;; *) table=$PWD/$table ;; esac
+[ -r "$table" ] && [ ! -d "$table" ] || { echo "listing.sh: cannot read $table" >&2; exit 2; }
+cd "$(dirname "$0")/.."
+. scripts/common.sh
+need_kit
+program=target/bin/listing
 if [ ! -x "$program" ]; then
-    echo "listing.sh: proving and building the program, once" >&2
-    log=$(mktemp)
-    (cd "$root" && rt check listing) >"$log" 2>&1 || { tail -5 "$log" >&2; exit 1; }
-    rm -f "$log"
+    echo "listing.sh: proving and building the program, once: $(crates_of listing) crates, some minutes" >&2
+    prove listing </dev/null || exit 1
 fi
-kit=$(dirname "$(dirname "$(rt doc)")")
 machine=$(uname -m)
 command=()
 if [ "$machine" != x86_64 ]; then
-    for emulator in "$kit/on/$machine/toolchain/bin/qemu-x86_64" "$(command -v qemu-x86_64 || true)"; do
-        [ -n "$emulator" ] && [ -x "$emulator" ] && break
-        emulator=
-    done
+    emulator=$(emulator)
     [ -n "$emulator" ] || { echo "listing.sh: this machine is $machine and there is no qemu-x86_64" >&2; exit 2; }
     command+=("$emulator")
 fi
@@ -27,4 +27,4 @@ for lib in "$kit/on/$machine/toolchain/lib" "$kit/toolchain/lib"; do
         break
     fi
 done
-exec "${command[@]}" "$program" <"${1:-/dev/stdin}"
+exec "${command[@]}" "$program" <"$table"

@@ -1,7 +1,7 @@
 /*
  * The cases of crates/cases/data through the archive: boundary DATA prints what crates/cases/stdout has for the calls that are
  * exported. Every lent buffer stands between guard bytes, which are compared after the call, and every input is compared with
- * a copy. boundary --edges tries null pointers with count 0, and numbers too large for anything.
+ * a copy. boundary --edges tries null pointers with count 0, numbers too large for anything, and the text of every answer.
  */
 #include <errno.h>
 #include <stdio.h>
@@ -412,10 +412,62 @@ static void no_bytes(void) {
     EXPECT(KemotuikiChoice, choice, (NULL, 0, NULL, 0), KEMOTUIKI_BYTES_END, 0, 1);
 }
 
+/* ---- the text of an answer ---- */
+
+static const struct {
+    size_t head[6];
+    const char *text;
+} texts[] = {
+    {{0, 0, 0, 0, 0, 0}, "accepted"},
+    {{1, 0, 65, 0, 0, 0}, "n outside 3..64: n 65"},
+    {{1, 0, SIZE_MAX, 0, 0, 0}, "n outside 3..64: n 18446744073709551615"},
+    {{2, 0, 0, 0, 0, 0}, "a length does not fit n or the row count"},
+    {{2, 3, 0, 0, 0, 0}, "table 3: a length does not fit n or the row count"},
+    {{3, 0, 0, 0, 0, 0}, "too little room"},
+    {{4, 0, 1, 5, 0, 0}, "entry above 1,000,000: row and column 1 5"},
+    {{5, 0, 3, 0, 0, 0}, "diagonal not zero: image 3"},
+    {{6, 2, 1, 3, 0, 0}, "table 2: asymmetric: row and column 1 3"},
+    {{7, 0, 1, 2, 3, 5}, "no wiring: images 1 2 3 5"},
+    {{7, SIZE_MAX, SIZE_MAX, SIZE_MAX, SIZE_MAX, SIZE_MAX},
+     "table 18446744073709551615: no wiring: images 18446744073709551615 18446744073709551615 18446744073709551615 "
+     "18446744073709551615"},
+    {{8, 0, 0, 0, 0, 0}, "image outside 1..n, or first and last the same"},
+    {{9, 1, 0, 0, 0, 0}, "table 1: stored bytes end early"},
+    {{10, 0, 17, 0, 0, 0}, "row count outside n..2n-3: count 17"},
+    {{11, 0, 0, 0, 0, 0}, "fill bits not zero"},
+    {{12, 0, 0, 0, 0, 0}, "bad far side or bad row"},
+    {{12, 0, 4, 0, 0, 0}, "bad far side or bad row: row 4"},
+    {{13, 0, 5, 0, 0, 0}, "an own link is missing: image 5"},
+    {{14, 0, 0, 0, 0, 0}, "neither table includes the other"},
+    {{15, 0, 0, 0, 0, 0}, "stored tables of different n"},
+    {{16, 0, 0, 0, 0, 0}, "no such refusal: number 16"},
+    {{SIZE_MAX, 0, 1, 2, 3, 4}, "no such refusal: number 18446744073709551615"},
+};
+
+/* Each text with its zero byte, in just enough room and in more; and no byte altered where the room is one short. */
+static void text_of_answers(void) {
+    call_name = "refusal_text";
+    for (size_t k = 0; k < sizeof texts / sizeof *texts; k++)
+        for (size_t room = KEMOTUIKI_TEXT_BYTES - 1; room < KEMOTUIKI_TEXT_BYTES + 2; room++) {
+            Lent lo;
+            const size_t *h = texts[k].head;
+            char *out = lend(&lo, room, 1);
+            keep(&lo);
+            KemotuikiBytes r = kemotuiki_refusal_text(h[0], h[1], h[2], h[3], h[4], h[5], out, room);
+            if (room < KEMOTUIKI_TEXT_BYTES) {
+                if (r.number != KEMOTUIKI_NO_ROOM || r.used) fault("too little room was not refused");
+            } else if (r.number || r.used != strlen(texts[k].text) + 1 || memcmp(out, texts[k].text, r.used))
+                fprintf(stderr, "%s: not \"%s\"\n", call_name, texts[k].text), faults++;
+            settle(&lo, r.used);
+        }
+    EXPECT(KemotuikiBytes, refusal_text, (7, 0, 1, 2, 3, 4, NULL, 0), KEMOTUIKI_NO_ROOM, 0, 0);
+}
+
 static int edges(void) {
     no_images();
     no_places();
     no_bytes();
+    text_of_answers();
     return faults ? 1 : 0;
 }
 

@@ -7,11 +7,10 @@ cd "$(dirname "$0")/.."
 . scripts/cross.sh
 
 if [ -z "$CC" ] || [ "$RUN" = none ]; then
-    echo "boundary: SKIPPED, no C compiler for x86-64 or no emulator on this machine"
+    not_run "the boundary" "no C compiler for x86-64, or no emulator"
     exit 0
 fi
-mkdir -p target
-make_archive >target/boundary.log 2>&1 || { tail -5 target/boundary.log; echo "boundary: the archive was not built"; exit 1; }
+need_archive || { echo "boundary: the archive was not made"; exit 1; }
 work=$(mktemp -d)
 trap 'rm -rf "$work"' EXIT
 status=0
@@ -44,9 +43,9 @@ fi
 printf '#include "kemotuiki.h"\nint main(void) { return sizeof(KemotuikiAnswer) == 88 ? 0 : 1; }\n' >"$work/size.c"
 "$CC" -Iinclude "$work/size.c" -o "$work/size"
 $RUN "$work/size" || { echo "boundary: the struct is not 88 bytes"; status=1; }
-if have g++; then
-    g++ -x c++ -Wall -Wextra -Werror -Iinclude -fsyntax-only "$work/size.c" || { echo "boundary: the header is not C++"; status=1; }
+if [ -n "$CXX" ]; then
+    "$CXX" -x c++ -Wall -Wextra -Werror -Iinclude -fsyntax-only "$work/size.c" || { echo "boundary: the header is not C++"; status=1; }
 else
-    echo "boundary: SKIPPED, no C++ compiler for the header"
+    not_run "the header as C++" "no C++ compiler for x86-64"
 fi
 exit $status

@@ -15,6 +15,9 @@ the text it prints. All is decided by the seeds below.
 import os
 import sys
 
+if not __debug__:
+    sys.exit("generate.py: run it without -O, which leaves out the assertions")
+
 sys.dont_write_bytecode = True
 
 import independent as law
@@ -23,10 +26,14 @@ from independent import (Dice, is_inner, own_link, pairs, stored_costs, table_fr
 
 ROOT = os.path.dirname(os.path.dirname(os.path.abspath(__file__)))
 
+# The programs that run the cases have arrays of these lengths: for a slice of numbers, for
+# one of bytes, for the bytes of the reader's calls, and for a file of cases.
 LONGEST_LINE = 60000
 LONGEST_SLICE = 4200
-LONGEST_READ = 5200
+LONGEST_BYTES = 5200
+LONGEST_READ = 10200
 LARGEST_FILE = 400000
+LARGEST_ANSWERS = 1000000
 LARGEST_TOTAL = 4000000
 FEWEST_CASES = 2500
 FEWEST_OF_EACH_REFUSAL = 8
@@ -57,6 +64,9 @@ CALLS = {
 
 # Those that put a table's number behind a refusal number.
 OVER_SEVERAL_TABLES = ("compare", "write_batch", "choice", "two_costs")
+
+# Those of the reader.
+READER = ("first_two", "first_links", "two_costs", "two_fields")
 
 # Those that answer twice, each answer with a position behind it, and how many numbers
 # an accepted answer has.
@@ -403,6 +413,19 @@ def write_costs_cases(dice):
     yield 33, law.random_table(dice, 33, 1000000), byte_places(dice, stored_length(33))
     yield 58, tree(dice, 58, 1, "uneven"), [9] * (stored_length(58) + 1)
     yield 64, table_from(64, [1] * 2016), byte_places(dice, 50)
+    # 64 images, whose stored form has 5,041 bytes and one fill bit.
+    n, needed = 64, stored_length(64)
+    assert needed == 5041
+    yield n, tree(dice, n, 3000, "uneven"), byte_places(dice, needed)
+    yield n, law.random_table(dice, n, 1000000), [9] * (needed + 4)
+    plain = table_from(n, [0] * 2016)
+    for more in (-1, 0, 1):
+        yield n, table_from(n, [1000000] + [0] * 2014 + [1000000]), [9] * (needed + more)
+    for row, column, entry in ((64, 63, 1000001), (64, 64, 1), (63, 64, 5)):
+        t = list(plain)
+        t[(row - 1) * n + column - 1] = entry
+        yield n, t, [9] * needed
+    yield n, plain[:-1], [9] * needed
 
 
 # Link tables
@@ -847,6 +870,24 @@ def read_costs_cases(dice):
     start = stored_costs(64, [1] * 4096)[:40]
     yield start, 0, places(dice, 64)
     yield start, 0, [8] * 4096
+    # All of the 5,041 bytes: accepted, with just enough room and with more, alone and between
+    # other bytes; then each fault alone, and two at once.
+    yield stored_costs(64, tree(dice, 64, 3000, "uneven")), 0, [8] * 4096
+    yield [7] + stored_costs(64, law.random_table(dice, 64, 1000000)) + [6, 0], 8, [8] * 4097
+    upper = [1000000] + [0] * 2014 + [1000000]
+    stored = stored_costs(64, table_from(64, upper))
+    assert len(stored) == 5041
+    too_large = stored_costs(64, table_from(64, upper[:-1] + [1000001]))
+    yield stored, 0, [8] * 4096
+    yield stored, 0, [8] * 4095
+    yield stored[:-1], 0, [8] * 4096
+    yield stored[:-1], 0, [8] * 4095
+    yield stored[:-1] + [stored[-1] + 1], 0, [8] * 4096
+    yield too_large, 0, [8] * 4096
+    yield too_large[:-1] + [too_large[-1] + 1], 0, [8] * 4096
+    yield stored_costs(64, table_from(64, [1000001] + upper[1:]))[:-1], 0, [8] * 4096
+    yield [130] + stored[1:], 0, [8] * 4096
+    yield [7] + stored, 8 * 5042, [8] * 4096
 
 
 def choice_cases(dice):
@@ -988,6 +1029,10 @@ def first_two_cases(dice):
     yield stored + one, 0, places(dice, 4097), places(dice, 9)
     yield one + [128, 0], 0, places(dice, 9), places(dice, 4096)
     yield [128, 0], 0, places(dice, 4095), places(dice, 4096)
+    # Two of 64 images: both accepted, the second one byte short.
+    stored = stored_costs(64, table_from(64, [0] * 2015 + [1000000]))
+    yield stored * 2, 0, [8] * 4096, [9] * 4096
+    yield stored + stored[:-1], 0, [8] * 4096, [9] * 4096
 
 
 def first_links_cases(dice):
@@ -1069,6 +1114,15 @@ def two_costs_cases(dice):
     n = 17
     stored = stored_costs(n, tree(dice, n, 3, "uneven"))
     yield one + stored, places(dice, 10), places(dice, n * n)
+    # 64 images: in the first, in the second, in both; the last entry, or the fill bit, of the second spoilt.
+    stored = stored_costs(64, table_from(64, [0] * 2015 + [1000000]))
+    too_large = stored_costs(64, table_from(64, [0] * 2015 + [1000001]))
+    yield stored + one, [8] * 4096, [9] * 9
+    yield one + stored, [8] * 9, [9] * 4097
+    yield one + stored[:-1], [8] * 9, [9] * 4096
+    yield stored * 2 + [1], [8] * 4096, [9] * 4096
+    yield stored + too_large, [8] * 4096, [9] * 4096
+    yield stored + stored[:-1] + [stored[-1] + 1], [8] * 4096, [9] * 4096
 
 
 def two_fields_cases(dice):
@@ -1148,9 +1202,10 @@ def check_arguments(name, arguments):
         if kind == "n":
             assert 0 <= argument < 2 ** 64, (name, argument)
         else:
-            longest = LONGEST_READ if name in TWICE and kind == "8" else LONGEST_SLICE
+            bits = int(kind.rstrip("*"))
+            longest = LONGEST_SLICE if bits > 8 else LONGEST_READ if name in READER else LONGEST_BYTES
             assert len(argument) <= longest, (name, len(argument))
-            most = 2 ** int(kind.rstrip("*"))
+            most = 2 ** bits
             assert all(0 <= element < most for element in argument), (name, argument)
 
 
@@ -1201,12 +1256,13 @@ def make():
             assert table == 0 or {(number, 1), (number, 2)} <= by_table, (name, number, table)
         files["crates/cases/data/%s.txt" % name] = "".join(line + "\n" for line in inputs).encode()
         report.append((name, len(inputs), refusals))
+    assert max(map(len, files.values())) <= LARGEST_FILE, {f: len(t) for f, t in files.items()}
     files["crates/cases/stdout"] = "".join(line + "\n" for line in answers).encode()
+    assert len(files["crates/cases/stdout"]) <= LARGEST_ANSWERS, len(files["crates/cases/stdout"])
     for name, stored in listing_inputs():
         files["tests/listing/%s.stdin" % name] = bytes(stored)
         files["tests/listing/%s.stdout" % name] = law.listing(stored).encode()
     assert sum(count for _, count, _ in report) >= FEWEST_CASES
-    assert max(map(len, files.values())) <= LARGEST_FILE, {f: len(t) for f, t in files.items()}
     assert sum(map(len, files.values())) <= LARGEST_TOTAL, sum(map(len, files.values()))
     return files, report
 

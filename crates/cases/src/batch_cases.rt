@@ -27,7 +27,7 @@ fn rows_case(ns: &[u32], counts: &[u32], text: &[u8], at: usize) -> usize {
     let mut doubled = [0u32; 4200];
     let costs = take32(text, fars.next, &mut doubled);
     let v = costs.count;
-    let mut bytes = [0u8; 4200];
+    let mut bytes = [0u8; 5200];
     let room = take8(text, costs.next, &mut bytes);
     let size = room.count;
     let out = &mut bytes[..size];

@@ -84,7 +84,7 @@ fn compare_case(n: usize, t: &[u32], text: &[u8], at: usize) -> usize {
 }
 
 fn write_costs_case(n: usize, t: &[u32], text: &[u8], at: usize) -> usize {
-    let mut bytes = [0u8; 4200];
+    let mut bytes = [0u8; 5200];
     let room = take8(text, at, &mut bytes);
     let count = room.count;
     let out = &mut bytes[..count];

@@ -62,7 +62,7 @@ fn write_links_case(
     text: &[u8],
     at: usize,
 ) -> usize {
-    let mut bytes = [0u8; 4200];
+    let mut bytes = [0u8; 5200];
     let room = take8(text, at, &mut bytes);
     let size = room.count;
     let out = &mut bytes[..size];

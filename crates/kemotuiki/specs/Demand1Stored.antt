@@ -1,4 +1,4 @@
--- Demand 1 for the calls over stored tables, said as in Demand1.antt. Assumes nothing.
+-- Demand 1 for the calls over stored tables, and for the text of an answer, said as in Demand1.antt. Assumes nothing.
 use mathlib.Core.List.{List, [], _++_, _∷_}
 use mathlib.Core.Path.{ap, refl, sym, _∙_, _≡_}
 use Prim.Native.Nat.{min, ℕ}
@@ -15,6 +15,8 @@ use Rattle.batch.specs.InOrder.{batch-decides, batch-numbers, batch-unaltered, 
 use Rattle.batch.specs.Tables.{tables}
 use Rattle.choice.specs.Call.{choiceOf}
 use Rattle.choice.specs.InOrder.{choice-decides, choiceSteps}
+use Rattle.refusal_text.specs.InOrder.{refusal-text-order, refusalTextSteps}
+use Rattle.refusal_text.specs.Text.{refusalTextCheck, refusalTextOutcome}
 use Rattle.numbers.specs.Stored.{ofBatched, ofBytes, ofChosen, ofCosts, ofLinks}
 use Rattle.numbers.specs.declared.KemotuikiBytes.{KemotuikiBytes}
 use Rattle.numbers.specs.declared.KemotuikiChoice.{KemotuikiChoice}
@@ -86,3 +88,12 @@ pub choice : (s t : List ℕ) (r : KemotuikiChoice) → r ≡ ofChosen (choiceOf
     → Refusals (ofTable 1 (9 ∷ 1 ∷ 10 ∷ 9 ∷ 11 ∷ 12 ∷ 13 ∷ []) ++ (ofTable 2 (9 ∷ 1 ∷ 10 ∷ 9 ∷ 11 ∷ 12 ∷ 13 ∷ []) ++ ofTable 0 (15 ∷ 14 ∷ [])))
     (choiceSteps oldLinks s t) (r .head) [] []
 choice s t r e = refusals (λ (k : KemotuikiChoice). k .head) ofChosen chosen.Refused (λ m q. refl) refl refl (choice-decides oldLinks s t .2) e (λ a q f. refl)
+
+-- ## Texts
+
+pub refusal-text : (number table a b c d : ℕ) (out out′ : List ℕ) (r : KemotuikiBytes)
+    → Left (crossed ofBytes (refusalTextOutcome number table a b c d out)) r out′
+    → Refusals (ofTable 0 (3 ∷ [])) (refusalTextSteps (length out)) (r .head) (out ∷ []) (out′ ∷ [])
+refusal-text number table a b c d out out′ r p =
+    by-left (λ (k : KemotuikiBytes). k .head) ofBytes written.Refused (λ q. refl) (refusalTextCheck (length out)) _ _ out refl refl
+    (refusal-text-order (length out)) p

@@ -24,6 +24,7 @@ ghost use Rattle.link_writer.specs.Writing as links-writing;
 ghost use Rattle.stored_links.specs.Outcomes as links-reading;
 ghost use Rattle.batch.specs.Batch.{batchOutcome};
 ghost use Rattle.choice.specs.Call.{choiceOf};
+ghost use Rattle.refusal_text.specs.Text.{refusalTextOutcome};
 ghost use Rattle.numbers.specs.Numbers.{ofIndex, ofOrder, ofRows, ofPath, ofComparison};
 ghost use Rattle.numbers.specs.Stored.{ofBytes, ofBatched, ofCosts, ofLinks, ofChosen};
 ghost use Rattle.kemotuiki.specs.Crossing.{crossed, crossedRows};
@@ -203,4 +204,20 @@ pub extern "C" fn kemotuiki_choice(first: &[u8], second: &[u8]) -> KemotuikiChoi
     ensures { λ r. ⌜ r ≡ ofChosen (choiceOf oldLinks (now (first .entry)) (now (second .entry))) ⌝ }
 {
     numbers::of_chosen(choice::choice(first, second))
+}
+
+// What an answer with this head says, as text with a zero byte behind it.
+#[no_mangle]
+pub extern "C" fn kemotuiki_refusal_text(
+    number: usize,
+    table: usize,
+    a: usize,
+    b: usize,
+    c: usize,
+    d: usize,
+    out: &mut [u8],
+) -> KemotuikiBytes
+    ensures { λ r. ⌜ Left (crossed ofBytes (refusalTextOutcome number table a b c d (now (out .entry)))) r (now (out .exit)) ⌝ }
+{
+    numbers::of_bytes(refusal_text::refusal_text(number, table, a, b, c, d, out))
 }

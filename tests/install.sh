@@ -1,0 +1,71 @@
+#!/usr/bin/env bash
+# Installs to a temporary prefix, moves it, asks pkg-config, and builds the C and Fortran examples in a folder of their own with
+# nothing but what pkg-config answers; what they print must be examples/expected.txt. Then once more without Fortran. Last the
+# version: pkg-config, the header and the module have that of the file VERSION. Status 1 on a difference, 0 if all is right or
+# something could not be run, which is said.
+set -euo pipefail
+cd "$(dirname "$0")/.."
+. scripts/cross.sh
+if [ -z "$CC" ] || [ -z "$PKG_CONFIG" ] || [ "$RUN" = none ]; then
+    not_run "the examples from an installed prefix" "no C compiler for x86-64, no pkg-config, or no emulator"
+    exit 0
+fi
+root=$PWD
+version=$(cat VERSION)
+work=$(mktemp -d)
+trap 'rm -rf "$work"' EXIT
+mkdir "$work/build"
+cp examples/c/team.c examples/fortran/{network,team}.f90 "$work/build/"
+status=0
+
+same() { # WHAT WANTED FOUND
+    if [ "$2" = "$3" ]; then echo "install: $1, as expected"; else echo "install: $1: $3, and it must be $2"; status=1; fi
+}
+
+# Calls install.sh from another folder, with a prefix relative to it. What it says is shown if it fails.
+install_to() { # PREFIX [--no-fortran]
+    (cd "$work" && bash "$root/scripts/install.sh" ${2:+"$2"} "$1") >"$work/log" || { cat "$work/log"; echo "install: FAILED"; exit 1; }
+}
+
+# Builds in the folder of copies, with the answers of pkg-config behind the sources, runs, and compares with the file.
+builds() { # NAME EXPECTED COMPILER WORD..
+    local name=$1 expected=$2 flags
+    shift 2
+    flags=$("$PKG_CONFIG" --cflags --libs kemotuiki)
+    # The flags are words apart, as in a shell's $(pkg-config ..).
+    # shellcheck disable=SC2086
+    if (cd "$work/build" && "$@" $flags -o "$work/program") && $RUN "$work/program" | diff "$expected" -; then
+        echo "install: $name, as expected"
+    else
+        echo "install: $name FAILED"
+        status=1
+    fi
+}
+
+install_to first
+mv "$work/first" "$work/moved"
+export PKG_CONFIG_PATH=$work/moved/lib/pkgconfig
+"$PKG_CONFIG" --exists --print-errors kemotuiki || { echo "install: pkg-config does not find kemotuiki"; exit 1; }
+same "the version that pkg-config has" "$version" "$("$PKG_CONFIG" --modversion kemotuiki)"
+builds "the C example from the prefix" examples/expected.txt "$CC" -std=c11 -O2 -Wall -Wextra team.c
+if [ -n "$FC" ]; then
+    builds "the Fortran example from the prefix" examples/expected.txt "$FC" -std=f2018 -O2 -Wall network.f90 team.f90
+else
+    not_run "the Fortran example from an installed prefix" "no Fortran compiler for x86-64"
+fi
+
+# Over the same prefix without Fortran: nothing of the module stays, and C still links.
+install_to moved --no-fortran
+same "files of the Fortran module without Fortran" "" "$(cd "$work/moved" && ls lib/libkemotuiki_fortran.a include/*.mod 2>/dev/null)"
+builds "the C example without Fortran" examples/expected.txt "$CC" -std=c11 -O2 team.c
+
+# The version, once more with all.
+install_to moved
+echo "$version" >"$work/version"
+printf '#include <kemotuiki.h>\n#include <stdio.h>\nint main(void) { return puts(KEMOTUIKI_VERSION) < 0; }\n' >"$work/build/version.c"
+builds "the header's version" "$work/version" "$CC" -std=c11 -Wall -Wextra version.c
+if [ -n "$FC" ]; then
+    printf 'program version\nuse kemotuiki, only: kemotuiki_version\nprint "(a)", kemotuiki_version\nend program\n' >"$work/build/version.f90"
+    builds "the module's version" "$work/version" "$FC" -std=f2018 -Wall version.f90
+fi
+exit $status
