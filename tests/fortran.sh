@@ -5,7 +5,6 @@
 set -euo pipefail
 cd "$(dirname "$0")/.."
 . scripts/cross.sh
-declare -F not_run >/dev/null || not_run() { echo "NOT RUN: $1, $2"; }
 
 if [ -z "$FC" ] || [ "$RUN" = none ]; then
     not_run "the Fortran module" "no Fortran compiler for x86-64, or no emulator"
