@@ -1,6 +1,7 @@
 #!/usr/bin/env bash
-# Builds both examples against the archive, runs them, and compares what they print with expected.txt. The archive is made if
-# it is not there. Status 1 on a difference, 0 if all is the same or something could not be run, which is said.
+# Builds the examples in C and in Fortran against the archive, runs them, and compares what they print: the first programs with
+# first.txt, the rows of the README's worked example, and the teams with expected.txt. The archive is made if it is not there.
+# Status 1 on a difference, 0 if all is the same or something could not be run, which is said.
 set -euo pipefail
 cd "$(dirname "$0")/.."
 . scripts/cross.sh
@@ -13,20 +14,26 @@ work=$(mktemp -d)
 trap 'rm -rf "$work"' EXIT
 status=0
 
-run() { # NAME
-    $RUN "$work/$1" >"$work/$1.out"
-    if diff examples/expected.txt "$work/$1.out"; then echo "examples: $1, as expected"; else status=1; fi
+run() { # NAME EXPECTED
+    $RUN "$work/$1" >"$work/$1.out" || { echo "examples: $1 ended with status $?"; status=1; }
+    if diff "examples/$2" "$work/$1.out"; then echo "examples: $1, as expected"; else status=1; fi
 }
 
 if [ -n "$CC" ]; then
-    "$CC" -std=c11 -O2 -Wall -Wextra -Iinclude examples/c/team.c "$archive" -o "$work/c"
-    run c
+    "$CC" -std=c11 -O2 -Wall -Wextra -Iinclude examples/c/first.c "$archive" -o "$work/c-first"
+    "$CC" -std=c11 -O2 -Wall -Wextra -Iinclude examples/c/team.c "$archive" -o "$work/c-team"
+    run c-first first.txt
+    run c-team expected.txt
 else
     not_run "the C example" "no C compiler for x86-64"
 fi
 if [ -n "$FC" ]; then
-    "$FC" -std=f2018 -O2 -Wall -J "$work" fortran/kemotuiki.f90 examples/fortran/{network,team}.f90 "$archive" -o "$work/fortran"
-    run fortran
+    "$FC" -std=f2018 -O2 -Wall -Wextra -J "$work" -c fortran/kemotuiki.f90 -o "$work/kemotuiki.o"
+    "$FC" -std=f2018 -O2 -Wall -Wextra -J "$work" examples/fortran/first.f90 "$work/kemotuiki.o" "$archive" -o "$work/fortran-first"
+    "$FC" -std=f2018 -O2 -Wall -Wextra -J "$work" examples/fortran/{network,team}.f90 "$work/kemotuiki.o" "$archive" \
+        -o "$work/fortran-team"
+    run fortran-first first.txt
+    run fortran-team expected.txt
 else
     not_run "the Fortran example" "no Fortran compiler for x86-64"
 fi

@@ -1,291 +1,492 @@
-! Kemotuiki for Fortran: relay trees from link costs. The calls of kemotuiki.h, with array arguments.
+! Kemotuiki for Fortran: relay trees from link costs. The calls of kemotuiki.h by the same names, with arrays for its slices. What a
+! call answers, its refusals and the room that it needs are in kemotuiki.h. Fortran 2008 and later.
 !
-! Fortran has no unsigned kinds. Entries, costs, images and counts fit the signed ones. Far sides are 64 bits in integer(int64):
-! with 64 images one that holds image 64 is negative as printed, and its bits are right. Stored bytes are integer(int8).
-! A cost table is passed as it is: d(j, i) is the entry in row i and column j, which only shows in the places of refusals 4 and 6.
-! Every call answers a type(kemotuiki_answer): number is 0 where the call was accepted, else the refusal's number. What the values
-! are, the refusals and the room are in kemotuiki.h.
+! Each call answers a type of its own. Values are there only where it was accepted, and r%text() says why it was refused:
+!
+!     r = kemotuiki_exact(t, fars, costs)
+!     if (r%accepted()) then
+!         print *, fars(:r%rows), costs(:r%rows)
+!     else
+!         print '(a)', r%text()                     ! no wiring: images 1 2 3 5
+!     end if
+!
+! A cost table has rank 2: t(i, j) is the entry in row i and column j. Entries, costs, images, rows and counts are default integers,
+! 32 bits in arrays; far sides are integer(int64), stored bytes integer(int8).
+!
+! Fortran has no unsigned integers. A far side is 64 bits, image i is bit i-1, btest(far, i-1). With 64 images a far side that holds
+! image 64 is negative as a signed number; its bits are right, and such rows stand last, since far sides ascend as unsigned numbers.
+! Stored bytes from 128 on are negative likewise.
 module kemotuiki
-    use, intrinsic :: iso_c_binding, only: c_int8_t, c_int32_t, c_int64_t, c_size_t
+    use, intrinsic :: iso_c_binding, only: c_char, c_int8_t, c_int32_t, c_int64_t, word => c_size_t
+    use, intrinsic :: iso_fortran_env, only: int8, int32, int64
     implicit none
     private
 
+    ! The version, as the file VERSION has it.
+    character(*), parameter, public :: kemotuiki_version = '1.0.0'
+    integer, parameter, public :: kemotuiki_version_major = 1, kemotuiki_version_minor = 0, kemotuiki_version_patch = 0
+
+    ! Room that is enough for every n: images, rows of a tree, bytes of the stored forms; and bytes of a refusal's text.
     integer, parameter, public :: kemotuiki_images = 64, kemotuiki_rows = 125
     integer, parameter, public :: kemotuiki_cost_bytes = 5041, kemotuiki_link_bytes = 1315
+    integer, parameter :: text_bytes = 192
 
-    type, bind(c), public :: kemotuiki_answer
-        integer(c_int32_t) :: number
-        integer(c_size_t) :: table
-        integer(c_size_t) :: a, b, c, d
-        integer(c_size_t) :: value, second, third, fourth, fifth
+    ! What an answer's number says; kemotuiki.h has what its places are.
+    integer, parameter, public :: &
+        kemotuiki_accepted = 0, &
+        kemotuiki_bad_n = 1, &
+        kemotuiki_bad_length = 2, &
+        kemotuiki_no_room = 3, &
+        kemotuiki_entry_too_large = 4, &
+        kemotuiki_diagonal_not_zero = 5, &
+        kemotuiki_asymmetric = 6, &
+        kemotuiki_no_wiring = 7, &
+        kemotuiki_bad_image = 8, &
+        kemotuiki_bytes_end = 9, &
+        kemotuiki_bad_row_count = 10, &
+        kemotuiki_fill_not_zero = 11, &
+        kemotuiki_bad_row = 12, &
+        kemotuiki_own_link_missing = 13, &
+        kemotuiki_neither_includes = 14, &
+        kemotuiki_different_n = 15
+
+    ! What all answers begin with: the refusal's number or 0, the table that was refused in calls that take more than one, and the
+    ! places. A place is the argument unchanged, so one above 2^63 - 1 is negative here.
+    type, public :: kemotuiki_answer
+        integer :: number
+        integer(int64) :: table, a, b, c, d
+    contains
+        procedure :: accepted
+        procedure :: text
     end type
 
-    public :: index_of, order_around, measured_reading, exact_reading, path_cost, upper_rows, route_of
-    public :: compare_tables, write_costs, read_costs, write_links, read_links, write_batch, choose_table
-    public :: accepted, refusal_text
+    type, extends(kemotuiki_answer), public :: kemotuiki_index_answer
+        integer :: index
+    end type
+    type, extends(kemotuiki_answer), public :: kemotuiki_order_answer
+        integer :: images
+    end type
+    type, extends(kemotuiki_answer), public :: kemotuiki_rows_answer
+        integer :: rows
+    end type
+    type, extends(kemotuiki_answer), public :: kemotuiki_path_answer
+        integer :: cost
+    end type
+    type, extends(kemotuiki_answer), public :: kemotuiki_comparison_answer
+        integer :: inner_first, inner_second, common, count, over
+    end type
+    type, extends(kemotuiki_answer), public :: kemotuiki_bytes_answer
+        integer(int64) :: used
+    end type
+    type, extends(kemotuiki_answer), public :: kemotuiki_costs_answer
+        integer :: n
+        integer(int64) :: used
+    end type
+    type, extends(kemotuiki_answer), public :: kemotuiki_links_answer
+        integer :: n, rows
+        integer(int64) :: used
+    end type
+    type, extends(kemotuiki_answer), public :: kemotuiki_choice_answer
+        integer :: chosen
+        integer(int64) :: used
+    end type
+
+    public :: kemotuiki_index, kemotuiki_order, kemotuiki_measured, kemotuiki_exact, kemotuiki_path, kemotuiki_upper_rows
+    public :: kemotuiki_route, kemotuiki_compare, kemotuiki_write_costs, kemotuiki_read_costs, kemotuiki_write_links
+    public :: kemotuiki_read_links, kemotuiki_write_batch, kemotuiki_choice
+
+    ! Far sides and bit positions may be of either kind.
+    interface kemotuiki_index
+        procedure index_int32, index_int64
+    end interface
+    interface kemotuiki_read_costs
+        procedure read_costs_int32, read_costs_int64
+    end interface
+    interface kemotuiki_read_links
+        procedure read_links_int32, read_links_int64
+    end interface
+
+    ! The structs of kemotuiki.h by the number of their values: what all begin with, then the values.
+    type, bind(c) :: one_value
+        integer(word) :: head(6), value
+    end type
+    type, bind(c) :: two_values
+        integer(word) :: head(6), values(2)
+    end type
+    type, bind(c) :: three_values
+        integer(word) :: head(6), values(3)
+    end type
+    type, bind(c) :: five_values
+        integer(word) :: head(6), values(5)
+    end type
+
+    abstract interface
+        function c_reading(n, t, t_count, fars, fars_count, costs, costs_count) result(r) bind(c)
+            import
+            integer(word), value :: n, t_count, fars_count, costs_count
+            integer(c_int32_t), intent(in) :: t(*)
+            integer(c_int64_t), intent(inout) :: fars(*)
+            integer(c_int32_t), intent(inout) :: costs(*)
+            type(one_value) :: r
+        end function
+    end interface
+    procedure(c_reading), bind(c, name='kemotuiki_measured') :: c_measured
+    procedure(c_reading), bind(c, name='kemotuiki_exact') :: c_exact
 
     interface
         function c_index(n, t, t_count, s) result(r) bind(c, name='kemotuiki_index')
             import
-            integer(c_size_t), value :: n, t_count
+            integer(word), value :: n, t_count
             integer(c_int32_t), intent(in) :: t(*)
             integer(c_int64_t), value :: s
-            type(kemotuiki_answer) :: r
+            type(one_value) :: r
         end function
         function c_order(n, t, t_count, first, last, out, out_count) result(r) bind(c, name='kemotuiki_order')
             import
-            integer(c_size_t), value :: n, t_count, first, last, out_count
+            integer(word), value :: n, t_count, first, last, out_count
             integer(c_int32_t), intent(in) :: t(*)
             integer(c_int32_t), intent(inout) :: out(*)
-            type(kemotuiki_answer) :: r
-        end function
-        function c_measured(n, t, t_count, fars, fars_count, costs, costs_count) result(r) bind(c, name='kemotuiki_measured')
-            import
-            integer(c_size_t), value :: n, t_count, fars_count, costs_count
-            integer(c_int32_t), intent(in) :: t(*)
-            integer(c_int64_t), intent(inout) :: fars(*)
-            integer(c_int32_t), intent(inout) :: costs(*)
-            type(kemotuiki_answer) :: r
-        end function
-        function c_exact(n, t, t_count, fars, fars_count, costs, costs_count) result(r) bind(c, name='kemotuiki_exact')
-            import
-            integer(c_size_t), value :: n, t_count, fars_count, costs_count
-            integer(c_int32_t), intent(in) :: t(*)
-            integer(c_int64_t), intent(inout) :: fars(*)
-            integer(c_int32_t), intent(inout) :: costs(*)
-            type(kemotuiki_answer) :: r
+            type(one_value) :: r
         end function
         function c_path(n, count, fars, fars_count, costs, costs_count, i, j) result(r) bind(c, name='kemotuiki_path')
             import
-            integer(c_size_t), value :: n, count, fars_count, costs_count, i, j
+            integer(word), value :: n, count, fars_count, costs_count, i, j
             integer(c_int64_t), intent(in) :: fars(*)
             integer(c_int32_t), intent(in) :: costs(*)
-            type(kemotuiki_answer) :: r
+            type(one_value) :: r
         end function
         function c_upper_rows(n, count, fars, fars_count, costs, costs_count, out, out_count) result(r) &
             bind(c, name='kemotuiki_upper_rows')
             import
-            integer(c_size_t), value :: n, count, fars_count, costs_count, out_count
+            integer(word), value :: n, count, fars_count, costs_count, out_count
             integer(c_int64_t), intent(in) :: fars(*)
             integer(c_int32_t), intent(in) :: costs(*)
             integer(c_int32_t), intent(inout) :: out(*)
-            type(kemotuiki_answer) :: r
+            type(one_value) :: r
         end function
         function c_route(n, count, fars, fars_count, costs, costs_count, i, out, out_count) result(r) &
             bind(c, name='kemotuiki_route')
             import
-            integer(c_size_t), value :: n, count, fars_count, costs_count, i, out_count
+            integer(word), value :: n, count, fars_count, costs_count, i, out_count
             integer(c_int64_t), intent(in) :: fars(*)
             integer(c_int32_t), intent(in) :: costs(*)
             integer(c_int32_t), intent(inout) :: out(*)
-            type(kemotuiki_answer) :: r
+            type(one_value) :: r
         end function
         function c_compare(n, first, first_count, second, second_count) result(r) bind(c, name='kemotuiki_compare')
             import
-            integer(c_size_t), value :: n, first_count, second_count
+            integer(word), value :: n, first_count, second_count
             integer(c_int32_t), intent(in) :: first(*), second(*)
-            type(kemotuiki_answer) :: r
+            type(five_values) :: r
         end function
         function c_write_costs(n, t, t_count, out, out_count) result(r) bind(c, name='kemotuiki_write_costs')
             import
-            integer(c_size_t), value :: n, t_count, out_count
+            integer(word), value :: n, t_count, out_count
             integer(c_int32_t), intent(in) :: t(*)
             integer(c_int8_t), intent(inout) :: out(*)
-            type(kemotuiki_answer) :: r
+            type(one_value) :: r
         end function
         function c_read_costs(bytes, bytes_count, position, out, out_count) result(r) bind(c, name='kemotuiki_read_costs')
             import
-            integer(c_size_t), value :: bytes_count, position, out_count
+            integer(word), value :: bytes_count, position, out_count
             integer(c_int8_t), intent(in) :: bytes(*)
             integer(c_int32_t), intent(inout) :: out(*)
-            type(kemotuiki_answer) :: r
+            type(two_values) :: r
         end function
         function c_write_links(n, count, fars, fars_count, costs, costs_count, out, out_count) result(r) &
             bind(c, name='kemotuiki_write_links')
             import
-            integer(c_size_t), value :: n, count, fars_count, costs_count, out_count
+            integer(word), value :: n, count, fars_count, costs_count, out_count
             integer(c_int64_t), intent(in) :: fars(*)
             integer(c_int32_t), intent(in) :: costs(*)
             integer(c_int8_t), intent(inout) :: out(*)
-            type(kemotuiki_answer) :: r
+            type(one_value) :: r
         end function
         function c_read_links(bytes, bytes_count, position, fars, fars_count, costs, costs_count) result(r) &
             bind(c, name='kemotuiki_read_links')
             import
-            integer(c_size_t), value :: bytes_count, position, fars_count, costs_count
+            integer(word), value :: bytes_count, position, fars_count, costs_count
             integer(c_int8_t), intent(in) :: bytes(*)
             integer(c_int64_t), intent(inout) :: fars(*)
             integer(c_int32_t), intent(inout) :: costs(*)
-            type(kemotuiki_answer) :: r
+            type(three_values) :: r
         end function
         function c_write_batch(ns, ns_count, counts, counts_count, fars, fars_count, costs, costs_count, out, out_count) &
             result(r) bind(c, name='kemotuiki_write_batch')
             import
-            integer(c_size_t), value :: ns_count, counts_count, fars_count, costs_count, out_count
+            integer(word), value :: ns_count, counts_count, fars_count, costs_count, out_count
             integer(c_int32_t), intent(in) :: ns(*), counts(*)
             integer(c_int64_t), intent(in) :: fars(*)
             integer(c_int32_t), intent(in) :: costs(*)
             integer(c_int8_t), intent(inout) :: out(*)
-            type(kemotuiki_answer) :: r
+            type(one_value) :: r
         end function
         function c_choice(first, first_count, second, second_count) result(r) bind(c, name='kemotuiki_choice')
             import
-            integer(c_size_t), value :: first_count, second_count
+            integer(word), value :: first_count, second_count
             integer(c_int8_t), intent(in) :: first(*), second(*)
-            type(kemotuiki_answer) :: r
+            type(two_values) :: r
+        end function
+        function c_refusal_text(number, table, a, b, c, d, out, out_count) result(r) bind(c, name='kemotuiki_refusal_text')
+            import
+            integer(word), value :: number, table, a, b, c, d, out_count
+            character(kind=c_char), intent(inout) :: out(*)
+            type(one_value) :: r
         end function
     end interface
 
 contains
 
-    ! The index of the division of t with the far side s: value.
-    function index_of(t, s) result(r)
-        integer(c_int32_t), intent(in), contiguous :: t(:, :)
-        integer(c_int64_t), intent(in) :: s
-        type(kemotuiki_answer) :: r
-        r = c_index(size(t, 1, c_size_t), t, size(t, kind=c_size_t), s)
-    end function
+    ! ---- what an answer says ----
 
-    ! The order around the tree of t from first to last, into out: value images.
-    function order_around(t, first, last, out) result(r)
-        integer(c_int32_t), intent(in), contiguous :: t(:, :)
-        integer, intent(in) :: first, last
-        integer(c_int32_t), intent(inout), contiguous :: out(:)
-        type(kemotuiki_answer) :: r
-        r = c_order(size(t, 1, c_size_t), t, size(t, kind=c_size_t), int(first, c_size_t), int(last, c_size_t), &
-                    out, size(out, kind=c_size_t))
-    end function
-
-    ! The measured reading of t, into fars and costs: value rows.
-    function measured_reading(t, fars, costs) result(r)
-        integer(c_int32_t), intent(in), contiguous :: t(:, :)
-        integer(c_int64_t), intent(inout), contiguous :: fars(:)
-        integer(c_int32_t), intent(inout), contiguous :: costs(:)
-        type(kemotuiki_answer) :: r
-        r = c_measured(size(t, 1, c_size_t), t, size(t, kind=c_size_t), fars, size(fars, kind=c_size_t), &
-                       costs, size(costs, kind=c_size_t))
-    end function
-
-    ! The exact reading of t, into fars and costs: value rows.
-    function exact_reading(t, fars, costs) result(r)
-        integer(c_int32_t), intent(in), contiguous :: t(:, :)
-        integer(c_int64_t), intent(inout), contiguous :: fars(:)
-        integer(c_int32_t), intent(inout), contiguous :: costs(:)
-        type(kemotuiki_answer) :: r
-        r = c_exact(size(t, 1, c_size_t), t, size(t, kind=c_size_t), fars, size(fars, kind=c_size_t), &
-                    costs, size(costs, kind=c_size_t))
-    end function
-
-    ! The path cost of images i and j in the rows fars, costs over n images: value.
-    function path_cost(n, fars, costs, i, j) result(r)
-        integer, intent(in) :: n, i, j
-        integer(c_int64_t), intent(in), contiguous :: fars(:)
-        integer(c_int32_t), intent(in), contiguous :: costs(:)
-        type(kemotuiki_answer) :: r
-        r = c_path(int(n, c_size_t), size(fars, kind=c_size_t), fars, size(fars, kind=c_size_t), &
-                   costs, size(costs, kind=c_size_t), int(i, c_size_t), int(j, c_size_t))
-    end function
-
-    ! The upper row of each row, into out: value rows.
-    function upper_rows(n, fars, costs, out) result(r)
-        integer, intent(in) :: n
-        integer(c_int64_t), intent(in), contiguous :: fars(:)
-        integer(c_int32_t), intent(in), contiguous :: costs(:)
-        integer(c_int32_t), intent(inout), contiguous :: out(:)
-        type(kemotuiki_answer) :: r
-        r = c_upper_rows(int(n, c_size_t), size(fars, kind=c_size_t), fars, size(fars, kind=c_size_t), &
-                         costs, size(costs, kind=c_size_t), out, size(out, kind=c_size_t))
-    end function
-
-    ! The route of image i, into out: value rows.
-    function route_of(n, fars, costs, i, out) result(r)
-        integer, intent(in) :: n, i
-        integer(c_int64_t), intent(in), contiguous :: fars(:)
-        integer(c_int32_t), intent(in), contiguous :: costs(:)
-        integer(c_int32_t), intent(inout), contiguous :: out(:)
-        type(kemotuiki_answer) :: r
-        r = c_route(int(n, c_size_t), size(fars, kind=c_size_t), fars, size(fars, kind=c_size_t), &
-                    costs, size(costs, kind=c_size_t), int(i, c_size_t), out, size(out, kind=c_size_t))
-    end function
-
-    ! Two tables compared: value and second are inner rows, third the common far sides, fourth the count over fifth.
-    function compare_tables(first, second) result(r)
-        integer(c_int32_t), intent(in), contiguous :: first(:, :), second(:, :)
-        type(kemotuiki_answer) :: r
-        r = c_compare(size(first, 1, c_size_t), first, size(first, kind=c_size_t), second, size(second, kind=c_size_t))
-    end function
-
-    ! The stored form of t, into out: value bytes.
-    function write_costs(t, out) result(r)
-        integer(c_int32_t), intent(in), contiguous :: t(:, :)
-        integer(c_int8_t), intent(inout), contiguous :: out(:)
-        type(kemotuiki_answer) :: r
-        r = c_write_costs(size(t, 1, c_size_t), t, size(t, kind=c_size_t), out, size(out, kind=c_size_t))
-    end function
-
-    ! The stored cost table at the bit position, into out: value is n, second the bytes used.
-    function read_costs(bytes, position, out) result(r)
-        integer(c_int8_t), intent(in), contiguous :: bytes(:)
-        integer(c_size_t), intent(in) :: position
-        integer(c_int32_t), intent(inout), contiguous :: out(:)
-        type(kemotuiki_answer) :: r
-        r = c_read_costs(bytes, size(bytes, kind=c_size_t), position, out, size(out, kind=c_size_t))
-    end function
-
-    ! The stored form of the rows over n images, into out: value bytes.
-    function write_links(n, fars, costs, out) result(r)
-        integer, intent(in) :: n
-        integer(c_int64_t), intent(in), contiguous :: fars(:)
-        integer(c_int32_t), intent(in), contiguous :: costs(:)
-        integer(c_int8_t), intent(inout), contiguous :: out(:)
-        type(kemotuiki_answer) :: r
-        r = c_write_links(int(n, c_size_t), size(fars, kind=c_size_t), fars, size(fars, kind=c_size_t), &
-                          costs, size(costs, kind=c_size_t), out, size(out, kind=c_size_t))
-    end function
-
-    ! The stored link table at the bit position, into fars and costs: value is n, second the rows, third the bytes used.
-    function read_links(bytes, position, fars, costs) result(r)
-        integer(c_int8_t), intent(in), contiguous :: bytes(:)
-        integer(c_size_t), intent(in) :: position
-        integer(c_int64_t), intent(inout), contiguous :: fars(:)
-        integer(c_int32_t), intent(inout), contiguous :: costs(:)
-        type(kemotuiki_answer) :: r
-        r = c_read_links(bytes, size(bytes, kind=c_size_t), position, fars, size(fars, kind=c_size_t), &
-                         costs, size(costs, kind=c_size_t))
-    end function
-
-    ! The stored forms of tables over ns images with counts rows, all rows joined, into out: value bytes.
-    function write_batch(ns, counts, fars, costs, out) result(r)
-        integer(c_int32_t), intent(in), contiguous :: ns(:), counts(:)
-        integer(c_int64_t), intent(in), contiguous :: fars(:)
-        integer(c_int32_t), intent(in), contiguous :: costs(:)
-        integer(c_int8_t), intent(inout), contiguous :: out(:)
-        type(kemotuiki_answer) :: r
-        r = c_write_batch(ns, size(ns, kind=c_size_t), counts, size(counts, kind=c_size_t), fars, size(fars, kind=c_size_t), &
-                          costs, size(costs, kind=c_size_t), out, size(out, kind=c_size_t))
-    end function
-
-    ! The stored link table that includes the other: value is 1 or 2, second its used bytes.
-    function choose_table(first, second) result(r)
-        integer(c_int8_t), intent(in), contiguous :: first(:), second(:)
-        type(kemotuiki_answer) :: r
-        r = c_choice(first, size(first, kind=c_size_t), second, size(second, kind=c_size_t))
-    end function
-
-    ! Whether the call was accepted.
     elemental function accepted(r)
-        type(kemotuiki_answer), intent(in) :: r
+        class(kemotuiki_answer), intent(in) :: r
         logical :: accepted
-        accepted = r%number == 0
+        accepted = r%number == kemotuiki_accepted
     end function
 
-    ! The refusal as the listing prints it: number and four places.
-    function refusal_text(r) result(s)
-        type(kemotuiki_answer), intent(in) :: r
-        character(:), allocatable :: s
-        character(128) :: line
-        write (line, '(a, 5(1x, i0))') 'refused', r%number, r%a, r%b, r%c, r%d
-        s = trim(line)
+    ! What the answer says in words, with its places, and its table where it has one.
+    function text(r)
+        class(kemotuiki_answer), intent(in) :: r
+        character(:), allocatable :: text
+        character(text_bytes, c_char) :: bytes
+        type(one_value) :: written
+        written = c_refusal_text(int(r%number, word), r%table, r%a, r%b, r%c, r%d, bytes, len(bytes, word))
+        text = bytes(:written%value - 1)
     end function
+
+    ! ---- the calls on cost tables ----
+
+    ! The index of the division of t with the far side s.
+    function index_int64(t, s) result(r)
+        integer(int32), intent(in), contiguous :: t(:, :)
+        integer(int64), intent(in) :: s
+        type(kemotuiki_index_answer) :: r
+        type(one_value) :: c
+        c = c_index(size(t, 1, word), t, size(t, kind=word), s)
+        r = kemotuiki_index_answer(kemotuiki_answer=head(c%head), index=int(c%value))
+        call place_by_rows(r, t)
+    end function
+
+    function index_int32(t, s) result(r)
+        integer(int32), intent(in), contiguous :: t(:, :)
+        integer(int32), intent(in) :: s
+        type(kemotuiki_index_answer) :: r
+        r = index_int64(t, int(s, int64))
+    end function
+
+    ! The order around the tree of t from image first to image last, into out.
+    function kemotuiki_order(t, first, last, out) result(r)
+        integer(int32), intent(in), contiguous :: t(:, :)
+        integer, intent(in) :: first, last
+        integer(int32), intent(inout), contiguous :: out(:)
+        type(kemotuiki_order_answer) :: r
+        type(one_value) :: c
+        c = c_order(size(t, 1, word), t, size(t, kind=word), int(first, word), int(last, word), out, size(out, kind=word))
+        r = kemotuiki_order_answer(kemotuiki_answer=head(c%head), images=int(c%value))
+        call place_by_rows(r, t)
+    end function
+
+    ! The measured reading of t, into fars and costs.
+    function kemotuiki_measured(t, fars, costs) result(r)
+        integer(int32), intent(in), contiguous :: t(:, :)
+        integer(int64), intent(inout), contiguous :: fars(:)
+        integer(int32), intent(inout), contiguous :: costs(:)
+        type(kemotuiki_rows_answer) :: r
+        r = reading(c_measured, t, fars, costs)
+    end function
+
+    ! The exact reading of t, into fars and costs.
+    function kemotuiki_exact(t, fars, costs) result(r)
+        integer(int32), intent(in), contiguous :: t(:, :)
+        integer(int64), intent(inout), contiguous :: fars(:)
+        integer(int32), intent(inout), contiguous :: costs(:)
+        type(kemotuiki_rows_answer) :: r
+        r = reading(c_exact, t, fars, costs)
+    end function
+
+    function reading(c_call, t, fars, costs) result(r)
+        procedure(c_reading) :: c_call
+        integer(int32), intent(in), contiguous :: t(:, :)
+        integer(int64), intent(inout), contiguous :: fars(:)
+        integer(int32), intent(inout), contiguous :: costs(:)
+        type(kemotuiki_rows_answer) :: r
+        r = rows_answer(c_call(size(t, 1, word), t, size(t, kind=word), fars, size(fars, kind=word), &
+                               costs, size(costs, kind=word)))
+        call place_by_rows(r, t)
+    end function
+
+    ! Two tables compared by their exact readings. A second table of another shape may have as many entries as the first: then C is
+    ! lent none of them, and refuses its length when its turn comes.
+    function kemotuiki_compare(first, second) result(r)
+        integer(int32), intent(in), contiguous :: first(:, :), second(:, :)
+        type(kemotuiki_comparison_answer) :: r
+        type(five_values) :: c
+        integer(word) :: second_count
+        second_count = 0
+        if (all(shape(second, word) == shape(first, word))) second_count = size(second, kind=word)
+        c = c_compare(size(first, 1, word), first, size(first, kind=word), second, second_count)
+        r = kemotuiki_comparison_answer(kemotuiki_answer=head(c%head), inner_first=int(c%values(1)), &
+                                        inner_second=int(c%values(2)), common=int(c%values(3)), &
+                                        count=int(c%values(4)), over=int(c%values(5)))
+        if (r%table == 1) call place_by_rows(r, first)
+        if (r%table == 2) call place_by_rows(r, second)
+    end function
+
+    ! The stored form of t, into out.
+    function kemotuiki_write_costs(t, out) result(r)
+        integer(int32), intent(in), contiguous :: t(:, :)
+        integer(int8), intent(inout), contiguous :: out(:)
+        type(kemotuiki_bytes_answer) :: r
+        r = bytes_answer(c_write_costs(size(t, 1, word), t, size(t, kind=word), out, size(out, kind=word)))
+        call place_by_rows(r, t)
+    end function
+
+    ! The stored cost table at the bit position, into t(:n, :n), which is also its room. No table has more than kemotuiki_images.
+    function read_costs_int64(bytes, position, t) result(r)
+        integer(int8), intent(in), contiguous :: bytes(:)
+        integer(int64), intent(in) :: position
+        integer(int32), intent(inout) :: t(:, :)
+        type(kemotuiki_costs_answer) :: r
+        type(two_values) :: c
+        integer(int32) :: entries(kemotuiki_images**2)
+        integer(word) :: room
+        room = min(size(t, 1, word), size(t, 2, word), int(kemotuiki_images, word))
+        c = c_read_costs(bytes, size(bytes, kind=word), position, entries, room * room)
+        r = kemotuiki_costs_answer(kemotuiki_answer=head(c%head), n=int(c%values(1)), used=c%values(2))
+        if (r%accepted()) t(:r%n, :r%n) = reshape(entries(:r%n**2), [r%n, r%n])
+    end function
+
+    function read_costs_int32(bytes, position, t) result(r)
+        integer(int8), intent(in), contiguous :: bytes(:)
+        integer(int32), intent(in) :: position
+        integer(int32), intent(inout) :: t(:, :)
+        type(kemotuiki_costs_answer) :: r
+        r = read_costs_int64(bytes, int(position, int64), t)
+    end function
+
+    ! ---- the calls on link tables ----
+
+    ! The path cost of images i and j in the rows fars, costs over n images.
+    function kemotuiki_path(n, fars, costs, i, j) result(r)
+        integer, intent(in) :: n, i, j
+        integer(int64), intent(in), contiguous :: fars(:)
+        integer(int32), intent(in), contiguous :: costs(:)
+        type(kemotuiki_path_answer) :: r
+        type(one_value) :: c
+        c = c_path(int(n, word), size(fars, kind=word), fars, size(fars, kind=word), costs, size(costs, kind=word), &
+                   int(i, word), int(j, word))
+        r = kemotuiki_path_answer(kemotuiki_answer=head(c%head), cost=int(c%value))
+    end function
+
+    ! The upper row of each row, into out.
+    function kemotuiki_upper_rows(n, fars, costs, out) result(r)
+        integer, intent(in) :: n
+        integer(int64), intent(in), contiguous :: fars(:)
+        integer(int32), intent(in), contiguous :: costs(:)
+        integer(int32), intent(inout), contiguous :: out(:)
+        type(kemotuiki_rows_answer) :: r
+        r = rows_answer(c_upper_rows(int(n, word), size(fars, kind=word), fars, size(fars, kind=word), &
+                                     costs, size(costs, kind=word), out, size(out, kind=word)))
+    end function
+
+    ! The route of image i, into out.
+    function kemotuiki_route(n, fars, costs, i, out) result(r)
+        integer, intent(in) :: n, i
+        integer(int64), intent(in), contiguous :: fars(:)
+        integer(int32), intent(in), contiguous :: costs(:)
+        integer(int32), intent(inout), contiguous :: out(:)
+        type(kemotuiki_rows_answer) :: r
+        r = rows_answer(c_route(int(n, word), size(fars, kind=word), fars, size(fars, kind=word), &
+                                costs, size(costs, kind=word), int(i, word), out, size(out, kind=word)))
+    end function
+
+    ! The stored form of the rows fars, costs over n images, into out.
+    function kemotuiki_write_links(n, fars, costs, out) result(r)
+        integer, intent(in) :: n
+        integer(int64), intent(in), contiguous :: fars(:)
+        integer(int32), intent(in), contiguous :: costs(:)
+        integer(int8), intent(inout), contiguous :: out(:)
+        type(kemotuiki_bytes_answer) :: r
+        r = bytes_answer(c_write_links(int(n, word), size(fars, kind=word), fars, size(fars, kind=word), &
+                                       costs, size(costs, kind=word), out, size(out, kind=word)))
+    end function
+
+    ! The stored link table at the bit position, into fars and costs.
+    function read_links_int64(bytes, position, fars, costs) result(r)
+        integer(int8), intent(in), contiguous :: bytes(:)
+        integer(int64), intent(in) :: position
+        integer(int64), intent(inout), contiguous :: fars(:)
+        integer(int32), intent(inout), contiguous :: costs(:)
+        type(kemotuiki_links_answer) :: r
+        type(three_values) :: c
+        c = c_read_links(bytes, size(bytes, kind=word), position, fars, size(fars, kind=word), costs, size(costs, kind=word))
+        r = kemotuiki_links_answer(kemotuiki_answer=head(c%head), n=int(c%values(1)), rows=int(c%values(2)), used=c%values(3))
+    end function
+
+    function read_links_int32(bytes, position, fars, costs) result(r)
+        integer(int8), intent(in), contiguous :: bytes(:)
+        integer(int32), intent(in) :: position
+        integer(int64), intent(inout), contiguous :: fars(:)
+        integer(int32), intent(inout), contiguous :: costs(:)
+        type(kemotuiki_links_answer) :: r
+        r = read_links_int64(bytes, int(position, int64), fars, costs)
+    end function
+
+    ! The stored forms of many link tables one after another, into out: table k is over ns(k) images and has counts(k) rows, and the
+    ! rows of all are joined in fars and costs.
+    function kemotuiki_write_batch(ns, counts, fars, costs, out) result(r)
+        integer(int32), intent(in), contiguous :: ns(:), counts(:)
+        integer(int64), intent(in), contiguous :: fars(:)
+        integer(int32), intent(in), contiguous :: costs(:)
+        integer(int8), intent(inout), contiguous :: out(:)
+        type(kemotuiki_bytes_answer) :: r
+        r = bytes_answer(c_write_batch(ns, size(ns, kind=word), counts, size(counts, kind=word), &
+                                       fars, size(fars, kind=word), costs, size(costs, kind=word), out, size(out, kind=word)))
+    end function
+
+    ! Of two stored link tables the one that includes the other.
+    function kemotuiki_choice(first, second) result(r)
+        integer(int8), intent(in), contiguous :: first(:), second(:)
+        type(kemotuiki_choice_answer) :: r
+        type(two_values) :: c
+        c = c_choice(first, size(first, kind=word), second, size(second, kind=word))
+        r = kemotuiki_choice_answer(kemotuiki_answer=head(c%head), chosen=int(c%values(1)), used=c%values(2))
+    end function
+
+    ! ---- from the structs of C ----
+
+    pure function head(c) result(r)
+        integer(word), intent(in) :: c(6)
+        type(kemotuiki_answer) :: r
+        r = kemotuiki_answer(number=int(c(1)), table=c(2), a=c(3), b=c(4), c=c(5), d=c(6))
+    end function
+
+    pure function rows_answer(c) result(r)
+        type(one_value), intent(in) :: c
+        type(kemotuiki_rows_answer) :: r
+        r = kemotuiki_rows_answer(kemotuiki_answer=head(c%head), rows=int(c%value))
+    end function
+
+    pure function bytes_answer(c) result(r)
+        type(one_value), intent(in) :: c
+        type(kemotuiki_bytes_answer) :: r
+        r = kemotuiki_bytes_answer(kemotuiki_answer=head(c%head), used=c%value)
+    end function
+
+    ! Fortran has the columns of a table one after another in memory and C its rows, so that C is lent the transpose. Only refusal 4
+    ! tells them apart: it is given for both or for neither, before 5, 6 and 7, which name the same places of both. So where t was
+    ! refused by 4, C is asked once more with t by rows; the index call looks for 4 before it looks at the far side.
+    subroutine place_by_rows(r, t)
+        class(kemotuiki_answer), intent(inout) :: r
+        integer(int32), intent(in) :: t(:, :)
+        integer(int32) :: by_rows(kemotuiki_images**2)
+        type(one_value) :: again
+        if (r%number /= kemotuiki_entry_too_large) return
+        by_rows(:size(t)) = reshape(transpose(t), [size(t)])
+        again = c_index(size(t, 1, word), by_rows, size(t, kind=word), 0_c_int64_t)
+        r%a = again%head(3)
+        r%b = again%head(4)
+    end subroutine
 
 end module

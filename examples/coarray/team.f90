@@ -1,33 +1,33 @@
 ! Nine images form a team, each on its own copy of the table of link costs. Every image reads its table exactly and compares its tree
 ! with image 1's; those that draw the same tree form team 1, the others team 2, so that no relay runs over two different trees.
 program team
-    use, intrinsic :: iso_c_binding, only: c_int32_t, c_int64_t
-    use, intrinsic :: iso_fortran_env, only: team_type
-    use kemotuiki
-    use network
+    use, intrinsic :: iso_fortran_env, only: int64, team_type
+    use kemotuiki, only: kemotuiki_compare, kemotuiki_comparison_answer, kemotuiki_exact, kemotuiki_route, kemotuiki_rows_answer
+    use network, only: n, room, table_of
     implicit none
-    integer(c_int32_t) :: table(n, n)[*], reference(n, n), costs(room), out(room)
-    integer(c_int64_t) :: fars(room)
-    integer :: chosen, members
-    type(kemotuiki_answer) :: r, route
+    integer :: table(n, n)[*], reference(n, n), costs(room), out(room), chosen, members
+    integer(int64) :: fars(room)
+    type(kemotuiki_rows_answer) :: tree, route
+    type(kemotuiki_comparison_answer) :: both
     type(team_type) :: relay
 
     if (num_images() /= n) error stop 'run with nine images'
     table = table_of(this_image())
     sync all
 
-    r = exact_reading(table, fars, costs)
     chosen = 2
-    if (accepted(r)) then
+    tree = kemotuiki_exact(table, fars, costs)
+    if (.not. tree%accepted()) then
+        print '(a, i0, 2a)', 'image ', this_image(), ' has no tree: ', tree%text()
+    else
         reference = table(:, :)[1]
-        r = compare_tables(reference, table)
-        if (accepted(r) .and. r%fourth == 0) chosen = 1
-    end if
-    if (chosen == 2) then
-        if (accepted(r)) then
-            print '(a, i0, a, i0, a, i0)', 'image ', this_image(), ' draws another tree: ', r%fourth, ' of ', r%fifth
+        both = kemotuiki_compare(reference, table)
+        if (.not. both%accepted()) then
+            print '(a, i0, 2a)', 'image ', this_image(), ' cannot compare: ', both%text()
+        else if (both%count > 0) then
+            print '(3(a, i0))', 'image ', this_image(), ' draws another tree: ', both%count, ' of ', both%over
         else
-            print '(a, i0, a, a)', 'image ', this_image(), ' has no tree: ', refusal_text(r)
+            chosen = 1
         end if
     end if
 
@@ -37,9 +37,9 @@ program team
     end team
 
     if (chosen == 1) then
-        r = exact_reading(table, fars, costs)
-        route = route_of(n, fars(:r%value), costs(:r%value), this_image(), out)
-        print '(a, i0, a, i0, a, *(1x, i0))', 'image ', this_image(), ' in a team of ', members, ', route', out(:route%value)
+        route = kemotuiki_route(n, fars(:tree%rows), costs(:tree%rows), this_image(), out)
+        if (.not. route%accepted()) error stop route%text()
+        print '(2(a, i0), a, *(1x, i0))', 'image ', this_image(), ' in a team of ', members, ', route', out(:route%rows)
     end if
 
 end program

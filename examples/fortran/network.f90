@@ -1,6 +1,5 @@
 ! The uneven network of the examples: nine images, and the table of link costs that each of them has.
 module network
-    use, intrinsic :: iso_c_binding, only: c_int32_t
     implicit none
     private
     integer, parameter, public :: n = 9, room = 2 * n - 3
@@ -22,8 +21,7 @@ contains
     ! The table of one image. Image 7 has images 4 and 5 on each other's ports; image 9 measured, and two entries are off by one.
     pure function table_of(image) result(table)
         integer, intent(in) :: image
-        integer(c_int32_t) :: table(n, n)
-        integer :: i, j, port(n)
+        integer :: table(n, n), i, j, port(n)
         port = [(i, i = 1, n)]
         if (image == 7) port(4:5) = [5, 4]
         do j = 1, n

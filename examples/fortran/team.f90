@@ -1,12 +1,11 @@
 ! Nine images on an uneven network form a team. Each has its own copy of the table of link costs, reads it exactly, and the trees
 ! are compared before the team forms: one copy has two images exchanged, and one was measured and is a little off.
 program team
-    use, intrinsic :: iso_c_binding, only: c_int8_t, c_int32_t, c_int64_t, c_size_t
+    use, intrinsic :: iso_fortran_env, only: int8, int64
     use kemotuiki
-    use network
+    use network, only: n, room, table_of
     implicit none
-    integer(c_int32_t) :: tables(n, n, n)
-    integer :: k
+    integer :: tables(n, n, n), k
 
     do k = 1, n
         tables(:, :, k) = table_of(k)
@@ -20,41 +19,47 @@ program team
 
 contains
 
-    subroutine rows(fars, costs)
-        integer(c_int64_t), intent(in) :: fars(:)
-        integer(c_int32_t), intent(in) :: costs(:)
+    ! Ends the program where a call that this network gives no reason to refuse was refused.
+    subroutine require(r)
+        class(kemotuiki_answer), intent(in) :: r
+        if (.not. r%accepted()) error stop r%text()
+    end subroutine
+
+    subroutine print_rows(fars, costs)
+        integer(int64), intent(in) :: fars(:)
+        integer, intent(in) :: costs(:)
         integer :: i
         print '(*(2x, i0, a, i0))', (fars(i), ':', costs(i), i = 1, size(fars))
     end subroutine
 
     subroutine read_exactly()
-        integer(c_int64_t) :: fars(room)
-        integer(c_int32_t) :: costs(room)
-        type(kemotuiki_answer) :: r
+        integer(int64) :: fars(room)
+        integer :: costs(room)
+        type(kemotuiki_rows_answer) :: r
         print '(a)', 'each image reads its table exactly'
         do k = 1, n
-            r = exact_reading(tables(:, :, k), fars, costs)
-            if (accepted(r)) then
-                print '(a, i0, a, i0, a)', 'image ', k, ': ', r%value, ' rows'
+            r = kemotuiki_exact(tables(:, :, k), fars, costs)
+            if (r%accepted()) then
+                print '(a, i0, a, i0, a)', 'image ', k, ': ', r%rows, ' rows'
             else
-                print '(a, i0, a, a)', 'image ', k, ': ', refusal_text(r)
+                print '(a, i0, 2a)', 'image ', k, ': ', r%text()
             end if
         end do
         print '(a)', 'image 9 reads what it measured'
-        r = measured_reading(tables(:, :, 9), fars, costs)
-        call rows(fars(:r%value), costs(:r%value))
+        r = kemotuiki_measured(tables(:, :, 9), fars, costs)
+        call require(r)
+        call print_rows(fars(:r%rows), costs(:r%rows))
     end subroutine
 
     subroutine compare_all()
-        type(kemotuiki_answer) :: r
+        type(kemotuiki_comparison_answer) :: r
         print '(a)', 'trees compared with image 1 before the team forms'
         do k = 2, n
-            r = compare_tables(tables(:, :, 1), tables(:, :, k))
-            if (.not. accepted(r)) then
-                print '(a, i0, a, i0, a, a)', 'image ', k, ': table ', r%table, ' ', refusal_text(r)
-            else if (r%fourth > 0) then
-                print '(a, i0, a, i0, a, i0, a, i0, a)', 'image ', k, ': differs, ', r%fourth, ' of ', r%fifth, '; ', &
-                    r%third, ' in common'
+            r = kemotuiki_compare(tables(:, :, 1), tables(:, :, k))
+            if (.not. r%accepted()) then
+                print '(a, i0, 2a)', 'image ', k, ': ', r%text()
+            else if (r%count > 0) then
+                print '(4(a, i0), a)', 'image ', k, ': differs, ', r%count, ' of ', r%over, '; ', r%common, ' in common'
             else
                 print '(a, i0, a)', 'image ', k, ': the same tree'
             end if
@@ -62,76 +67,118 @@ contains
     end subroutine
 
     subroutine use_tree()
-        integer(c_int64_t) :: fars(room)
-        integer(c_int32_t) :: costs(room), out(room)
-        type(kemotuiki_answer) :: r
-        integer :: count
+        integer(int64) :: fars(room)
+        integer :: costs(room), out(room), rows
+        type(kemotuiki_rows_answer) :: tree, route, upper
+        type(kemotuiki_path_answer) :: path
+        type(kemotuiki_order_answer) :: order
+        type(kemotuiki_index_answer) :: division
         print '(a)', "image 1's tree"
-        r = exact_reading(tables(:, :, 1), fars, costs)
-        count = int(r%value)
-        call rows(fars(:count), costs(:count))
-        r = path_cost(n, fars(:count), costs(:count), 3, 8)
-        print '(a, i0)', 'path cost of 3 and 8: ', r%value
-        r = route_of(n, fars(:count), costs(:count), 3, out)
-        print '(a, *(1x, i0))', 'route of 3:', out(:r%value)
-        r = upper_rows(n, fars(:count), costs(:count), out)
-        print '(a, *(1x, i0))', 'upper rows:', out(:r%value)
-        r = order_around(tables(:, :, 1), 1, 9, out)
-        print '(a, *(1x, i0))', 'order from 1 to 9:', out(:r%value)
-        r = index_of(tables(:, :, 1), 12_c_int64_t)
-        print '(a, i0)', 'index of 3 and 4 against the others: ', r%value
+        tree = kemotuiki_exact(tables(:, :, 1), fars, costs)
+        call require(tree)
+        rows = tree%rows
+        call print_rows(fars(:rows), costs(:rows))
+
+        path = kemotuiki_path(n, fars(:rows), costs(:rows), 3, 8)
+        call require(path)
+        print '(a, i0)', 'path cost of 3 and 8: ', path%cost
+        route = kemotuiki_route(n, fars(:rows), costs(:rows), 3, out)
+        call require(route)
+        print '(a, *(1x, i0))', 'route of 3:', out(:route%rows)
+        upper = kemotuiki_upper_rows(n, fars(:rows), costs(:rows), out)
+        call require(upper)
+        print '(a, *(1x, i0))', 'upper rows:', out(:upper%rows)
+
+        order = kemotuiki_order(tables(:, :, 1), 1, 9, out)
+        call require(order)
+        print '(a, *(1x, i0))', 'order from 1 to 9:', out(:order%images)
+        division = kemotuiki_index(tables(:, :, 1), 12)
+        call require(division)
+        print '(a, i0)', 'index of 3 and 4 against the others: ', division%index
     end subroutine
 
     ! The cost table and, behind it, the link table, in one buffer; then both read back.
     subroutine store()
-        integer(c_int64_t) :: fars(room)
-        integer(c_int32_t) :: costs(room), back(n * n)
-        integer(c_int8_t) :: bytes(512)
-        type(kemotuiki_answer) :: r, first, second
-        r = exact_reading(tables(:, :, 1), fars, costs)
-        first = write_costs(tables(:, :, 1), bytes)
-        second = write_links(n, fars(:r%value), costs(:r%value), bytes(first%value + 1:))
-        print '(a, i0, a, i0, a)', 'stored: ', first%value, ' bytes of costs, ', second%value, ' of links'
-        r = read_costs(bytes(:first%value + second%value), 0_c_size_t, back)
-        if (accepted(r) .and. all(back == reshape(tables(:, :, 1), [n * n]))) then
+        integer(int64) :: fars(room)
+        integer :: costs(room), back(n, n)
+        integer(int8) :: bytes(512)
+        type(kemotuiki_rows_answer) :: tree
+        type(kemotuiki_bytes_answer) :: first, second
+        type(kemotuiki_costs_answer) :: table
+        type(kemotuiki_links_answer) :: links
+        tree = kemotuiki_exact(tables(:, :, 1), fars, costs)
+        call require(tree)
+        first = kemotuiki_write_costs(tables(:, :, 1), bytes)
+        call require(first)
+        second = kemotuiki_write_links(n, fars(:tree%rows), costs(:tree%rows), bytes(first%used + 1:))
+        call require(second)
+        print '(2(a, i0), a)', 'stored: ', first%used, ' bytes of costs, ', second%used, ' of links'
+
+        table = kemotuiki_read_costs(bytes, 0, back)
+        call require(table)
+        if (all(back == tables(:, :, 1))) then
             print '(a)', 'read back: the same costs'
         else
             print '(a)', 'read back: not the same'
         end if
-        r = read_links(bytes(:first%value + second%value), 8 * r%second, fars, costs)
-        print '(a, i0, a, i0, a, i0, a)', 'read back: ', r%value, ' images, ', r%second, ' rows, ', r%third, ' bytes'
+        links = kemotuiki_read_links(bytes, 8 * table%used, fars, costs)
+        call require(links)
+        print '(3(a, i0), a)', 'read back: ', links%n, ' images, ', links%rows, ' rows, ', links%used, ' bytes'
     end subroutine
 
     ! Image 1's tree against the measured one and against image 7's, each stored in a buffer: which includes the other?
     subroutine choose()
-        integer(c_int64_t) :: fars(room)
-        integer(c_int32_t) :: costs(room)
-        integer(c_int8_t) :: mine(256), theirs(256)
-        type(kemotuiki_answer) :: r, first, second
-        r = exact_reading(tables(:, :, 1), fars, costs)
-        first = write_links(n, fars(:r%value), costs(:r%value), mine)
-        r = measured_reading(tables(:, :, 9), fars, costs)
-        second = write_links(n, fars(:r%value), costs(:r%value), theirs)
-        r = choose_table(mine(:first%value), theirs(:second%value))
-        print '(a, i0, a, i0, a)', "image 1's tree and the measured one: table ", r%value, ', ', r%second, ' bytes'
-        r = exact_reading(tables(:, :, 7), fars, costs)
-        second = write_links(n, fars(:r%value), costs(:r%value), theirs)
-        r = choose_table(mine(:first%value), theirs(:second%value))
-        print '(a, a)', "image 1's tree and image 7's: ", refusal_text(r)
+        integer(int64) :: fars(room)
+        integer :: costs(room)
+        integer(int8) :: mine(256), theirs(256)
+        type(kemotuiki_rows_answer) :: tree
+        type(kemotuiki_bytes_answer) :: first, second
+        tree = kemotuiki_exact(tables(:, :, 1), fars, costs)
+        call require(tree)
+        first = kemotuiki_write_links(n, fars(:tree%rows), costs(:tree%rows), mine)
+        call require(first)
+
+        tree = kemotuiki_measured(tables(:, :, 9), fars, costs)
+        call require(tree)
+        second = kemotuiki_write_links(n, fars(:tree%rows), costs(:tree%rows), theirs)
+        call require(second)
+        call print_choice("image 1's tree and the measured one: ", mine(:first%used), theirs(:second%used))
+
+        tree = kemotuiki_exact(tables(:, :, 7), fars, costs)
+        call require(tree)
+        second = kemotuiki_write_links(n, fars(:tree%rows), costs(:tree%rows), theirs)
+        call require(second)
+        call print_choice("image 1's tree and image 7's: ", mine(:first%used), theirs(:second%used))
+    end subroutine
+
+    subroutine print_choice(which, first, second)
+        character(*), intent(in) :: which
+        integer(int8), intent(in), contiguous :: first(:), second(:)
+        type(kemotuiki_choice_answer) :: r
+        r = kemotuiki_choice(first, second)
+        if (r%accepted()) then
+            print '(2a, i0, a, i0, a)', which, 'table ', r%chosen, ', ', r%used, ' bytes'
+        else
+            print '(2a)', which, r%text()
+        end if
     end subroutine
 
     ! Both trees in one batch: the rows of image 7's stand behind those of image 1's.
     subroutine write_both()
-        integer(c_int64_t) :: fars(2 * room)
-        integer(c_int32_t) :: costs(2 * room), counts(2)
-        integer(c_int8_t) :: bytes(512)
-        type(kemotuiki_answer) :: r
-        r = exact_reading(tables(:, :, 1), fars, costs)
-        counts(1) = int(r%value, c_int32_t)
-        r = exact_reading(tables(:, :, 7), fars(counts(1) + 1:), costs(counts(1) + 1:))
-        counts(2) = int(r%value, c_int32_t)
-        r = write_batch([int(n, c_int32_t), int(n, c_int32_t)], counts, fars(:sum(counts)), costs(:sum(counts)), bytes)
-        print '(a, i0, a)', 'both in one batch: ', r%value, ' bytes'
+        integer(int64) :: fars(2 * room)
+        integer :: costs(2 * room)
+        integer(int8) :: bytes(512)
+        type(kemotuiki_rows_answer) :: first, second
+        type(kemotuiki_bytes_answer) :: batch
+        integer :: rows
+        first = kemotuiki_exact(tables(:, :, 1), fars, costs)
+        call require(first)
+        second = kemotuiki_exact(tables(:, :, 7), fars(first%rows + 1:), costs(first%rows + 1:))
+        call require(second)
+        rows = first%rows + second%rows
+        batch = kemotuiki_write_batch([n, n], [first%rows, second%rows], fars(:rows), costs(:rows), bytes)
+        call require(batch)
+        print '(a, i0, a)', 'both in one batch: ', batch%used, ' bytes'
     end subroutine
 
 end program

@@ -1,0 +1,679 @@
+! The cases of crates/cases/data through the Fortran module.
+!
+!   fortran DATA ANSWERS       writes to ANSWERS what crates/cases/stdout has for the exported calls. A case that cannot be said in
+!                              Fortran, such as a table with fewer entries than its n asks for, has the line "-" instead.
+!   fortran --by-hand VERSION  compares the version, the texts of all refusals, and what only Fortran can say: tables by rows,
+!                              tables of another shape, sections, and integers of either kind.
+!
+! What is wrong is printed; then the status is 1.
+
+! Numbers from the lines of a case, and answers to the lines of the other file. All are unsigned and stand as their bits.
+module case_text
+    use, intrinsic :: iso_fortran_env, only: error_unit, int8, int32, int64
+    use kemotuiki, only: kemotuiki_answer, kemotuiki_images
+    implicit none
+    private
+    public :: number, small_number, fits, slice8, slice32, slice64, table, read_table, read_rows, can_be_said
+    public :: put_answer, put, note_far_sides, fault, faults, answers, run
+
+    integer, parameter :: line_room = 100000
+    character(line_room) :: line
+    character(:), allocatable :: call_name
+    integer :: at, answers, faults = 0
+    logical :: can_be_said
+    ! Of the call that is run: the numbers that were answered, and the accepted cases of 64 images with a negative far side.
+    logical :: answered(0:15)
+    integer :: negative
+
+    abstract interface
+        subroutine one_case()
+        end subroutine
+    end interface
+
+    interface put
+        procedure put8, put32, put64
+    end interface
+
+contains
+
+    subroutine fault(what)
+        character(*), intent(in) :: what
+        write (error_unit, '(3a)') call_name, ': ', what
+        faults = faults + 1
+    end subroutine
+
+    ! ---- a case ----
+
+    ! The next number of the line. It is kept as two halves, so that nothing overflows.
+    function number() result(bits)
+        integer(int64) :: bits, high, low
+        integer :: start, digit
+        high = 0
+        low = 0
+        start = at
+        do while (at < line_room)
+            digit = index('0123456789', line(at:at)) - 1
+            if (digit < 0) exit
+            low = 10 * low + digit
+            high = 10 * high + ishft(low, -32)
+            low = ibits(low, 0, 32)
+            at = at + 1
+        end do
+        if (at == start .or. at == line_room .or. ishft(high, -32) /= 0) error stop 'a bad line, or one that is too long'
+        at = at + 1
+        bits = ior(ishft(high, 32), low)
+    end function
+
+    ! The number that this many bits are, when the highest of them is a sign.
+    elemental function signed(bits, width) result(value)
+        integer(int64), intent(in) :: bits
+        integer, intent(in) :: width
+        integer(int64) :: value
+        value = bits
+        if (btest(bits, width - 1)) value = bits - 2_int64**width
+    end function
+
+    pure function fits(bits)
+        integer(int64), intent(in) :: bits
+        logical :: fits
+        fits = abs(bits) <= huge(0)
+    end function
+
+    ! A number that is a default integer in Fortran. 2^64 - 1 is -1.
+    function small_number() result(value)
+        integer :: value
+        integer(int64) :: bits
+        bits = number()
+        can_be_said = can_be_said .and. fits(bits)
+        value = 0
+        if (fits(bits)) value = int(bits)
+    end function
+
+    function slice64() result(elements)
+        integer(int64), allocatable :: elements(:)
+        integer :: k
+        allocate (elements(number()))
+        do k = 1, size(elements)
+            elements(k) = number()
+        end do
+    end function
+
+    function slice32() result(elements)
+        integer(int32), allocatable :: elements(:)
+        elements = int(signed(slice64(), 32), int32)
+    end function
+
+    function slice8() result(elements)
+        integer(int8), allocatable :: elements(:)
+        elements = int(signed(slice64(), 8), int8)
+    end function
+
+    ! A table of so many rows from its entries, row by row.
+    pure function table(rows, entries) result(t)
+        integer, intent(in) :: rows
+        integer(int32), intent(in) :: entries(:)
+        integer(int32), allocatable :: t(:, :)
+        t = transpose(reshape(entries, [size(entries) / max(rows, 1), rows]))
+    end function
+
+    ! n and a cost table. n is the table's rows in Fortran, so that the entries have to fill them.
+    subroutine read_table(n, t)
+        integer, intent(out) :: n
+        integer(int32), allocatable, intent(out) :: t(:, :)
+        integer(int32), allocatable :: entries(:)
+        n = small_number()
+        entries = slice32()
+        can_be_said = can_be_said .and. n >= 0
+        if (can_be_said) can_be_said = size(entries) == n * (size(entries) / max(n, 1))
+        if (can_be_said) t = table(n, entries)
+    end subroutine
+
+    ! n and a link table. The row count is that of the far sides in Fortran.
+    subroutine read_rows(n, fars, costs)
+        integer, intent(out) :: n
+        integer(int64), allocatable, intent(out) :: fars(:)
+        integer(int32), allocatable, intent(out) :: costs(:)
+        integer(int64) :: count
+        n = small_number()
+        count = number()
+        fars = slice64()
+        costs = slice32()
+        can_be_said = can_be_said .and. count == size(fars)
+    end subroutine
+
+    ! ---- its answer ----
+
+    subroutine put_number(bits)
+        integer(int64), intent(in) :: bits
+        integer(int64) :: half
+        half = ishft(bits, -1)
+        if (bits >= 0) write (answers, '(1x, i0)', advance='no') bits
+        if (bits < 0) write (answers, '(1x, i0, i0)', advance='no') half / 5, 2 * mod(half, 5_int64) + ibits(bits, 0, 1)
+    end subroutine
+
+    subroutine put64(elements)
+        integer(int64), intent(in) :: elements(:)
+        integer :: k
+        call put_number(size(elements, kind=int64))
+        do k = 1, size(elements)
+            call put_number(elements(k))
+        end do
+    end subroutine
+
+    subroutine put32(elements)
+        integer(int32), intent(in) :: elements(:)
+        call put64(ibits(int(elements, int64), 0, 32))
+    end subroutine
+
+    subroutine put8(elements)
+        integer(int8), intent(in) :: elements(:)
+        call put64(ibits(int(elements, int64), 0, 8))
+    end subroutine
+
+    ! The number, then the values of an accepted call, or the refusal's places, its table before them if the call takes several.
+    subroutine put_answer(r, values, tables)
+        class(kemotuiki_answer), intent(in) :: r
+        integer(int64), intent(in) :: values(:)
+        logical, intent(in), optional :: tables
+        integer(int64) :: places(5)
+        integer :: k, first
+        places = [r%table, r%a, r%b, r%c, r%d]
+        first = 2
+        if (present(tables)) first = 1
+        write (answers, '(i0)', advance='no') r%number
+        if (r%accepted()) then
+            do k = 1, size(values)
+                call put_number(values(k))
+            end do
+            if (any(places /= 0)) call fault('places beside an accepted answer')
+        else
+            do k = first, 5
+                call put_number(places(k))
+            end do
+            if (any(values /= 0)) call fault('a value beside a refusal')
+            if (any(places(:first - 1) /= 0)) call fault("a table's number from a call with one table")
+        end if
+        answered(r%number) = .true.
+    end subroutine
+
+    subroutine note_far_sides(r, n, fars)
+        class(kemotuiki_answer), intent(in) :: r
+        integer, intent(in) :: n
+        integer(int64), intent(in) :: fars(:)
+        if (r%accepted() .and. n == kemotuiki_images .and. any(fars < 0)) negative = negative + 1
+    end subroutine
+
+    ! ---- all cases of a call ----
+
+    ! Some case has to be accepted, and each of these refusals has to be met. A call for which far_sides is given has to be tried
+    ! with those that are negative.
+    subroutine run(name, do_case, folder, refusals, far_sides)
+        character(*), intent(in) :: name, folder
+        procedure(one_case) :: do_case
+        integer, intent(in) :: refusals(:)
+        logical, intent(in), optional :: far_sides
+        logical :: listed(0:15)
+        integer :: cases, status
+        call_name = name
+        answered = .false.
+        negative = 0
+        open (newunit=cases, file=folder // '/' // name // '.txt', status='old', action='read')
+        write (answers, '(a)') name
+        do
+            read (cases, '(a)', iostat=status) line
+            if (status /= 0) exit
+            at = 1
+            can_be_said = .true.
+            call do_case()
+            if (.not. can_be_said) write (answers, '(a)', advance='no') '-'
+            write (answers, '()')
+        end do
+        close (cases)
+        listed = .false.
+        listed(0) = .true.
+        listed(refusals) = .true.
+        if (any(listed .and. .not. answered)) call fault('not every number that it answers was met')
+        if (any(answered .and. .not. listed)) call fault('a refusal that it does not have')
+        if (present(far_sides) .and. negative == 0) call fault('no accepted case of 64 images with a negative far side')
+    end subroutine
+
+end module
+
+! One subroutine a call: the arguments from the line, then the answer and every lent output as it was left.
+module case_calls
+    use, intrinsic :: iso_fortran_env, only: int8, int32, int64
+    use kemotuiki
+    use case_text
+    implicit none
+    private
+    public :: run_all
+
+contains
+
+    subroutine run_all(folder)
+        character(*), intent(in) :: folder
+        call run('index', do_index, folder, [1, 2, 4, 5, 6, 12], far_sides=.true.)
+        call run('order', do_order, folder, [1, 2, 3, 4, 5, 6, 8])
+        call run('measured', do_measured, folder, [1, 2, 3, 4, 5, 6], far_sides=.true.)
+        call run('exact', do_exact, folder, [1, 2, 3, 4, 5, 6, 7], far_sides=.true.)
+        call run('path', do_path, folder, [1, 2, 8, 10, 12, 13], far_sides=.true.)
+        call run('upper_rows', do_upper_rows, folder, [1, 2, 3, 10, 12, 13], far_sides=.true.)
+        call run('route', do_route, folder, [1, 2, 3, 8, 10, 12, 13], far_sides=.true.)
+        call run('compare', do_compare, folder, [1, 2, 4, 5, 6, 7])
+        call run('write_costs', do_write_costs, folder, [1, 2, 3, 4, 5, 6])
+        call run('read_costs', do_read_costs, folder, [1, 3, 4, 9, 11])
+        call run('write_links', do_write_links, folder, [1, 2, 3, 10, 12, 13], far_sides=.true.)
+        call run('read_links', do_read_links, folder, [1, 3, 9, 10, 11, 12, 13], far_sides=.true.)
+        call run('write_batch', do_write_batch, folder, [1, 2, 3, 10, 12, 13])
+        call run('choice', do_choice, folder, [1, 9, 10, 11, 12, 13, 14, 15])
+    end subroutine
+
+    ! With a far side that is a default integer, where it can be one.
+    subroutine do_index()
+        type(kemotuiki_index_answer) :: r
+        integer(int32), allocatable :: t(:, :)
+        integer(int64) :: s
+        integer :: n
+        call read_table(n, t)
+        s = number()
+        if (.not. can_be_said) return
+        if (fits(s)) then
+            r = kemotuiki_index(t, int(s))
+        else
+            r = kemotuiki_index(t, s)
+        end if
+        call put_answer(r, [integer(int64) :: r%index])
+        call note_far_sides(r, n, [s])
+    end subroutine
+
+    subroutine do_order()
+        type(kemotuiki_order_answer) :: r
+        integer(int32), allocatable :: t(:, :), out(:)
+        integer :: n, first, last
+        call read_table(n, t)
+        first = small_number()
+        last = small_number()
+        out = slice32()
+        if (.not. can_be_said) return
+        r = kemotuiki_order(t, first, last, out)
+        call put_answer(r, [integer(int64) :: r%images])
+        call put(out)
+    end subroutine
+
+    subroutine do_measured()
+        integer(int32), allocatable :: t(:, :), costs(:)
+        integer(int64), allocatable :: fars(:)
+        integer :: n
+        call read_reading(n, t, fars, costs)
+        if (can_be_said) call put_reading(kemotuiki_measured(t, fars, costs), n, fars, costs)
+    end subroutine
+
+    subroutine do_exact()
+        integer(int32), allocatable :: t(:, :), costs(:)
+        integer(int64), allocatable :: fars(:)
+        integer :: n
+        call read_reading(n, t, fars, costs)
+        if (can_be_said) call put_reading(kemotuiki_exact(t, fars, costs), n, fars, costs)
+    end subroutine
+
+    subroutine read_reading(n, t, fars, costs)
+        integer, intent(out) :: n
+        integer(int32), allocatable, intent(out) :: t(:, :), costs(:)
+        integer(int64), allocatable, intent(out) :: fars(:)
+        call read_table(n, t)
+        fars = slice64()
+        costs = slice32()
+    end subroutine
+
+    subroutine put_reading(r, n, fars, costs)
+        type(kemotuiki_rows_answer), intent(in) :: r
+        integer, intent(in) :: n
+        integer(int64), intent(in) :: fars(:)
+        integer(int32), intent(in) :: costs(:)
+        call put_answer(r, [integer(int64) :: r%rows])
+        call put(fars)
+        call put(costs)
+        call note_far_sides(r, n, fars(:r%rows))
+    end subroutine
+
+    subroutine do_path()
+        type(kemotuiki_path_answer) :: r
+        integer(int64), allocatable :: fars(:)
+        integer(int32), allocatable :: costs(:)
+        integer :: n, i, j
+        call read_rows(n, fars, costs)
+        i = small_number()
+        j = small_number()
+        if (.not. can_be_said) return
+        r = kemotuiki_path(n, fars, costs, i, j)
+        call put_answer(r, [integer(int64) :: r%cost])
+        call note_far_sides(r, n, fars)
+    end subroutine
+
+    subroutine do_upper_rows()
+        type(kemotuiki_rows_answer) :: r
+        integer(int64), allocatable :: fars(:)
+        integer(int32), allocatable :: costs(:), out(:)
+        integer :: n
+        call read_rows(n, fars, costs)
+        out = slice32()
+        if (.not. can_be_said) return
+        r = kemotuiki_upper_rows(n, fars, costs, out)
+        call put_answer(r, [integer(int64) :: r%rows])
+        call put(out)
+        call note_far_sides(r, n, fars)
+    end subroutine
+
+    subroutine do_route()
+        type(kemotuiki_rows_answer) :: r
+        integer(int64), allocatable :: fars(:)
+        integer(int32), allocatable :: costs(:), out(:)
+        integer :: n, i
+        call read_rows(n, fars, costs)
+        i = small_number()
+        out = slice32()
+        if (.not. can_be_said) return
+        r = kemotuiki_route(n, fars, costs, i, out)
+        call put_answer(r, [integer(int64) :: r%rows])
+        call put(out)
+        call note_far_sides(r, n, fars)
+    end subroutine
+
+    ! A second table that does not have the shape of the first is one column here, whatever its length.
+    subroutine do_compare()
+        type(kemotuiki_comparison_answer) :: r
+        integer(int32), allocatable :: first(:, :), second(:, :), entries(:)
+        integer :: n
+        call read_table(n, first)
+        entries = slice32()
+        if (.not. can_be_said) return
+        if (size(entries) == size(first)) then
+            second = table(n, entries)
+        else
+            second = table(size(entries), entries)
+        end if
+        r = kemotuiki_compare(first, second)
+        call put_answer(r, [integer(int64) :: r%inner_first, r%inner_second, r%common, r%count, r%over], tables=.true.)
+    end subroutine
+
+    subroutine do_write_costs()
+        type(kemotuiki_bytes_answer) :: r
+        integer(int32), allocatable :: t(:, :)
+        integer(int8), allocatable :: out(:)
+        integer :: n
+        call read_table(n, t)
+        out = slice8()
+        if (.not. can_be_said) return
+        r = kemotuiki_write_costs(t, out)
+        call put_answer(r, [r%used])
+        call put(out)
+    end subroutine
+
+    ! The room is a table in Fortran. A smaller stored table stands in its corner, but in the case in front of the lent places: so
+    ! the corner is taken over to those.
+    subroutine do_read_costs()
+        type(kemotuiki_costs_answer) :: r
+        integer(int8), allocatable :: bytes(:)
+        integer(int32), allocatable :: t(:, :), before(:, :), out(:)
+        integer(int64) :: position
+        integer :: rows, n
+        bytes = slice8()
+        position = number()
+        out = slice32()
+        rows = nint(sqrt(real(size(out))))
+        can_be_said = rows**2 == size(out)
+        if (.not. can_be_said) return
+        before = table(rows, out)
+        t = before
+        if (fits(position)) then
+            r = kemotuiki_read_costs(bytes, int(position), t)
+        else
+            r = kemotuiki_read_costs(bytes, position, t)
+        end if
+        n = r%n
+        out(:n**2) = reshape(transpose(t(:n, :n)), [n**2])
+        before(:n, :n) = t(:n, :n)
+        if (any(t /= before)) call fault('a place outside the stored table was altered')
+        call put_answer(r, [integer(int64) :: r%n, r%used])
+        call put(out)
+    end subroutine
+
+    subroutine do_write_links()
+        type(kemotuiki_bytes_answer) :: r
+        integer(int64), allocatable :: fars(:)
+        integer(int32), allocatable :: costs(:)
+        integer(int8), allocatable :: out(:)
+        integer :: n
+        call read_rows(n, fars, costs)
+        out = slice8()
+        if (.not. can_be_said) return
+        r = kemotuiki_write_links(n, fars, costs, out)
+        call put_answer(r, [r%used])
+        call put(out)
+        call note_far_sides(r, n, fars)
+    end subroutine
+
+    subroutine do_read_links()
+        type(kemotuiki_links_answer) :: r
+        integer(int8), allocatable :: bytes(:)
+        integer(int64), allocatable :: fars(:)
+        integer(int32), allocatable :: costs(:)
+        integer(int64) :: position
+        bytes = slice8()
+        position = number()
+        fars = slice64()
+        costs = slice32()
+        if (fits(position)) then
+            r = kemotuiki_read_links(bytes, int(position), fars, costs)
+        else
+            r = kemotuiki_read_links(bytes, position, fars, costs)
+        end if
+        call put_answer(r, [integer(int64) :: r%n, r%rows, r%used])
+        call put(fars)
+        call put(costs)
+        call note_far_sides(r, r%n, fars(:r%rows))
+    end subroutine
+
+    subroutine do_write_batch()
+        type(kemotuiki_bytes_answer) :: r
+        integer(int32), allocatable :: ns(:), counts(:), costs(:)
+        integer(int64), allocatable :: fars(:)
+        integer(int8), allocatable :: out(:)
+        ns = slice32()
+        counts = slice32()
+        fars = slice64()
+        costs = slice32()
+        out = slice8()
+        r = kemotuiki_write_batch(ns, counts, fars, costs, out)
+        call put_answer(r, [r%used], tables=.true.)
+        call put(out)
+    end subroutine
+
+    subroutine do_choice()
+        type(kemotuiki_choice_answer) :: r
+        integer(int8), allocatable :: first(:), second(:)
+        first = slice8()
+        second = slice8()
+        r = kemotuiki_choice(first, second)
+        call put_answer(r, [integer(int64) :: r%chosen, r%used], tables=.true.)
+        if (r%chosen == 1) then
+            call put(first(:r%used))
+        else
+            call put(second(:r%used))
+        end if
+    end subroutine
+
+end module
+
+! What no case says. The texts and the answers here were written by hand from kemotuiki.h.
+module by_hand
+    use, intrinsic :: iso_fortran_env, only: error_unit, int8, int32, int64
+    use kemotuiki
+    implicit none
+    private
+    public :: compare_by_hand
+
+    integer :: wrong
+
+contains
+
+    subroutine compare_by_hand(version, faults)
+        character(*), intent(in) :: version
+        integer, intent(out) :: faults
+        character(32) :: joined
+        wrong = 0
+        write (joined, '(i0, a, i0, a, i0)') kemotuiki_version_major, '.', kemotuiki_version_minor, '.', kemotuiki_version_patch
+        call hold('the version', kemotuiki_version == version .and. joined == version)
+        call texts()
+        call places_by_rows()
+        call another_shape()
+        call stored_in_a_corner()
+        call sections()
+        faults = wrong
+    end subroutine
+
+    subroutine hold(what, condition)
+        character(*), intent(in) :: what
+        logical, intent(in) :: condition
+        if (condition) return
+        write (error_unit, '(2a)') what, ': not so'
+        wrong = wrong + 1
+    end subroutine
+
+    subroutine texts()
+        call say(kemotuiki_accepted, 0, [0, 0, 0, 0], 'accepted')
+        call say(kemotuiki_bad_n, 0, [65, 0, 0, 0], 'n outside 3..64: n 65')
+        call say(kemotuiki_bad_n, 0, [-1, 0, 0, 0], 'n outside 3..64: n 18446744073709551615')
+        call say(kemotuiki_bad_length, 0, [0, 0, 0, 0], 'a length does not fit n or the row count')
+        call say(kemotuiki_bad_length, 3, [0, 0, 0, 0], 'table 3: a length does not fit n or the row count')
+        call say(kemotuiki_no_room, 0, [0, 0, 0, 0], 'too little room')
+        call say(kemotuiki_entry_too_large, 0, [1, 5, 0, 0], 'entry above 1,000,000: row and column 1 5')
+        call say(kemotuiki_diagonal_not_zero, 0, [3, 0, 0, 0], 'diagonal not zero: image 3')
+        call say(kemotuiki_asymmetric, 0, [1, 3, 0, 0], 'asymmetric: row and column 1 3')
+        call say(kemotuiki_no_wiring, 0, [1, 2, 3, 5], 'no wiring: images 1 2 3 5')
+        call say(kemotuiki_no_wiring, 2, [1, 2, 3, 5], 'table 2: no wiring: images 1 2 3 5')
+        call say(kemotuiki_bad_image, 0, [0, 0, 0, 0], 'image outside 1..n, or first and last the same')
+        call say(kemotuiki_bytes_end, 0, [0, 0, 0, 0], 'stored bytes end early')
+        call say(kemotuiki_bad_row_count, 0, [17, 0, 0, 0], 'row count outside n..2n-3: count 17')
+        call say(kemotuiki_fill_not_zero, 0, [0, 0, 0, 0], 'fill bits not zero')
+        call say(kemotuiki_bad_row, 0, [0, 0, 0, 0], 'bad far side or bad row')
+        call say(kemotuiki_bad_row, 0, [4, 0, 0, 0], 'bad far side or bad row: row 4')
+        call say(kemotuiki_own_link_missing, 0, [5, 0, 0, 0], 'an own link is missing: image 5')
+        call say(kemotuiki_neither_includes, 0, [0, 0, 0, 0], 'neither table includes the other')
+        call say(kemotuiki_different_n, 0, [0, 0, 0, 0], 'stored tables of different n')
+        call say(16, 0, [0, 0, 0, 0], 'no such refusal: number 16')
+    end subroutine
+
+    subroutine say(number, table, places, text)
+        integer, intent(in) :: number, table, places(4)
+        character(*), intent(in) :: text
+        type(kemotuiki_answer) :: r
+        character(:), allocatable :: said
+        r = kemotuiki_answer(number, table, places(1), places(2), places(3), places(4))
+        said = r%text()
+        call hold('the text "' // text // '", and not "' // said // '"', len(said) == len(text) .and. said == text)
+        call hold('accepted: ' // text, r%accepted() .eqv. text == 'accepted')
+    end subroutine
+
+    ! A star of n images, each one away from the middle: every entry off the diagonal is 2.
+    pure function star(n) result(t)
+        integer, intent(in) :: n
+        integer :: t(n, n), i
+        t = 2
+        do i = 1, n
+            t(i, i) = 0
+        end do
+    end function
+
+    ! Of two entries too large, the one in row 2 comes before the one in row 4, though it stands behind it in memory.
+    subroutine places_by_rows()
+        integer :: t(6, 6), out(6), costs(9)
+        integer(int64) :: fars(9)
+        integer(int8) :: bytes(64)
+        t = star(6)
+        t(2, 5) = 1000001
+        t(4, 1) = 1000001
+        call hold('index by rows', refused_at(kemotuiki_index(t, 2), 0, 2, 5))
+        call hold('order by rows', refused_at(kemotuiki_order(t, 1, 2, out), 0, 2, 5))
+        call hold('measured by rows', refused_at(kemotuiki_measured(t, fars, costs), 0, 2, 5))
+        call hold('exact by rows', refused_at(kemotuiki_exact(t, fars, costs), 0, 2, 5))
+        call hold('write_costs by rows', refused_at(kemotuiki_write_costs(t, bytes), 0, 2, 5))
+        call hold('compare by rows, first table', refused_at(kemotuiki_compare(t, star(6)), 1, 2, 5))
+        call hold('compare by rows, second table', refused_at(kemotuiki_compare(star(6), t), 2, 2, 5))
+    end subroutine
+
+    pure function refused_at(r, table, row, column)
+        class(kemotuiki_answer), intent(in) :: r
+        integer, intent(in) :: table, row, column
+        logical :: refused_at
+        refused_at = r%number == kemotuiki_entry_too_large .and. all([r%table, r%a, r%b, r%c, r%d] == [table, row, column, 0, 0])
+    end function
+
+    ! 9 by 4 entries are as many as 6 by 6, and still no table of 6 images.
+    subroutine another_shape()
+        type(kemotuiki_comparison_answer) :: r
+        r = kemotuiki_compare(star(6), reshape(star(6), [9, 4]))
+        call hold('a second table of another shape', r%number == kemotuiki_bad_length .and. r%table == 2)
+        r = kemotuiki_compare(reshape(star(6), [9, 4]), star(6))
+        call hold('a first table of another shape', r%number == kemotuiki_bad_length .and. r%table == 1)
+    end subroutine
+
+    ! Two stored tables one after another, read into larger tables, and at positions of either kind.
+    subroutine stored_in_a_corner()
+        integer :: t(5, 7), narrow(2, 70), wide(70, 3)
+        integer(int8) :: bytes(64)
+        type(kemotuiki_bytes_answer) :: first, second
+        type(kemotuiki_costs_answer) :: r
+        first = kemotuiki_write_costs(star(3), bytes)
+        second = kemotuiki_write_costs(star(5), bytes(first%used + 1:))
+        call hold('two tables written', first%accepted() .and. first%used == 9 .and. second%accepted() .and. second%used == 26)
+        t = -1
+        r = kemotuiki_read_costs(bytes, 0, t)
+        call hold('3 images in a corner', r%n == 3 .and. all(t(:3, :3) == star(3)))
+        call hold('nothing beside the corner', all(t(4:, :) == -1) .and. all(t(:, 4:) == -1))
+        r = kemotuiki_read_costs(bytes, 8 * r%used, t)
+        call hold('5 images in a corner', r%n == 5 .and. all(t(:, :5) == star(5)) .and. all(t(:, 6:) == -1))
+        narrow = -1
+        r = kemotuiki_read_costs(bytes, 0_int64, narrow)
+        call hold('no room in a narrow table', r%number == kemotuiki_no_room .and. all(narrow == -1))
+        wide = -1
+        r = kemotuiki_read_costs(bytes, 0, wide)
+        call hold('room in a wide table', r%n == 3 .and. all(wide(:3, :) == star(3)) .and. all(wide(4:, :) == -1))
+        r = kemotuiki_read_costs(bytes, -8, wide)
+        call hold('a position below 0', r%number == kemotuiki_bytes_end)
+    end subroutine
+
+    ! Every second element of larger arrays: 4 images in a star, whose four own links cost 2, doubled.
+    subroutine sections()
+        integer :: all_entries(8, 8), all_costs(10)
+        integer(int64) :: all_fars(10)
+        type(kemotuiki_rows_answer) :: r
+        all_entries = -1
+        all_entries(1:8:2, 1:8:2) = star(4)
+        all_costs = -1
+        all_fars = -1
+        r = kemotuiki_exact(all_entries(1:8:2, 1:8:2), all_fars(2:10:2), all_costs(2:10:2))
+        call hold('sections', r%rows == 4 .and. all(all_fars == [-1, 2, -1, 4, -1, 8, -1, 14, -1, -1]) &
+                  .and. all(all_costs == [-1, 2, -1, 2, -1, 2, -1, 2, -1, -1]))
+    end subroutine
+
+end module
+
+program fortran
+    use case_text, only: answers, faults
+    use case_calls, only: run_all
+    use by_hand, only: compare_by_hand
+    implicit none
+    character(4096) :: first, second
+    if (command_argument_count() /= 2) error stop 'usage: fortran DATA ANSWERS | fortran --by-hand VERSION'
+    call get_command_argument(1, first)
+    call get_command_argument(2, second)
+    if (first == '--by-hand') then
+        call compare_by_hand(trim(second), faults)
+    else
+        open (newunit=answers, file=trim(second), status='replace', action='write')
+        call run_all(trim(first))
+        close (answers)
+    end if
+    if (faults > 0) stop 1
+end program
