@@ -56,6 +56,11 @@ else
     not_run "the Fortran example from an installed prefix" "no Fortran compiler for x86-64"
 fi
 
+# The README shows the first programs as they are.
+shown() { sed -n "/^\`\`\`$1\$/,/^\`\`\`\$/p" README.md | sed '1d; $d'; } # LANGUAGE
+same "the C program of the README" "$(cat examples/c/first.c)" "$(shown c)"
+same "the Fortran program of the README" "$(cat examples/fortran/first.f90)" "$(shown fortran)"
+
 # Over the same prefix without Fortran: nothing of the module stays, and C still links.
 install_to moved --no-fortran
 same "files of the Fortran module without Fortran" "" "$(cd "$work/moved" && ls lib/libkemotuiki_fortran.a include/*.mod 2>/dev/null)"
