@@ -38,23 +38,32 @@ crates_of() { # NAME..
         }' crates.txt
 }
 
-# rt check of these crates, which takes minutes where nothing is proved yet: says on standard error which crate of how many is
-# proved, and the seconds so far. The status is that of rt, whose last lines are shown if it is not 0.
+# rt check of these crates, which takes minutes where nothing is proved yet: says on standard error how far it is. The status is
+# that of rt, whose last lines are shown if it is not 0.
 prove() { # NAME..
-    local log all began=$SECONDS status=0
+    local log status=0
     log=$(mktemp)
-    all=$(crates_of "$@")
-    rt check "$@" 2>&1 | tee "$log" | {
-        local count=0 line name
-        while IFS= read -r line; do
-            case $line in "rt: "*" proved ("*) ;; *) continue ;; esac
-            count=$((count + 1))
-            case $line in *"(unchanged since"*) continue ;; esac
-            name=${line#rt: }
-            echo "$said_by: proving, crate $count of $all (${name%% *}) done, $((SECONDS - began)) s" >&2
-        done
-    } || status=$?
+    rt check "$@" 2>&1 | tee "$log" | progress "$(crates_of "$@")" || status=$?
     [ $status = 0 ] || tail -n 5 "$log" >&2
     rm -f "$log"
     return $status
+}
+
+# Reads what rt prints and says which crate of how many was proved, and the seconds so far; also where nothing came for a while.
+progress() { # CRATES
+    local count=0 began=$SECONDS line name status
+    while true; do
+        status=0
+        IFS= read -r -t 20 line || status=$?
+        if [ $status -gt 128 ]; then
+            echo "$said_by: proving, still at crate $((count + 1)) of $1, $((SECONDS - began)) s" >&2
+            continue
+        fi
+        [ $status = 0 ] || return 0
+        case $line in "rt: "*" proved ("*) ;; *) continue ;; esac
+        count=$((count + 1))
+        case $line in *"(unchanged since"*) continue ;; esac
+        name=${line#rt: }
+        echo "$said_by: proving, crate $count of $1 (${name%% *}) done, $((SECONDS - began)) s" >&2
+    done
 }
