@@ -21,7 +21,7 @@ from fractions import Fraction
 
 # In tenths: the radius of an image and of a switch, the width of a digit, and the room around the ring.
 IMAGE, SWITCH, DIGIT, MARGIN = 120, 30, 65, 200
-ROUNDS = 12
+ROUNDS = 20
 
 LISTING = re.compile(r"images (N) rows (N)\n((?:N N N\n)*)order((?: N)+)".replace("N", "[0-9]{1,20}"))
 
@@ -85,11 +85,11 @@ def links_of(n, rows):
     return [(ends[upper - 1] if upper else 1, end) for end, (_, _, upper) in zip(ends, rows)]
 
 
-def walk(root, links):
+def walk(root, beside):
     """All nodes, each with the one before it on the way from the root."""
     steps = [(root, None)]
     for node, before in steps:
-        steps += [(other, node) for link in links if node in link for other in link if other not in (node, before)]
+        steps += [(other, node) for other in beside[node] if other != before]
     return steps
 
 
@@ -127,15 +127,17 @@ def balanced(steps, ring, weight):
 
 
 def placed(steps, ring, room):
-    """Each node's place. A link that comes out too short for its label weighs less in the next round."""
+    """Each node's place. Where a link comes out too short for its label, it and those beside it weigh less in the next round."""
     high, images = heights(steps), {node: int(node in ring) for node, _ in steps}
     for node, before in reversed(steps[1:]):
         images[before] += images[node]
     weight = {node: 10 ** 6 * images[node] // (high[before] - high[node]) for node, before in steps[1:]}
     for _ in range(ROUNDS):
         places = balanced(steps, ring, weight)
+        lengths = {node: distance(places[node], places[before]) for node, before in steps[1:]}
         for node, before in steps[1:]:
-            length, wanted = distance(places[node], places[before]), room + IMAGE * (node in ring)
+            length = min(lengths[other] for other, via in steps[1:] if via == before and (other in ring) == (node in ring))
+            wanted = room + IMAGE * (node in ring)
             if length < wanted:
                 weight[node] = weight[node] * length // wanted + 1
     return places
@@ -148,8 +150,8 @@ def px(*tenths):
 
 def label(switch, end, image, upright, cost):
     """The text of a cost in the middle of what is seen of a link, of which the image at its end covers a part."""
-    across, down, length = end[0] - switch[0], end[1] - switch[1], distance(switch, end)
-    part = Fraction(length - IMAGE * image, 2 * length)
+    across, down, length = end[0] - switch[0], end[1] - switch[1], distance(switch, end) or 1
+    part = max(Fraction(length - IMAGE * image, 2 * length), Fraction(1, 4))
     x, y = px(round(switch[0] + part * across)), px(round(switch[1] + part * down))
     turn = 0 if upright else (round(math.degrees(math.atan2(down, across))) + 90) % 180 - 90
     return f'<text x="{x}" y="{y}" dy="4.2"' + f' transform="rotate({turn} {x} {y})"' * (turn != 0) + f">{cost}</text>"
@@ -158,7 +160,11 @@ def label(switch, end, image, upright, cost):
 def drawing(n, rows, order):
     """The lines of the SVG."""
     links, digits = links_of(n, rows), max(len(str(cost)) for _, cost, _ in rows)
-    walks = [walk(switch, links) for switch in sorted({node for link in links for node in link if node > n})]
+    beside = {node: [] for node in sorted(sum(links, ()))}
+    for one, other in links:
+        beside[one].append(other)
+        beside[other].append(one)
+    walks = [walk(node, beside) for node in beside if node > n]
     steps = min(walks, key=lambda steps: max(heights(steps).values()))
     room = DIGIT * digits + 240
     radius = max(900, 70 * n, min(n * room // 5 + 800, max(heights(steps).values()) * (room + 60)))
