@@ -19,8 +19,9 @@ import re
 import sys
 from fractions import Fraction
 
-# In tenths: the radius of an image and of a switch, the width of a digit, and the room around the ring.
+# In tenths of a pixel: the radius of an image and of a switch, the width of a digit, and the margin around the ring.
 IMAGE, SWITCH, DIGIT, MARGIN = 120, 30, 65, 200
+# How often the weights are put right.
 ROUNDS = 20
 
 LISTING = re.compile(r"images (N) rows (N)\n((?:N N N\n)*)order((?: N)+)".replace("N", "[0-9]{1,20}"))
@@ -36,9 +37,11 @@ font-family="sans-serif" text-anchor="middle">
 <rect x="{corner}" y="{corner}" width="{size}" height="{size}" rx="12" fill="#ffffff"/>
 <path d="{ring}" fill="none" stroke="#c3ccd5" stroke-dasharray="4 4" marker-mid="url(#arrow)"/>"""
 LINKS = '<g id="links" stroke="#33475b" stroke-width="2" stroke-linecap="round">'
-SWITCHES = '<g id="switches" fill="#33475b">'
-COSTS = '<g id="costs" font-size="12" fill="#9c3d10" stroke="#ffffff" stroke-width="4" stroke-linejoin="round" paint-order="stroke">'
-IMAGES = '<g id="images" font-size="13" font-weight="bold" fill="#ffffff">'
+SWITCHES = '</g>\n<g id="switches" fill="#33475b">'
+COSTS = """\
+</g>
+<g id="costs" font-size="12" fill="#9c3d10" stroke="#ffffff" stroke-width="4" stroke-linejoin="round" paint-order="stroke">"""
+IMAGES = '</g>\n<g id="images" font-size="13" font-weight="bold" fill="#ffffff">'
 
 
 class Refused(Exception):
@@ -70,11 +73,12 @@ def check(n, rows, order):
         raise Refused("the last row is not image 1's own link with upper row 0")
     for row, ((far, _, upper), (before, _, _)) in enumerate(zip(rows, [(0, 0, 0)] + rows), 1):
         below = [other for other, _, above in rows if above == row]
-        inside = [far >> image - 1 & 1 for image in order]
+        parted = sum(far >> one - 1 & 1 != far >> other - 1 & 1 for one, other in zip(order, order[1:] + order[:1]))
         wrong = ("is not above the one before it" if far <= before else
                  f"has upper row {upper}, which is no later row" if row < len(rows) and not row < upper <= len(rows) else
-                 "is neither one image nor made up of the rows with this upper row" if (sum(below) != far if below else far & (far - 1)) else
-                 "is no run of neighbours in the order" if sum(map(int.__ne__, inside, inside[1:] + inside[:1])) != 2 else None)
+                 "is not what the rows with this upper row make up" if below and sum(below) != far else
+                 "is no single image, and no row has it as its upper row" if not below and far & (far - 1) else
+                 "is no run of neighbours in the order" if parted != 2 else None)
         if wrong:
             raise Refused(f"row {row}: far side {far} {wrong}")
 
@@ -85,8 +89,12 @@ def links_of(n, rows):
     return [(ends[upper - 1] if upper else 1, end) for end, (_, _, upper) in zip(ends, rows)]
 
 
-def walk(root, beside):
+def walk(root, links):
     """All nodes, each with the one before it on the way from the root."""
+    beside = {node: [] for link in links for node in link}
+    for one, other in links:
+        beside[one].append(other)
+        beside[other].append(one)
     steps = [(root, None)]
     for node, before in steps:
         steps += [(other, node) for other in beside[node] if other != before]
@@ -157,19 +165,19 @@ def label(switch, end, image, upright, cost):
     return f'<text x="{x}" y="{y}" dy="4.2"' + f' transform="rotate({turn} {x} {y})"' * (turn != 0) + f">{cost}</text>"
 
 
+def layout(n, links, order, digits):
+    """The ring's radius, and each node's place. The walk begins in the middle, at a switch with no image very far from it."""
+    walks = [walk(n + row, links) for row, link in enumerate(links, 1) if link[1] == n + row]
+    high, steps = min((max(heights(steps).values()), steps) for steps in walks)
+    room = DIGIT * digits + 240
+    radius = max(900, 70 * n, min(n * room // 5 + 800, high * (room + 60))) // 10 * 10
+    return radius, placed(steps, {image: on_ring(radius, place / n) for place, image in enumerate(order)}, room)
+
+
 def drawing(n, rows, order):
     """The lines of the SVG."""
     links, digits = links_of(n, rows), max(len(str(cost)) for _, cost, _ in rows)
-    beside = {node: [] for node in sorted(sum(links, ()))}
-    for one, other in links:
-        beside[one].append(other)
-        beside[other].append(one)
-    walks = [walk(node, beside) for node in beside if node > n]
-    steps = min(walks, key=lambda steps: max(heights(steps).values()))
-    room = DIGIT * digits + 240
-    radius = max(900, 70 * n, min(n * room // 5 + 800, max(heights(steps).values()) * (room + 60)))
-    ring = {image: on_ring(radius, place / n) for place, image in enumerate(order)}
-    at = placed(steps, ring, room)
+    radius, at = layout(n, links, order, digits)
     arcs = [f"A {px(radius, radius)} 0 0 1 {px(*on_ring(radius, half / (2 * n)))}" for half in range(1, 2 * n + 1)]
     yield HEAD.format(corner=px(-radius - MARGIN), size=px(2 * (radius + MARGIN)), n=n, count=len(rows),
                       order=" ".join(map(str, order)), ring=" ".join([f"M {px(0, -radius)}"] + arcs))
@@ -178,15 +186,16 @@ def drawing(n, rows, order):
         x1, y1, x2, y2 = map(px, at[one] + at[other])
         yield (f'<line x1="{x1}" y1="{y1}" x2="{x2}" y2="{y2}"' + ' stroke-dasharray="0.1 5"' * (cost == 0) +
                f"><title>row {row}: far side {far}, doubled cost {cost}, upper row {upper}</title></line>")
-    yield "</g>\n" + SWITCHES
-    for x, y in [at[steps[0][0]] for steps in walks]:
-        yield f'<circle cx="{px(x)}" cy="{px(y)}" r="{px(SWITCH)}"/>'
-    yield "</g>\n" + COSTS
+    yield SWITCHES
+    for x, y in [map(px, at[end]) for _, end in links if end > n]:
+        yield f'<circle cx="{x}" cy="{y}" r="{px(SWITCH)}"/>'
+    yield COSTS
     for link, (_, cost, _) in zip(links, rows):
         yield label(at[max(link)], at[min(link)], min(link) <= n, n * digits <= 48, cost)
-    yield "</g>\n" + IMAGES
-    for image, (x, y) in ring.items():
-        yield f'<circle cx="{px(x)}" cy="{px(y)}" r="{px(IMAGE)}" fill="#1f5f8b"/><text x="{px(x)}" y="{px(y)}" dy="4.6">{image}</text>'
+    yield IMAGES
+    for image in order:
+        x, y = map(px, at[image])
+        yield f'<circle cx="{x}" cy="{y}" r="{px(IMAGE)}" fill="#1f5f8b"/><text x="{x}" y="{y}" dy="4.6">{image}</text>'
     yield "</g>\n</svg>\n"
 
 

@@ -82,7 +82,7 @@ def shape_of(rows):
     """The shape that more rows fit, a matrix if as many fit both: its name, its n, and the lengths of its rows."""
     count, lengths = len(rows), [len(words) for words, _ in rows]
     falling = list(range(count, 0, -1))
-    if sum(map(int.__eq__, lengths, falling)) <= lengths.count(count):
+    if sum(one == other for one, other in zip(lengths, falling)) <= lengths.count(count):
         if set(lengths) != {count} and len(set(lengths)) == 1:
             raise Refused(f"{counted(count, 'row')} of {counted(lengths[0], 'number')}, and a matrix has as many rows as columns")
         return "a matrix", count, [count] * count

@@ -96,7 +96,8 @@ def test_shapes():
     for what, given in (("comments", b"# costs\n\n  # more\n" + text.replace(b"\n", b"\n\n#\n")),
                         ("no last line end", text.rstrip()), ("a byte order mark", b"\xef\xbb\xbf" + text),
                         ("two bytes a character", text.decode().encode("utf-16")),
-                        ("empty cells below the diagonal", b",2,4,4\n,,4,4\n,,,2\n,,,\n"), ("zeros in front", b"02 004 4\n4 4\n2\n")):
+                        ("empty cells below the diagonal", b",2,4,4\n,,4,4\n,,,2\n,,,\n"),
+                        ("zeros in front", b"02 004 4\n4 4\n2\n")):
         check(what, run("store.py", given=given), (0, FOUR_STORED, ""))
     check("a lone -", run("store.py", "-", given=text), (0, FOUR_STORED, ""))
     check("a file", run("store.py", put("costs.txt", text)), (0, FOUR_STORED, ""))
@@ -125,7 +126,7 @@ REFUSED_TEXTS = (
     ("1 -3\n2\n", "row 1, column 3: -3 is below 0 ({}, line 1)"),
     ("0 1 1\n1 0 1\n1 1 5\n", "row 3, column 3: the diagonal must be 0, and it is 5 ({})"),
     ("0 1 2\n1 0 4\n2 5 0\n", "rows 2 and 3: d(2,3) is 4 and d(3,2) is 5 ({})"),
-    ("0 1 1 1 1\n" * 3 + "1 1 1\n" + "1 1 1 1 0\n", "row 4 has 3 numbers, and a matrix of 5 images has 5 in each row ({}, line 4)"),
+    ("0 1 1 1 1\n" * 3 + "1 1 1\n1 1 1 1 0\n", "row 4 has 3 numbers, and a matrix of 5 images has 5 in each row ({}, line 4)"),
     ("1 1 1\n" + "0 1 1 1\n" * 3, "row 1 has 3 numbers, and a matrix of 4 images has 4 in each row ({}, line 1)"),
     ("1 2 3\n4 5\n6 7\n", "row 3 has 2 numbers, and an upper triangle of 4 images has 1 there ({}, line 3)"),
     ("0 2 3 4\n0 5\n0 6\n0\n", "row 2 has 2 numbers, and an upper triangle with diagonal of 4 images has 3 there ({}, line 2)"),
@@ -158,13 +159,15 @@ def test_messages():
         note, found, rest = said.rpartition("store.py: ")
         check(f"the text {short(given)}", (status, answer, found + rest), refusal(words.format("standard input")))
         check(f"what is said before, of {short(given)}", note in ("", WITH_DIAGONAL.format(4), WITH_DIAGONAL.format(3)))
-    check("in a file", run("store.py", put("bad.txt", b"1 2\nx\n")), refusal('row 2, column 3: "x" is no number (bad.txt, line 2)'))
-    check("no text", run("store.py", given=b"1 2\n\xfe"), refusal("this is no text: byte 5 is no part of a character (standard input)"))
+    in_file = refusal('row 2, column 3: "x" is no number (bad.txt, line 2)')
+    check("in a file", run("store.py", put("bad.txt", b"1 2\nx\n")), in_file)
+    no_text = refusal("this is no text: byte 5 is no part of a character (standard input)")
+    check("no text", run("store.py", given=b"1 2\n\xfe"), no_text)
     for arguments, words in REFUSED_ARGUMENTS:
         check(f"the arguments {arguments}", run("store.py", *arguments.split()), refusal(words))
-    for script, arguments in (("store.py", "a b"), ("store.py", "--matrix a b"), ("store.py", "--rows"), ("draw.py", "a b"), ("draw.py", "-x")):
-        status, answer, said = run(script, *arguments.split())
-        check(f"{script} {arguments}", (status, answer, f"python3 scripts/{script} [" in said), (2, b"", True))
+    for call in ("store.py a b", "store.py --matrix a b", "store.py --rows", "draw.py a b", "draw.py -x"):
+        status, answer, said = run(*call.split())
+        check(call, (status, answer, f"python3 scripts/{call.split()[0]} [" in said), (2, b"", True))
 
 
 def test_limits_of_n():
@@ -211,7 +214,8 @@ def test_stored_bytes():
         check(f"the matrix of {name}", [int(word) for word in text.split()], room[:n * n])
         check(f"{name} stored again", run("store.py", "-", given=text), (0, data[:used], ""))
         over = len(data) - used
-        check(f"said of {name}", said, f"store.py: {over} bytes behind the table of {used} bytes, not looked at\n" if over else "")
+        note = f"store.py: {over} bytes behind the table of {used} bytes, not looked at\n"
+        check(f"said of {name}", said, note if over else "")
 
 
 # Drawings. Places are whole tenths, so all of this is exact.
@@ -255,26 +259,30 @@ def check_drawing(name, svg, listing):
     rows, order = [tuple(map(int, line.split())) for line in lines[1:-1]], lines[-1].split()[1:]
     root = xml.fromstring(svg)
     groups = {group.get("id"): group for group in root.findall(SVG + "g")}
-    check(f"{name}: title and description", [root.find(SVG + kind) is not None and root.find(SVG + kind).text != ""
-                                             for kind in ("title", "desc")], [True, True])
-    discs, numbers = groups["images"].findall(SVG + "circle"), groups["images"].findall(SVG + "text")
-    ring = [tenths(disc, "cx", "cy") for disc in discs]
+    check(f"{name}: title and description", [bool(root.findtext(SVG + kind)) for kind in ("title", "desc")], [True, True])
+
+    numbers = groups["images"].findall(SVG + "text")
+    ring = [tenths(disc, "cx", "cy") for disc in groups["images"].findall(SVG + "circle")]
     check(f"{name}: images in the order", [number.text for number in numbers], order)
     check(f"{name}: numbers on their images", [tenths(number, "x", "y") for number in numbers], ring)
     check(f"{name}: clockwise on a ring", all(side(ring[at - 2], ring[at - 1], ring[at]) == 1 for at in range(len(ring))))
-    at = dict(zip(map(int, order), ring))
 
-    drawn = groups["links"].findall(SVG + "line")
+    drawn, labels = groups["links"].findall(SVG + "line"), groups["costs"].findall(SVG + "text")
     links = [(tenths(line, "x1", "y1"), tenths(line, "x2", "y2")) for line in drawn]
-    labels = groups["costs"].findall(SVG + "text")
-    check(f"{name}: a cost a row", [label.text for label in labels], [str(cost) for _, cost, _ in rows])
-    check(f"{name}: costs beside their links", [near(link, tenths(label, "x", "y")) for link, label in zip(links, labels)], [True] * len(rows))
-    check(f"{name}: links of cost 0 are dotted", [line.get("stroke-dasharray") is not None for line in drawn], [cost == 0 for _, cost, _ in rows])
-    beyond = [reached(at[1], links[:row] + links[row + 1:]) for row in range(len(links))]
-    check(f"{name}: each link divides the images as its row does",
-          [sum(2 ** (image - 1) for image in at if at[image] not in near_side) for near_side in beyond], [far for far, _, _ in rows])
-    check(f"{name}: links that meet", [(a, b) for b in range(len(links)) for a in range(b) if meet(links[a], links[b])], [])
+    costs = [cost for _, cost, _ in rows]
+    dotted = [line.get("stroke-dasharray") is not None for line in drawn]
+    far_from_link = [label.text for link, label in zip(links, labels) if not near(link, tenths(label, "x", "y"))]
+    check(f"{name}: a cost a row", [int(label.text) for label in labels], costs)
+    check(f"{name}: costs that are not at their links", far_from_link, [])
+    check(f"{name}: links of cost 0 are dotted", dotted, [cost == 0 for cost in costs])
+
+    at = dict(zip(map(int, order), ring))
+    near_sides = [reached(at[1], links[:row] + links[row + 1:]) for row in range(len(links))]
+    far_sides = [sum(2 ** (image - 1) for image in at if at[image] not in near_side) for near_side in near_sides]
+    crossing = [(a, b) for b in range(len(links)) for a in range(b) if meet(links[a], links[b])]
     switches = {tenths(dot, "cx", "cy") for dot in groups["switches"]}
+    check(f"{name}: each link divides the images as its row does", far_sides, [far for far, _, _ in rows])
+    check(f"{name}: links that meet", crossing, [])
     check(f"{name}: ends of links", {place for link in links for place in link}, switches | set(ring))
 
 
@@ -298,7 +306,8 @@ def listing_of(n, rows):
 
 def test_drawings(dice):
     """The listings that are kept, and trees of each shape, with small costs and with the largest."""
-    listings = {os.path.basename(path): kept(path).decode() for path in sorted(glob.glob(os.path.join(ROOT, "tests/listing/*.stdout")))}
+    paths = sorted(glob.glob(os.path.join(ROOT, "tests/listing/*.stdout")))
+    listings = {os.path.basename(path): kept(path).decode() for path in paths}
     listings["nine.listing"] = kept("tests/drawing/nine.listing").decode()
     for n, most in ((4, 2), (11, 40), (30, 1_000), (64, 60_000)):
         for shape in ("star", "caterpillar", "uneven"):
@@ -318,17 +327,20 @@ def test_kept_drawing():
     """docs/nine-images.svg is the tree of image 1 in the examples; its listing says what the examples print."""
     listing, printed = kept("tests/drawing/nine.listing").decode(), kept("examples/expected.txt").decode()
     rows = [tuple(map(int, pair.split(":"))) for pair in re.search(r"image 1's tree\n(.*)", printed).group(1).split()]
+    uppers = re.search(r"upper rows: (.*)", printed).group(1).split()
+    order = re.search(r"order from 1 to 9: (.*)", printed).group(1)
     check("the listing of the nine images", listing, law.listing(law.stored_costs(9, law.tree_table(9, rows))))
-    check("its upper rows", [line.split()[2] for line in listing.splitlines()[1:-1]], re.search(r"upper rows: (.*)", printed).group(1).split())
-    check("its order", listing.splitlines()[-1], "order " + re.search(r"order from 1 to 9: (.*)", printed).group(1))
+    check("its upper rows", [line.split()[2] for line in listing.splitlines()[1:-1]], uppers)
+    check("its order", listing.splitlines()[-1], "order " + order)
     answer = 0, kept("docs/nine-images.svg"), ""
     check("the kept drawing", run("draw.py", put("nine", listing.encode())), answer)
     check("with other line ends", run("draw.py", "-", given=listing.replace("\n", "\r\n").encode()), answer)
 
 
 NO_LISTING = "this is no listing, which is a line images N rows R, then R rows of three numbers, then a line order .."
-# An edit of the listing of A, and what is said of the outcome.
+FOUR_LISTING = "images 4 rows 5\n2 2 5\n4 2 4\n8 2 4\n12 4 5\n14 2 0\norder 1 2 3 4\n"
 A_LISTING = "images 3 rows 3\n2 1 3\n4 1 3\n6 1 0\norder 1 2 3\n"
+# What to put in the place of what in the listing of A, and what is said of the outcome.
 REFUSED_LISTINGS = (
     (A_LISTING, "", NO_LISTING),
     ("order", "ring", NO_LISTING),
@@ -341,9 +353,10 @@ REFUSED_LISTINGS = (
     ("6 1 0", "14 1 0", "the last row is not image 1's own link with upper row 0"),
     ("2 1 3", "4 1 3", "row 2: far side 4 is not above the one before it"),
     ("2 1 3", "2 1 9", "row 1: far side 2 has upper row 9, which is no later row"),
-    ("2 1 3", "3 1 3", "row 1: far side 3 is neither one image nor made up of the rows with this upper row"),
-    ("4 1 3", "5 1 3", "row 2: far side 5 is neither one image nor made up of the rows with this upper row"),
-    (A_LISTING, "images 4 rows 5\n2 2 5\n4 2 4\n8 2 4\n12 4 5\n14 2 0\norder 1 3 2 4\n", "row 4: far side 12 is no run of neighbours in the order"),
+    ("2 1 3", "3 1 3", "row 1: far side 3 is no single image, and no row has it as its upper row"),
+    ("2 1 3", "1 1 3", "row 3: far side 6 is not what the rows with this upper row make up"),
+    (A_LISTING, FOUR_LISTING.replace("8 2 4", "8 2 5"), "row 4: far side 12 is not what the rows with this upper row make up"),
+    (A_LISTING, FOUR_LISTING.replace("1 2 3 4", "1 3 2 4"), "row 4: far side 12 is no run of neighbours in the order"),
 )
 
 
