@@ -8,7 +8,8 @@ The images stand on a ring in the listing's order, clockwise from the top. Every
 tree fits inside. Each link is labelled with its doubled cost; a link of cost 0 is dotted.
 
 A switch stands at a weighted mean of its neighbours. As W. T. Tutte showed, no two links cross then, whatever the weights are.
-Here a link weighs more the more images are behind it, less the more steps it has to bridge, and less if its label lacks room.
+Here a link weighs more the more images it parts from the others, less the more steps it bridges, and less if its label lacks
+room.
 
 Places are whole tenths, and all is computed in whole numbers and fractions from the places on the ring, so that every machine
 draws the same. Status 0; 1 where the text is no listing of a tree or cannot be read, with a message on standard error and
@@ -137,9 +138,12 @@ def balanced(steps, ring, weight):
 def placed(steps, ring, room):
     """Each node's place. Where a link comes out too short for its label, it and those beside it weigh less in the next round."""
     high, images = heights(steps), {node: int(node in ring) for node, _ in steps}
+    # Two switches may be in the middle. The other one is then as high as the root is without it.
+    high[steps[0][0]] = sorted(high[node] + 1 for node, before in steps if before == steps[0][0])[-2]
     for node, before in reversed(steps[1:]):
         images[before] += images[node]
-    weight = {node: 10 ** 6 * images[node] // (high[before] - high[node]) for node, before in steps[1:]}
+    weight = {node: 10 ** 6 * min(images[node], len(ring) - images[node]) // max(1, high[before] - high[node])
+              for node, before in steps[1:]}
     for _ in range(ROUNDS):
         places = balanced(steps, ring, weight)
         lengths = {node: distance(places[node], places[before]) for node, before in steps[1:]}
