@@ -7,9 +7,9 @@
 The images stand on a ring in the listing's order, clockwise from the top. Every far side is a run of neighbours there, so the
 tree fits inside. Each link is labelled with its doubled cost; a link of cost 0 is dotted.
 
-A switch stands at a weighted mean of its neighbours. As W. T. Tutte showed, no two links cross then, whatever the weights are.
-Here a link weighs more the more images it parts from the others, less the more steps it bridges, and less if its label lacks
-room.
+A switch stands at a weighted mean of its neighbours. By W. T. Tutte's theorem no two links cross then, whatever the weights, if
+they are above 0. Here a link weighs more the more images it parts from the others, less the more steps it bridges, and less if
+its label lacks room.
 
 Places are whole tenths, and all is computed in whole numbers and fractions from the places on the ring, so that every machine
 draws the same. Status 0; 1 where the text is no listing of a tree or cannot be read, with a message on standard error and

@@ -265,6 +265,7 @@ def check_drawing(name, svg, listing):
     ring = [tenths(disc, "cx", "cy") for disc in groups["images"].findall(SVG + "circle")]
     check(f"{name}: images in the order", [number.text for number in numbers], order)
     check(f"{name}: numbers on their images", [tenths(number, "x", "y") for number in numbers], ring)
+    check(f"{name}: the first on top, at a radius in whole pixels", (ring[0][0], ring[0][1] % 10), (0, 0))
     check(f"{name}: clockwise on a ring", all(side(ring[at - 2], ring[at - 1], ring[at]) == 1 for at in range(len(ring))))
 
     drawn, labels = groups["links"].findall(SVG + "line"), groups["costs"].findall(SVG + "text")
