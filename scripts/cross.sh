@@ -41,7 +41,8 @@ install_packages() { # PACKAGE..
 
 # It gives up by itself where nothing answers; to end it while it unpacks would leave the machine's packages half installed.
 packages() {
-    DEBIAN_FRONTEND=noninteractive timeout 900 apt-get -y -qq -o Acquire::http::Timeout=30 -o Acquire::Retries=1 "$@" </dev/null >/dev/null 2>&1
+    DEBIAN_FRONTEND=noninteractive timeout 900 apt-get -y -qq -o Acquire::http::Timeout=30 -o Acquire::Retries=1 "$@" \
+        </dev/null >/dev/null 2>&1
 }
 
 want python3 python3
