@@ -6,8 +6,9 @@
 set -euo pipefail
 cd "$(dirname "$0")/.."
 . scripts/cross.sh
-if [ -z "$CC" ] || [ -z "$PKG_CONFIG" ] || [ "$RUN" = none ]; then
-    not_run "the examples from an installed prefix" "no C compiler for x86-64, no pkg-config, or no emulator"
+why=$(missing C pkg-config emulator)
+if [ -n "$why" ]; then
+    not_run "the examples from an installed prefix" "$why"
     exit 0
 fi
 root=$PWD

@@ -40,7 +40,9 @@ if [ "$(uname -m)" = x86_64 ]; then
     export OMPI_MCA_rmaps_base_oversubscribe=1 OMPI_ALLOW_RUN_AS_ROOT=1 OMPI_ALLOW_RUN_AS_ROOT_CONFIRM=1
 else
     want mpiexec.hydra mpich
-    [ -n "$FC" ] && [ "$RUN" != none ] && have mpiexec.hydra || skip "no Fortran compiler for x86-64, emulator or MPICH"
+    why=$(missing Fortran emulator)
+    [ -z "$why" ] || skip "$why"
+    have mpiexec.hydra || skip "no MPICH"
     mkdir -p "$work"/{lists,archives}/partial
     : >"$work/status"
     foreign update && foreign -y --download-only install libcaf-mpich-3 || skip "no x86-64 packages of OpenCoarrays"
