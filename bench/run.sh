@@ -6,8 +6,9 @@ set -euo pipefail
 earlier=${1:+$(realpath "$1")}
 cd "$(dirname "$0")/.."
 . scripts/cross.sh
-if [ -z "$CC" ] || [ "$RUN" = none ]; then
-    not_run "the benchmark" "no C compiler for x86-64, or no emulator"
+why=$(missing C emulator)
+if [ -n "$why" ]; then
+    not_run "the benchmark" "$why"
     exit 0
 fi
 need_archive

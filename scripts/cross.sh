@@ -41,7 +41,8 @@ install_packages() { # PACKAGE..
 
 # It gives up by itself where nothing answers; to end it while it unpacks would leave the machine's packages half installed.
 packages() {
-    DEBIAN_FRONTEND=noninteractive timeout 900 apt-get -y -qq -o Acquire::http::Timeout=30 -o Acquire::Retries=1 "$@" </dev/null >/dev/null 2>&1
+    DEBIAN_FRONTEND=noninteractive timeout 900 apt-get -y -qq -o Acquire::http::Timeout=30 -o Acquire::Retries=1 "$@" \
+        </dev/null >/dev/null 2>&1
 }
 
 want python3 python3
@@ -65,3 +66,18 @@ have "$CC" || CC=
 have "$CXX" || CXX=
 have "$FC" || FC=
 PKG_CONFIG=$(command -v pkg-config || command -v pkgconf || true)
+
+# Prints which of these could not be had, as the reason for not_run; nothing where all are there.
+missing() { # C | C++ | Fortran | pkg-config | emulator ..
+    local thing all=
+    for thing in "$@"; do
+        case $thing in
+        C) [ -n "$CC" ] || all+=", no C compiler for x86-64" ;;
+        C++) [ -n "$CXX" ] || all+=", no C++ compiler for x86-64" ;;
+        Fortran) [ -n "$FC" ] || all+=", no Fortran compiler for x86-64" ;;
+        pkg-config) [ -n "$PKG_CONFIG" ] || all+=", no pkg-config" ;;
+        emulator) [ "$RUN" != none ] || all+=", no emulator of x86-64" ;;
+        esac
+    done
+    echo "${all#, }"
+}

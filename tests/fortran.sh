@@ -6,8 +6,9 @@ set -euo pipefail
 cd "$(dirname "$0")/.."
 . scripts/cross.sh
 
-if [ -z "$FC" ] || [ "$RUN" = none ]; then
-    not_run "the Fortran module" "no Fortran compiler for x86-64, or no emulator"
+why=$(missing Fortran emulator)
+if [ -n "$why" ]; then
+    not_run "the Fortran module" "$why"
     exit 0
 fi
 need_archive || { echo "fortran: the archive was not made"; exit 1; }

@@ -6,8 +6,9 @@
 set -euo pipefail
 cd "$(dirname "$0")/.."
 . scripts/cross.sh
-if [ -z "$CC" ] || [ -z "$PKG_CONFIG" ] || [ "$RUN" = none ]; then
-    not_run "the examples from an installed prefix" "no C compiler for x86-64, no pkg-config, or no emulator"
+why=$(missing C pkg-config emulator)
+if [ -n "$why" ]; then
+    not_run "the examples from an installed prefix" "$why"
     exit 0
 fi
 root=$PWD
@@ -52,6 +53,10 @@ builds "the C example from the prefix" examples/expected.txt "$CC" -std=c11 -O2 
 if [ -n "$FC" ]; then
     builds "the first Fortran program from the prefix" examples/first.txt "$FC" first.f90
     builds "the Fortran example from the prefix" examples/expected.txt "$FC" -std=f2018 -O2 -Wall network.f90 team.f90
+    # As for a compiler that cannot read the installed module.
+    source=$("$PKG_CONFIG" --variable=fortran_source kemotuiki)
+    builds "the Fortran example with the module's source" examples/expected.txt "$FC" -std=f2018 -O2 "$source" network.f90 team.f90
+    rm -f "$work/build"/*.mod
 else
     not_run "the Fortran example from an installed prefix" "no Fortran compiler for x86-64"
 fi

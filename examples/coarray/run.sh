@@ -1,8 +1,9 @@
 #!/usr/bin/env bash
 # Builds team.f90 against the archive, runs it with nine images and compares its lines, sorted, with expected.txt. On x86-64 this
-# takes caf of OpenCoarrays, Debian's over MPICH before another; where this runs as root it is installed if it is missing. Elsewhere MPICH of this machine starts nine emulators, and the x86-64 libraries of OpenCoarrays and
-# MPICH are unpacked from Debian's packages into a folder that is removed at the end. Status 1 on a difference or if the images do
-# not end in two minutes, 0 if all is the same or nothing could be run, which is said.
+# takes caf of OpenCoarrays, Debian's over MPICH before another; where this runs as root it is installed if it is missing.
+# Elsewhere MPICH of this machine starts nine emulators, and the x86-64 libraries of OpenCoarrays and MPICH are unpacked from
+# Debian's packages into a folder that is removed at the end. Status 1 on a difference or if the images do not end in two minutes,
+# 0 if all is the same or nothing could be run, which is said.
 set -euo pipefail
 cd "$(dirname "$0")/../.."
 . scripts/cross.sh
@@ -39,7 +40,9 @@ if [ "$(uname -m)" = x86_64 ]; then
     export OMPI_MCA_rmaps_base_oversubscribe=1 OMPI_ALLOW_RUN_AS_ROOT=1 OMPI_ALLOW_RUN_AS_ROOT_CONFIRM=1
 else
     want mpiexec.hydra mpich
-    [ -n "$FC" ] && [ "$RUN" != none ] && have mpiexec.hydra || skip "no Fortran compiler for x86-64, emulator or MPICH"
+    why=$(missing Fortran emulator)
+    [ -z "$why" ] || skip "$why"
+    have mpiexec.hydra || skip "no MPICH"
     mkdir -p "$work"/{lists,archives}/partial
     : >"$work/status"
     foreign update && foreign -y --download-only install libcaf-mpich-3 || skip "no x86-64 packages of OpenCoarrays"
