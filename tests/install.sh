@@ -71,13 +71,26 @@ install_to moved --no-fortran
 same "files of the Fortran module without Fortran" "" "$(cd "$work/moved" && ls lib/libkemotuiki_fortran.a include/*.mod 2>/dev/null)"
 builds "the C example without Fortran" examples/expected.txt "$CC" -std=c11 -O2 team.c
 
-# The version, once more with all.
+# The version, once more with all: as text and as its three numbers.
 install_to moved
-echo "$version" >"$work/version"
-printf '#include <kemotuiki.h>\n#include <stdio.h>\nint main(void) { return puts(KEMOTUIKI_VERSION) < 0; }\n' >"$work/build/version.c"
+printf '%s\n%s\n' "$version" "$version" >"$work/version"
+cat >"$work/build/version.c" <<'END'
+#include <kemotuiki.h>
+#include <stdio.h>
+int main(void) {
+    printf("%s\n%d.%d.%d\n", KEMOTUIKI_VERSION, KEMOTUIKI_VERSION_MAJOR, KEMOTUIKI_VERSION_MINOR, KEMOTUIKI_VERSION_PATCH);
+    return 0;
+}
+END
 builds "the header's version" "$work/version" "$CC" -std=c11 -Wall -Wextra version.c
 if [ -n "$FC" ]; then
-    printf 'program version\nuse kemotuiki, only: kemotuiki_version\nprint "(a)", kemotuiki_version\nend program\n' >"$work/build/version.f90"
+    cat >"$work/build/version.f90" <<'END'
+program version
+    use kemotuiki, only: kemotuiki_version, kemotuiki_version_major, kemotuiki_version_minor, kemotuiki_version_patch
+    print '(a)', kemotuiki_version
+    print '(i0, 2(".", i0))', kemotuiki_version_major, kemotuiki_version_minor, kemotuiki_version_patch
+end program
+END
     builds "the module's version" "$work/version" "$FC" -std=f2018 -Wall version.f90
 fi
 exit $status
