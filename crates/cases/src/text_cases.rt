@@ -14,17 +14,15 @@ fn places_case(number: usize, table: usize, text: &[u8], at: usize) -> usize {
     let room = take8(text, d.next, &mut bytes);
     let count = room.count;
     let out = &mut bytes[..count];
-    show_written(
-        refusal_text::refusal_text(
-            number,
-            table,
-            a.value as usize,
-            b.value as usize,
-            c.value as usize,
-            d.value as usize,
-            out,
-        ),
-    );
+    show_written(refusal_text::refusal_text(
+        number,
+        table,
+        a.value as usize,
+        b.value as usize,
+        c.value as usize,
+        d.value as usize,
+        out,
+    ));
     show8(out);
     room.next
 }

@@ -4,22 +4,7 @@ use Prim.Native.Nat.{ℕ}
 use Rattle.ground.specs.declared.Refusal.{Refusal}
 use Rattle.text.specs.Decimal.{decimal}
 use Rattle.text.specs.Fields.{field, fields}
-
--- "images"
-unfoldable pub imagesWord : List ℕ
-imagesWord = 105 ∷ 109 ∷ 97 ∷ 103 ∷ 101 ∷ 115 ∷ []
-
--- " rows", with the blank before it
-unfoldable pub rowsWord : List ℕ
-rowsWord = 32 ∷ 114 ∷ 111 ∷ 119 ∷ 115 ∷ []
-
--- "order"
-unfoldable pub orderWord : List ℕ
-orderWord = 111 ∷ 114 ∷ 100 ∷ 101 ∷ 114 ∷ []
-
--- "refused"
-unfoldable pub refusedWord : List ℕ
-refusedWord = 114 ∷ 101 ∷ 102 ∷ 117 ∷ 115 ∷ 101 ∷ 100 ∷ []
+use Rattle.text.specs.Words.{bytesOf}
 
 -- the end of a line
 abbrev pub newline : List ℕ
@@ -27,7 +12,7 @@ newline = 10 ∷ []
 
 -- images N rows R
 unfoldable pub header : ℕ → ℕ → List ℕ
-header n r = imagesWord ++ (field n ++ (rowsWord ++ (field r ++ newline)))
+header n r = bytesOf "images" ++ (field n ++ (bytesOf " rows" ++ (field r ++ newline)))
 
 -- far side, doubled cost, upper row
 unfoldable pub rowLine : ℕ → ℕ → ℕ → List ℕ
@@ -42,8 +27,8 @@ rowLines (s ∷ l) (c ∷ v) (a ∷ u) = rowLine s c a ++ rowLines l v u
 
 -- order, and the images
 unfoldable pub orderLine : List ℕ → List ℕ
-orderLine o = orderWord ++ (fields o ++ newline)
+orderLine o = bytesOf "order" ++ (fields o ++ newline)
 
 -- refused, the number and the four places
 unfoldable pub refusedLine : Refusal → List ℕ
-refusedLine q = refusedWord ++ (field (q .number) ++ (field (q .a) ++ (field (q .b) ++ (field (q .c) ++ (field (q .d) ++ newline)))))
+refusedLine q = bytesOf "refused" ++ (field (q .number) ++ (field (q .a) ++ (field (q .b) ++ (field (q .c) ++ (field (q .d) ++ newline)))))

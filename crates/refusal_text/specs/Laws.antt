@@ -3,4 +3,5 @@ pub mod About
 pub mod Said
 pub mod Lengths
 pub mod Zeros
+pub mod Parted
 pub mod Differ

@@ -1,6 +1,6 @@
 -- What is said of each refusal: words, and behind them its places. A refusal more is one line more in the list. Assumes nothing.
 use mathlib.Core.Bool.{cond}
-use mathlib.Core.List.{List, [], _∷_}
+use mathlib.Core.List.{List, [], _++_, _∷_}
 use Prim.Native.Nat.{ℕ}
 use Prim.Native.String.{String}
 use lib.Dec.{eqb}
@@ -43,6 +43,10 @@ furtherSayings a =
     ∷ says 14 "neither table includes the other" []
     ∷ says 15 "stored tables of different n" []
     ∷ []
+
+-- all of them
+abbrev pub sayings : ℕ → ℕ → ℕ → ℕ → List Saying
+sayings a b c d = firstSayings a b c d ++ furtherSayings a
 
 -- any other number
 abbrev pub unknown : ℕ → Saying

@@ -10,7 +10,7 @@ use Rattle.ground.specs.declared.Check.{Check}
 use Rattle.ground.specs.declared.Written.{Written}
 use Rattle.text.specs.Fields.{field, fields}
 use Rattle.text.specs.Words.{bytesOf}
-use Rattle.refusal_text.specs.Sayings.{Saying, firstSayings, furtherSayings, sayingIn}
+use Rattle.refusal_text.specs.Sayings.{Saying, sayingIn, sayings}
 
 -- the words, and each place behind one blank
 unfoldable pub sayingText : Saying → List ℕ
@@ -18,7 +18,7 @@ sayingText s = bytesOf (s .words) ++ fields (s .places)
 
 -- what is said of the refusal of that number with the places a, b, c, d
 unfoldable pub saidOf : ℕ → ℕ → ℕ → ℕ → ℕ → List ℕ
-saidOf number a b c d = sayingText (sayingIn number (firstSayings a b c d ++ furtherSayings a))
+saidOf number a b c d = sayingText (sayingIn number (sayings a b c d))
 
 -- in front of it the table that it is about, if it is about one; 0, which means accepted, is about none
 unfoldable pub aboutTable : ℕ → ℕ → List ℕ

@@ -7,7 +7,7 @@ ghost use lib.ListN.{length};
 ghost use Rattle.ground.specs.Outcomes.{Left};
 ghost use Rattle.text.specs.Fields.{fields};
 ghost use Rattle.text.specs.Putting.{Put};
-ghost use Rattle.refusal_text.specs.Sayings.{badRow, firstSayings, furtherSayings, sayingIn};
+ghost use Rattle.refusal_text.specs.Sayings.{badRow, furtherSayings, sayingIn};
 ghost use Rattle.refusal_text.specs.Text.{aboutTable, refusalTextOutcome, saidOf, sayingText};
 
 // Words, and one place behind them.

@@ -101,8 +101,8 @@ module _ (B : List ℕ) (m i seen : ℕ) (links : List ℕ) (h : i < m) (few : m
   pub both-less : seen ≤ bitOr seen (getD B i 0)
   both-less = bits-le 64 seen (bitOr seen (getD B i 0)) fits (λ j. omega (arith, both-bit j))
 
-  pub linking-more : (v : ℕ) (links′ : List ℕ) → FirstContaining B m (getD B i 0) (i + 1) v → PlacesMarked (bitOr seen (getD B i 0) - seen) i 0 (set links i v) links′
-      → Linking B m (i + 1) (bitOr seen (getD B i 0)) links′
+  pub linking-more : (v : ℕ) (links′ : List ℕ) → FirstContaining B m (getD B i 0) (i + 1) v
+      → PlacesMarked (bitOr seen (getD B i 0) - seen) i 0 (set links i v) links′ → Linking B m (i + 1) (bitOr seen (getD B i 0)) links′
   linking-more v links′ n t = record {
     room = t .room ∙ simp length-set (u .room);
     upper = λ j l. cases (eqb j i)

@@ -2,9 +2,10 @@
 use mathlib.Core.List.{[], _++_, _∷_}
 use borrow.Author.Needs.{needs}
 use Rattle.text.specs.Fields.{fields}
-use Rattle.listing_text.specs.Lines.{orderLine, orderWord}
+use Rattle.listing_text.specs.Lines.{orderLine}
 use Rattle.text.specs.Putting.{Rest}
 use Rattle.text.specs.Laws.Putting.{byte-last-fits, rest-begin, rest-fits, rest-last, rest-step}
+use Rattle.text.specs.Words.{bytesOf}
 use Rattle.listing_text.proofs.put_order.Statement.{statement}
 use Rattle.listing_text.proofs.put_order.Tie as tie
 
@@ -13,10 +14,10 @@ left-1 : (c : tie.After-put-word)
     → Rest (fields (c .before .before .before .before .before .args .around .now) ++ (10 ∷ [])) (c .put-word .result) (c .put-word .last .0)
     (orderLine (c .before .before .before .before .before .args .around .now)) (c .before .before .before .before .before .args .at)
     (c .before .before .before .before .before .args .out .now)
-unfolding orderLine orderWord
+unfolding orderLine bytesOf
 left-1 c =
     let s = c .before .before .before .before .before in
-    rest-step (orderWord) (fields (s .args .around .now) ++ (10 ∷ [])) (rest-begin (orderLine (s .args .around .now)) (s .args .at) (s .args .out .now))
+    rest-step (bytesOf "order") (fields (s .args .around .now) ++ (10 ∷ [])) (rest-begin (orderLine (s .args .around .now)) (s .args .at) (s .args .out .now))
     (s .pre) (c .put-word .ensures)
 
 -- what is left to write behind call 2
@@ -25,7 +26,7 @@ left-2 : (c : tie.After-put-fields)
     (orderLine (c .before .before .before .before .before .before .before .before .before .args .around .now))
     (c .before .before .before .before .before .before .before .before .before .args .at)
     (c .before .before .before .before .before .before .before .before .before .args .out .now)
-unfolding orderLine orderWord
+unfolding orderLine bytesOf
 left-2 c =
     let s = c .before .before .before .before .before .before .before .before .before in
     rest-step (fields (s .args .around .now)) ((10 ∷ [])) (left-1 (c .before .before .before .before)) (s .pre) (c .put-fields .ensures)
@@ -34,20 +35,20 @@ slice-aggregate-put-word : tie.Need-slice-aggregate-put-word
 slice-aggregate-put-word c = search needs
 
 put-word-requires : tie.Need-put-word-requires
-unfolding orderLine orderWord
+unfolding orderLine bytesOf
 put-word-requires c κs =
     let s = c .before .before .before .before in
-    rest-fits (orderWord) (fields (s .args .around .now) ++ (10 ∷ []))
+    rest-fits (bytesOf "order") (fields (s .args .around .now) ++ (10 ∷ []))
     (rest-begin (orderLine (s .args .around .now)) (s .args .at) (s .args .out .now)) (s .pre)
 
 put-fields-requires : tie.Need-put-fields-requires
-unfolding orderLine orderWord
+unfolding orderLine bytesOf
 put-fields-requires c κs =
     let s = c .before .before .before .before .before .before .before .before in
     rest-fits (fields (s .args .around .now)) ((10 ∷ [])) (left-1 (c .before .before .before)) (s .pre)
 
 put-byte-requires : tie.Need-put-byte-requires
-unfolding orderLine orderWord
+unfolding orderLine bytesOf
 put-byte-requires c κs =
     let s = c .before .before .before .before .before .before .before .before .before .before .before .before in
     byte-last-fits (left-2 (c .before .before .before)) (s .pre)
@@ -56,7 +57,7 @@ same-length : tie.Need-same-length
 same-length c = search needs
 
 returns : tie.Need-returns
-unfolding orderLine orderWord
+unfolding orderLine bytesOf
 returns c = rest-last (left-2 (c .before .before .before .before .before .before)) (c .before .before .put-byte .ensures)
 
 pub put-order-spec : {M : Type 1} → statement M

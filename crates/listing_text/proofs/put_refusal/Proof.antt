@@ -4,9 +4,10 @@ use Prim.Native.Nat.{ℕ}
 use borrow.Author.Needs.{needs}
 use Rattle.ground.specs.declared.Refusal.{Refusal}
 use Rattle.text.specs.Fields.{field}
-use Rattle.listing_text.specs.Lines.{refusedLine, refusedWord}
+use Rattle.listing_text.specs.Lines.{refusedLine}
 use Rattle.text.specs.Putting.{Rest}
 use Rattle.text.specs.Laws.Putting.{byte-last-fits, rest-begin, rest-fits, rest-last, rest-step}
+use Rattle.text.specs.Words.{bytesOf}
 use Rattle.listing_text.proofs.put_refusal.Statement.{statement}
 use Rattle.listing_text.proofs.put_refusal.Tie as tie
 
@@ -48,10 +49,10 @@ s6 c = s5 (c .before .before .before .before)
 -- what is left to write there
 left-1 : (c : tie.After-put-word)
     → let a = s1 c .args in Rest (from-number (a .q)) (c .put-word .result) (c .put-word .last .0) (refusedLine (a .q)) (a .at) (a .out .now)
-unfolding refusedLine refusedWord
+unfolding refusedLine bytesOf
 left-1 c =
     let s = s1 c in
-    rest-step refusedWord (from-number (s .args .q)) (rest-begin (refusedLine (s .args .q)) (s .args .at) (s .args .out .now)) (s .pre)
+    rest-step (bytesOf "refused") (from-number (s .args .q)) (rest-begin (refusedLine (s .args .q)) (s .args .at) (s .args .out .now)) (s .pre)
     (c .put-word .ensures)
 
 left-2 : (c : tie.After-put-field)
@@ -88,10 +89,10 @@ slice-aggregate-put-word : tie.Need-slice-aggregate-put-word
 slice-aggregate-put-word c = search needs
 
 put-word-requires : tie.Need-put-word-requires
-unfolding refusedLine refusedWord
+unfolding refusedLine bytesOf
 put-word-requires c κs =
     let s = c .before .before .before in
-    rest-fits refusedWord (from-number (s .args .q)) (rest-begin (refusedLine (s .args .q)) (s .args .at) (s .args .out .now)) (s .pre)
+    rest-fits (bytesOf "refused") (from-number (s .args .q)) (rest-begin (refusedLine (s .args .q)) (s .args .at) (s .args .out .now)) (s .pre)
 
 cast-put-field : tie.Need-cast-put-field
 cast-put-field c = search needs

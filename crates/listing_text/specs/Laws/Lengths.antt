@@ -4,14 +4,15 @@ use Prim.Native.Nat.{ℕ, _*_, _+_, _≤_}
 use native.Mathlib.Omega.{arith}
 use lib.ListN.{length, length-append}
 use Rattle.ground.specs.declared.Refusal.{Refusal}
-use Rattle.listing_text.specs.Lines.{header, imagesWord, orderLine, orderWord, refusedLine, refusedWord, rowLine, rowLines, rowsWord}
+use Rattle.listing_text.specs.Lines.{header, orderLine, refusedLine, rowLine, rowLines}
 use Rattle.listing_text.specs.Listing.{readingText, room}
 use Rattle.text.specs.Putting.{Fits}
 use Rattle.text.specs.Laws.Lengths.{field-most, fields-most}
 use Rattle.text.specs.Laws.Numbers.{decimal-most}
+use Rattle.text.specs.Words.{bytesOf}
 
 header-most : (n r : ℕ) → length (header n r) ≤ 60
-unfolding header imagesWord rowsWord
+unfolding header bytesOf
 header-most n r = simp length-append (omega (arith, field-most n, field-most r))
 
 row-most : (s c u : ℕ) → length (rowLine s c u) ≤ 64
@@ -26,12 +27,12 @@ rows-most (s ∷ l) (c ∷ v) [] = omega arith
 rows-most (s ∷ l) (c ∷ v) (a ∷ u) = simp length-append (omega (arith, row-most s c a, rows-most l v u))
 
 order-most : (o : List ℕ) → length (orderLine o) ≤ 8 + 21 * length o
-unfolding orderLine orderWord
+unfolding orderLine bytesOf
 order-most o = simp length-append (omega (arith, fields-most o))
 
 -- a refusal's line
 pub refused-most : (q : Refusal) → length (refusedLine q) ≤ room
-unfolding refusedLine refusedWord
+unfolding refusedLine bytesOf
 refused-most q =
     simp length-append (omega (arith, field-most (q .number), field-most (q .a), field-most (q .b), field-most (q .c), field-most (q .d)))
 

@@ -1,5 +1,6 @@
 -- `refusal_text::put_four` meets its contract: the words, then four places. Assumes nothing.
-use mathlib.Core.List.{[], _++_, _∷_}
+use mathlib.Core.List.{List, [], _++_, _∷_}
+use Prim.Native.Nat.{ℕ}
 use native.Mathlib.Omega.{arith}
 use borrow.Author.Needs.{needs}
 use Rattle.text.specs.Fields.{field, fields}
@@ -22,21 +23,26 @@ s3 c = s2 (c .before .before .before .before)
 abbrev s4 : tie.After-put-field3 → tie.Start
 s4 c = s3 (c .before .before .before .before)
 
-fitting : (s : tie.Start)
-    → Fits (s .args .words .now ++ fields (s .args .a ∷ s .args .b ∷ s .args .c ∷ s .args .d ∷ [])) (s .args .at) (s .args .out .now)
-fitting s = word-fields-fit (s .args .words .now) (s .args .a ∷ s .args .b ∷ s .args .c ∷ s .args .d ∷ []) (s .args .at) (s .args .out .now) (omega (arith, s .pre))
+-- what is to be written
+abbrev line : tie.Start → List ℕ
+line s = s .args .words .now ++ fields (s .args .a ∷ s .args .b ∷ s .args .c ∷ s .args .d ∷ [])
+
+fitting : (s : tie.Start) → Fits (line s) (s .args .at) (s .args .out .now)
+fitting s =
+    word-fields-fit (s .args .words .now) (s .args .a ∷ s .args .b ∷ s .args .c ∷ s .args .d ∷ []) (s .args .at) (s .args .out .now)
+    (omega (arith, s .pre))
 
 -- what is left to write there
 left-1 : (c : tie.After-put-word)
     → let s = s1 c .args in
-    Rest (fields (s .a ∷ s .b ∷ s .c ∷ s .d ∷ [])) (c .put-word .result) (c .put-word .last .0) (s .words .now ++ fields (s .a ∷ s .b ∷ s .c ∷ s .d ∷ [])) (s .at) (s .out .now)
+    Rest (fields (s .a ∷ s .b ∷ s .c ∷ s .d ∷ [])) (c .put-word .result) (c .put-word .last .0) (line (s1 c)) (s .at) (s .out .now)
 left-1 c =
     let s = s1 c .args in
     rest-step (s .words .now) (fields (s .a ∷ s .b ∷ s .c ∷ s .d ∷ [])) (rest-begin _ (s .at) (s .out .now)) (fitting (s1 c)) (c .put-word .ensures)
 
 left-2 : (c : tie.After-put-field)
     → let s = s2 c .args in
-    Rest (fields (s .b ∷ s .c ∷ s .d ∷ [])) (c .put-field .result) (c .put-field .last .0) (s .words .now ++ fields (s .a ∷ s .b ∷ s .c ∷ s .d ∷ [])) (s .at) (s .out .now)
+    Rest (fields (s .b ∷ s .c ∷ s .d ∷ [])) (c .put-field .result) (c .put-field .last .0) (line (s2 c)) (s .at) (s .out .now)
 unfolding fields
 left-2 c =
     let s = s2 c .args in
@@ -44,7 +50,7 @@ left-2 c =
 
 left-3 : (c : tie.After-put-field2)
     → let s = s3 c .args in
-    Rest (fields (s .c ∷ s .d ∷ [])) (c .put-field2 .result) (c .put-field2 .last .0) (s .words .now ++ fields (s .a ∷ s .b ∷ s .c ∷ s .d ∷ [])) (s .at) (s .out .now)
+    Rest (fields (s .c ∷ s .d ∷ [])) (c .put-field2 .result) (c .put-field2 .last .0) (line (s3 c)) (s .at) (s .out .now)
 unfolding fields
 left-3 c =
     let s = s3 c .args in
@@ -52,7 +58,7 @@ left-3 c =
 
 left-4 : (c : tie.After-put-field3)
     → let s = s4 c .args in
-    Rest (fields (s .d ∷ [])) (c .put-field3 .result) (c .put-field3 .last .0) (s .words .now ++ fields (s .a ∷ s .b ∷ s .c ∷ s .d ∷ [])) (s .at) (s .out .now)
+    Rest (fields (s .d ∷ [])) (c .put-field3 .result) (c .put-field3 .last .0) (line (s4 c)) (s .at) (s .out .now)
 unfolding fields
 left-4 c =
     let s = s4 c .args in

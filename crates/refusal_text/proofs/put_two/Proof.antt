@@ -1,5 +1,6 @@
 -- `refusal_text::put_two` meets its contract: the words, then two places. Assumes nothing.
-use mathlib.Core.List.{[], _++_, _∷_}
+use mathlib.Core.List.{List, [], _++_, _∷_}
+use Prim.Native.Nat.{ℕ}
 use native.Mathlib.Omega.{arith}
 use borrow.Author.Needs.{needs}
 use Rattle.text.specs.Fields.{field, fields}
@@ -16,21 +17,24 @@ s1 c = c .before .before .before .before
 abbrev s2 : tie.After-put-field → tie.Start
 s2 c = s1 (c .before .before .before .before)
 
-fitting : (s : tie.Start)
-    → Fits (s .args .words .now ++ fields (s .args .a ∷ s .args .b ∷ [])) (s .args .at) (s .args .out .now)
+-- what is to be written
+abbrev line : tie.Start → List ℕ
+line s = s .args .words .now ++ fields (s .args .a ∷ s .args .b ∷ [])
+
+fitting : (s : tie.Start) → Fits (line s) (s .args .at) (s .args .out .now)
 fitting s = word-fields-fit (s .args .words .now) (s .args .a ∷ s .args .b ∷ []) (s .args .at) (s .args .out .now) (omega (arith, s .pre))
 
 -- what is left to write there
 left-1 : (c : tie.After-put-word)
     → let s = s1 c .args in
-    Rest (fields (s .a ∷ s .b ∷ [])) (c .put-word .result) (c .put-word .last .0) (s .words .now ++ fields (s .a ∷ s .b ∷ [])) (s .at) (s .out .now)
+    Rest (fields (s .a ∷ s .b ∷ [])) (c .put-word .result) (c .put-word .last .0) (line (s1 c)) (s .at) (s .out .now)
 left-1 c =
     let s = s1 c .args in
     rest-step (s .words .now) (fields (s .a ∷ s .b ∷ [])) (rest-begin _ (s .at) (s .out .now)) (fitting (s1 c)) (c .put-word .ensures)
 
 left-2 : (c : tie.After-put-field)
     → let s = s2 c .args in
-    Rest (fields (s .b ∷ [])) (c .put-field .result) (c .put-field .last .0) (s .words .now ++ fields (s .a ∷ s .b ∷ [])) (s .at) (s .out .now)
+    Rest (fields (s .b ∷ [])) (c .put-field .result) (c .put-field .last .0) (line (s2 c)) (s .at) (s .out .now)
 unfolding fields
 left-2 c =
     let s = s2 c .args in

@@ -1,6 +1,6 @@
 -- `refusal_text::refusal_text` meets its contract: the table, what is said, and the zero byte, where there is room. Assumes nothing.
 use mathlib.Core.List.{[], _++_, _∷_, append-assoc}
-use mathlib.Core.Path.{sym, _∙_, _≡_}
+use mathlib.Core.Path.{sym, _∙_}
 use Prim.Native.Nat.{_≤_}
 use native.Mathlib.Omega.{arith}
 use lib.ListN.{length}
@@ -9,7 +9,7 @@ use borrow.Author.Tests.{ltb-false}
 use Rattle.ground.specs.Laws.Outcomes.{written-goes, written-stops}
 use Rattle.ground.specs.Laws.Refusals.{refuseIf-passed}
 use Rattle.text.specs.Laws.Pieces.{rest-same}
-use Rattle.text.specs.Laws.Putting.{byte-last-fits, put-front, put-length, rest-begin, rest-last, rest-step}
+use Rattle.text.specs.Laws.Putting.{byte-last-fits, put-front, rest-begin, rest-last, rest-step}
 use Rattle.text.specs.Putting.{Fits, Rest}
 use Rattle.refusal_text.specs.Laws.About.{about-most}
 use Rattle.refusal_text.specs.Laws.Lengths.{text-fits}

@@ -1,6 +1,6 @@
--- Two refusals never have the same text: their words differ at a place that both have, which antt computes. Assumes nothing.
-use mathlib.Core.Bool.{Bool, false, false≢true, not, true, _&&_, _||_}
-use mathlib.Core.List.{List, [], _++_, _∷_, append-assoc, append-cancel-left}
+-- Two refusals never have the same text: their words are parted, which antt computes. Assumes nothing.
+use mathlib.Core.Bool.{true, _&&_}
+use mathlib.Core.List.{List, [], _++_, append-cancel-left}
 use mathlib.Core.Path.{refl, sym, _∙_, _≡_}
 use Prim.Native.Nat.{ℕ}
 use lib.Dec.{eqb}
@@ -10,33 +10,10 @@ use Rattle.ground.specs.Laws.Tests.{and-l, and-r}
 use Rattle.text.specs.Fields.{field, fields}
 use Rattle.text.specs.Words.{bytesOf}
 use Rattle.refusal_text.specs.Laws.About.{about-accepted, about-none, about-one}
+use Rattle.refusal_text.specs.Laws.Parted.{apart, apart-same, parted-differ}
 use Rattle.refusal_text.specs.Laws.Said.{allPass, known, known-passes, knownIn, said-number, said-passes}
-use Rattle.refusal_text.specs.Sayings.{Saying, firstSayings, furtherSayings, sayingIn, unknown}
-use Rattle.refusal_text.specs.Text.{aboutTable, refusalText, saidOf, sayingText}
-
--- they differ at a place that both have
-abbrev parted : List ℕ → List ℕ → Bool
-parted [] m = false
-parted (x ∷ l) [] = false
-parted (x ∷ l) (y ∷ m) = not (eqb x y) || parted l m
-
--- so they differ, whatever follows
-parted-differ : (l m x y : List ℕ) → parted l m ≡ true → l ++ x ≡ m ++ y → ⊥
-parted-differ [] m x y e f = false≢true e
-parted-differ (a ∷ l) [] x y e f = false≢true e
-parted-differ (a ∷ l) (b ∷ m) x y e f =
-    cases (eqb a b) (λ h. parted-differ l m x y (rw h at e) (cc)) (λ h. eqb-false a b h (cc))
-
--- of two sayings, that they are parted or of one number
-abbrev apart : Saying → Saying → Bool
-apart s t = parted (bytesOf (s .words)) (bytesOf (t .words)) || eqb (s .number) (t .number)
-
-apart-same : (s t : Saying) → apart s t ≡ true → sayingText s ≡ sayingText t → s .number ≡ t .number
-unfolding sayingText
-apart-same s t e f =
-    let v = bytesOf (s .words) in
-    let w = bytesOf (t .words) in
-    cases (parted v w) (λ h. absurd (parted-differ v w (fields (s .places)) (fields (t .places)) h f)) (λ h. eqb-true (s .number) (t .number) (rw h at e))
+use Rattle.refusal_text.specs.Sayings.{Saying, firstSayings, furtherSayings, sayingIn, sayings, unknown}
+use Rattle.refusal_text.specs.Text.{refusalText, saidOf, sayingText}
 
 -- 0 in front of no table, and the table in front of any other
 accepted-apart : (t j a b c d a′ b′ c′ d′ : ℕ) → (t ≡ 0 → ⊥) → (j ≡ 0 → ⊥) → refusalText 0 t a b c d ≡ refusalText j t a′ b′ c′ d′ → ⊥
@@ -47,10 +24,10 @@ accepted-apart t j a b c d a′ b′ c′ d′ z n e =
 
 module _ (k j a b c d a′ b′ c′ d′ : ℕ) (h : known k ≡ true) where
   abbrev one : List Saying
-  one = firstSayings a b c d ++ furtherSayings a
+  one = sayings a b c d
 
   abbrev other : List Saying
-  other = firstSayings a′ b′ c′ d′ ++ furtherSayings a′
+  other = sayings a′ b′ c′ d′
 
   -- each saying is apart from each, and from that of any other number
   all-apart : allPass (λ s. allPass (apart s) other && apart s (unknown j)) one ≡ true
@@ -70,7 +47,8 @@ module _ (k j a b c d a′ b′ c′ d′ : ℕ) (h : known k ≡ true) where
       let s = sayingIn k one in
       let t = sayingIn j other in
       let p = known-passes (λ x. allPass (apart x) other && apart x (unknown j)) k one known-here all-apart in
-      let q = said-passes (apart s) j other (and-l (allPass (apart s) other) (apart s (unknown j)) p) (and-r (allPass (apart s) other) (apart s (unknown j)) p) in
+      let l = and-l (allPass (apart s) other) (apart s (unknown j)) p in
+      let q = said-passes (apart s) j other l (and-r (allPass (apart s) other) (apart s (unknown j)) p) in
       sym (said-number k one) ∙ apart-same s t q e ∙ said-number j other
 
   -- nor is the whole text that of another number, with the same table in front

@@ -1,6 +1,5 @@
 -- How long a text can be: with its zero byte it fits the room that the call asks for. Assumes nothing.
 use mathlib.Core.Bool.{Bool, true}
-use mathlib.Core.List.{List, [], _++_, _∷_}
 use mathlib.Core.Path.{refl, _≡_}
 use Prim.Native.Nat.{ℕ, _*_, _+_, _≤_}
 use native.Mathlib.Omega.{arith}
@@ -13,14 +12,14 @@ use Rattle.text.specs.Laws.Lengths.{fields-most}
 use Rattle.text.specs.Words.{bytesOf}
 use Rattle.refusal_text.specs.Laws.About.{about-most}
 use Rattle.refusal_text.specs.Laws.Said.{allPass, said-passes}
-use Rattle.refusal_text.specs.Sayings.{Saying, firstSayings, furtherSayings, sayingIn}
-use Rattle.refusal_text.specs.Text.{aboutTable, refusalBytes, refusalText, room, saidOf, sayingText}
+use Rattle.refusal_text.specs.Sayings.{Saying, firstSayings, furtherSayings, sayingIn, sayings}
+use Rattle.refusal_text.specs.Text.{refusalBytes, refusalText, room, saidOf, sayingText}
 
 -- with the longest numbers it is no longer than what the room leaves behind the table and before the zero byte
 abbrev short : Saying → Bool
 short s = leb (length (bytesOf (s .words)) + 21 * length (s .places)) 163
 
-sayings-short : (a b c d : ℕ) → allPass short (firstSayings a b c d ++ furtherSayings a) ≡ true
+sayings-short : (a b c d : ℕ) → allPass short (sayings a b c d) ≡ true
 unfolding firstSayings furtherSayings bytesOf
 sayings-short a b c d = cases (eqb a 0) (λ e. rw e refl) (λ e. rw e refl)
 
@@ -33,7 +32,7 @@ saying-most s e =
 pub said-most : (number a b c d : ℕ) → length (saidOf number a b c d) ≤ 163
 unfolding saidOf bytesOf
 said-most number a b c d =
-    let l = firstSayings a b c d ++ furtherSayings a in
+    let l = sayings a b c d in
     saying-most (sayingIn number l) (said-passes short number l (sayings-short a b c d) refl)
 
 -- every text fits, whatever its numbers

@@ -1,14 +1,14 @@
 -- What is said of a refusal, whatever its number, passes each test that the sayings of the list and that of any other number pass. So a law
 -- about all texts is one test that antt computes. Assumes nothing.
 use mathlib.Core.Bool.{Bool, false, false≢true, true, _&&_, _||_}
-use mathlib.Core.List.{List, [], _++_, _∷_}
+use mathlib.Core.List.{List, [], _∷_}
 use mathlib.Core.Path.{refl, sym, _≡_}
 use Prim.Native.Nat.{ℕ}
 use lib.Dec.{eqb}
 use borrow.Author.Tests.{eqb-true}
 use borrow.Table.Steps.{cases}
 use Rattle.ground.specs.Laws.Tests.{and-l, and-r}
-use Rattle.refusal_text.specs.Sayings.{Saying, firstSayings, furtherSayings, sayingIn, unknown}
+use Rattle.refusal_text.specs.Sayings.{Saying, sayingIn, sayings, unknown}
 
 abbrev pub allPass : (Saying → Bool) → List Saying → Bool
 allPass p [] = true
@@ -30,7 +30,7 @@ knownIn k (s ∷ l) = eqb k (s .number) || knownIn k l
 
 -- some refusal has the number
 abbrev pub known : ℕ → Bool
-known k = knownIn k (firstSayings 0 0 0 0 ++ furtherSayings 0)
+known k = knownIn k (sayings 0 0 0 0)
 
 -- what is said of it passes each test that the list passes
 pub known-passes : (p : Saying → Bool) (k : ℕ) (l : List Saying) → knownIn k l ≡ true → allPass p l ≡ true → p (sayingIn k l) ≡ true

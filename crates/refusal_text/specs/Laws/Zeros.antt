@@ -1,6 +1,6 @@
 -- A text is not empty and has no zero byte, so that the one behind it is the first. Assumes nothing.
 use mathlib.Core.Bool.{Bool, true, _||_}
-use mathlib.Core.List.{List, [], _++_, _∷_}
+use mathlib.Core.List.{List}
 use mathlib.Core.Path.{refl, _≡_}
 use Prim.Native.Nat.{ℕ, _<_}
 use native.Mathlib.Omega.{arith}
@@ -13,7 +13,7 @@ use Rattle.text.specs.Laws.Zeros.{field-no-zero, fields-no-zero, no-zero-join}
 use Rattle.text.specs.Words.{bytesOf}
 use Rattle.text.specs.Zeros.{noZero}
 use Rattle.refusal_text.specs.Laws.Said.{allPass, said-passes}
-use Rattle.refusal_text.specs.Sayings.{Saying, firstSayings, furtherSayings, sayingIn}
+use Rattle.refusal_text.specs.Sayings.{Saying, firstSayings, furtherSayings, sayingIn, sayings}
 use Rattle.refusal_text.specs.Text.{aboutTable, refusalText, saidOf, sayingText}
 
 abbrev some : Saying → Bool
@@ -24,7 +24,7 @@ plain s = noZero (bytesOf (s .words))
 
 module _ (number table a b c d : ℕ) where
   abbrev all : List Saying
-  all = firstSayings a b c d ++ furtherSayings a
+  all = sayings a b c d
 
   all-some : allPass some all ≡ true
   unfolding firstSayings furtherSayings bytesOf

@@ -3,7 +3,6 @@ use mathlib.Core.List.{List, [], _++_, _∷_}
 use mathlib.Core.Path.{refl, subst, _≡_}
 use Prim.Native.Nat.{ℕ, _+_, _<_, _≤_}
 use native.Mathlib.Numerals.{add-one}
-use native.Mathlib.Omega.{arith}
 use lib.ListN.{drop, drop-of-length-le, getD, length}
 use lib.Seq.{drop-cons}
 use Rattle.text.specs.Fields.{field, fields}

@@ -1,5 +1,5 @@
 -- Numbers and their blanks have no zero byte. Assumes nothing.
-use mathlib.Core.Bool.{true, _&&_}
+use mathlib.Core.Bool.{true}
 use mathlib.Core.List.{List, [], _++_, _∷_}
 use mathlib.Core.Path.{refl, _≡_}
 use Prim.Native.Nat.{suc, zero, ℕ, _%_, _/_, _<_}
