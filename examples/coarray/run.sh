@@ -2,7 +2,7 @@
 # Builds team.f90 against the archive, runs it with nine images and compares its lines, sorted, with expected.txt. On x86-64 this
 # takes caf of OpenCoarrays, Debian's over MPICH before another; where this runs as root it is installed if it is missing.
 # Elsewhere MPICH of this machine starts nine emulators, and the x86-64 libraries of OpenCoarrays and MPICH are unpacked from
-# Debian's packages into a folder that is removed at the end. Status 1 on a difference or if the images do not end in two minutes,
+# Debian's packages into a folder that is removed at the end. Status 1 on a difference or if the images do not end in five minutes,
 # 0 if all is the same or nothing could be run, which is said.
 set -euo pipefail
 cd "$(dirname "$0")/../.."
@@ -58,6 +58,6 @@ fi
 # All images are on one machine, so MPICH needs shared memory alone. With the transports that it chooses itself it does not come to
 # an end under the emulator. Its warnings about OpenCoarrays' last messages would stand between the lines.
 export UCX_TLS=posix,self UCX_LOG_LEVEL=error UCX_LOG_FILE=stderr
-timeout -k 10 120 "${start[@]}" "$work/team" </dev/null >"$work/out" || { echo "coarray: the images ended with status $?"; exit 1; }
+timeout -k 10 300 "${start[@]}" "$work/team" </dev/null >"$work/out" || { echo "coarray: the images ended with status $?"; exit 1; }
 LC_ALL=C sort "$work/out" | diff examples/coarray/expected.txt - || exit 1
 echo "coarray: nine images, as expected"
