@@ -45,11 +45,15 @@ printf '#include "kemotuiki.h"\nint main(void) { return KEMOTUIKI_ACCEPTED; }\n'
 header() { # STANDARD COMPILER..
     "${@:2}" -std="$1" -pedantic -Wall -Wextra -Werror -Iinclude -fsyntax-only "$work/header.c" || { echo "boundary: the header is not $1"; status=1; }
 }
-for standard in c89 c99 c11 c17; do header "$standard" "$CC"; done
+languages=(c89 c99 c11 c17)
+for standard in "${languages[@]}"; do header "$standard" "$CC"; done
 if [ -n "$CXX" ]; then
-    for standard in c++98 c++11 c++14 c++17; do header "$standard" "$CXX" -x c++; done
+    for standard in c++98 c++11 c++14 c++17; do
+        header "$standard" "$CXX" -x c++
+        languages+=("$standard")
+    done
 else
     not_run "the header as C++" "no C++ compiler for x86-64"
 fi
-[ $status != 0 ] || echo "boundary: the header in every C from C89 and C++ from C++98, without a warning"
+[ $status != 0 ] || echo "boundary: the header as ${languages[*]}, without a warning"
 exit $status
