@@ -330,7 +330,9 @@ def test_kept_drawing():
     rows = [tuple(map(int, pair.split(":"))) for pair in re.search(r"image 1's tree\n(.*)", printed).group(1).split()]
     uppers = re.search(r"upper rows: (.*)", printed).group(1).split()
     order = re.search(r"order from 1 to 9: (.*)", printed).group(1)
-    check("the listing of the nine images", listing, law.listing(law.stored_costs(9, law.tree_table(9, rows))))
+    stored = law.stored_costs(9, law.tree_table(9, rows))
+    check("the listing of the nine images", listing, law.listing(stored))
+    check("their table as text", run("store.py", os.path.join(ROOT, "examples", "costs.csv")), (0, bytes(stored), ""))
     check("its upper rows", [line.split()[2] for line in listing.splitlines()[1:-1]], uppers)
     check("its order", listing.splitlines()[-1], "order " + order)
     answer = 0, kept("docs/nine-images.svg"), ""
