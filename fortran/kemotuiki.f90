@@ -95,7 +95,8 @@ module kemotuiki
     public :: kemotuiki_route, kemotuiki_compare, kemotuiki_write_costs, kemotuiki_read_costs, kemotuiki_write_links
     public :: kemotuiki_read_links, kemotuiki_write_batch, kemotuiki_choice
 
-    ! Far sides and bit positions may be of either kind.
+    ! Far sides and bit positions may be of either kind. A far side that holds image 32 or a later one needs int64: as a default integer
+    ! it would be negative, or not fit.
     interface kemotuiki_index
         procedure index_int32, index_int64
     end interface
