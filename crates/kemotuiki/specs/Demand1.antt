@@ -3,7 +3,7 @@
 -- over cost tables and link tables; those over stored tables are in Demand1Stored.antt. No call has a `requires`: each takes every argument
 -- and ends. `Refusals` says the rest of what its contract promises, in this order: the numbers that the call refuses by, as document 01 lists
 -- them, with the table's number in front, 0 where there is one table; the steps, which name the check of each number (specs/InOrder.antt of the
--- call's crate); the answer; the lent buffers before the call; and after it. Assumes nothing.
+-- call's crate); the head of the answer; the lent buffers before the call; and after it. Assumes nothing.
 use mathlib.Core.List.{List, [], _++_, _∷_}
 use mathlib.Core.Path.{refl, _≡_}
 use Prim.Native.Nat.{ℕ}

@@ -19,7 +19,7 @@ pub record Refusals (l : List (ℕ × ℕ)) (steps : List Step) (r : KemotuikiHe
   pub own : Each steps Own
   -- number 0 exactly where every check passed
   pub accepted : (r .number ≡ 0) ↔ Passes steps
-  -- the first check that refuses gives the answer, its table's number beside its own and the places, and every lent buffer is as it was
+  -- the first check that refuses gives the head, its table's number beside its own and the places, and every lent buffer is as it was
   pub first : (s : Step) (q : Refusal) → FirstRefused steps s q → (r ≡ refused (s .table) q) × (r .number ≡ s .number) × (after ≡ before)
   -- there is no third way
   pub one-of : (r .number ≡ 0) ⊎ (List·Memᴰ (r .table, r .number) l × (after ≡ before))
