@@ -2,15 +2,11 @@
 use mathlib.Core.Bool.{_&&_}
 use mathlib.Core.List.{List}
 use Prim.Native.Nat.{ℕ}
-use lib.Dec.{eqb, leb}
+use lib.Dec.{eqb}
 use lib.ListN.{drop, length}
 use Rattle.ground.specs.Counts.{one-if}
 use Rattle.theory.specs.Comparison.{common, inners}
 use Rattle.theory.specs.FarSides.{inner}
-
--- 1 where x is at most y, so that the list in which x stands goes on; else 0
-unfoldable pub advance : ℕ → ℕ → ℕ
-advance x y = one-if (leb x y)
 
 -- 1 where x and y are the same inner far side, else 0
 unfoldable pub oneCommon : ℕ → ℕ → ℕ → ℕ

@@ -5,7 +5,7 @@ ghost use lib.ListN.{length};
 ghost use Rattle.ground.specs.Ascending.{Between};
 ghost use Rattle.theory.specs.Comparison.{common, inners};
 ghost use Rattle.counts.specs.Differ.{differ, overOf};
-ghost use Rattle.counts.specs.Merge.{oneCommon, advance};
+ghost use Rattle.counts.specs.Merge.{oneCommon};
 ghost use Rattle.counts.specs.Tally.{oneInner};
 
 // What is counted: inner far sides of the first, of the second, common ones, and those in exactly one list; over is what that
@@ -38,13 +38,6 @@ fn inner_rows(n: usize, sides: &[u64]) -> usize
     count
 }
 
-// 1 where x is at most y, so that the list in which x stands goes on; else 0.
-fn advance(x: u64, y: u64) -> usize
-    ensures { λ r. ⌜ r ≡ advance x y ⌝ }
-{
-    if x <= y { 1 } else { 0 }
-}
-
 // 1 where x and y are the same inner far side, else 0.
 fn one_common(n: usize, x: u64, y: u64) -> usize
     ensures { λ r. ⌜ r ≡ oneCommon n x y ⌝ }
@@ -68,8 +61,8 @@ fn common_rows(n: usize, first: &[u64], second: &[u64]) -> usize
         let x = first[i];
         let y = second[j];
         count += one_common(n, x, y);
-        i += advance(x, y);
-        j += advance(y, x);
+        i += ground::advance(x, y);
+        j += ground::advance(y, x);
     }
     count
 }

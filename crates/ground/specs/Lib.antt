@@ -11,9 +11,10 @@ pub mod Sums
 pub mod Counts
 pub mod Members
 pub mod Totals
--- What code does: search, carry a number along, write a buffer, refuse.
+-- What code does: search, carry a number along, merge, write a buffer, refuse.
 pub mod First
 pub mod Folds
+pub mod Merges
 pub mod Buffers
 pub mod Refusals
 pub mod Lowest

@@ -1,7 +1,9 @@
-// What every crate uses and that says nothing of images: refusals, a range, a bit of a number, the lower of two numbers.
+// What every crate uses and that says nothing of images: refusals, a range, a bit of a number, the lower of two numbers, a turn
+// of a merge.
 ghost use mathlib.Core.Path.{_≡_};
 ghost use Prim.Native.Nat.{_^_, _<_, min};
 ghost use Rattle.ground.specs.Bits.{bit};
+ghost use Rattle.ground.specs.Merges.{advance};
 ghost use Rattle.ground.specs.Refusals.{refusal, refuseIf, outside};
 
 // A refusal by its number, with up to four places, unused ones 0. A place holds any argument unchanged.
@@ -78,6 +80,13 @@ pub fn lower(x: u32, y: u32) -> u32
     ensures { λ r. ⌜ r ≡ min x y ⌝ }
 {
     if y < x { y } else { x }
+}
+
+// 1 where x is at most y, so that in a merge the list in which x stands goes on; else 0.
+pub fn advance(x: u64, y: u64) -> usize
+    ensures { λ r. ⌜ r ≡ advance x y ⌝ }
+{
+    if x <= y { 1 } else { 0 }
 }
 
 // A number below 256 as a byte.

@@ -119,7 +119,7 @@ fn grow(
 }
 
 // The first `count` rows, written row by row into the two lent slices.
-fn write_rows(f: &[u64], v: &[u32], count: usize, fars: &mut [u64], costs: &mut [u32])
+pub fn write_rows(f: &[u64], v: &[u32], count: usize, fars: &mut [u64], costs: &mut [u32])
     requires { ⌜ (count ≤ length (now f)) × (count ≤ length (now v)) × (count ≤ length (now fars)) × (count ≤ length (now costs)) ⌝ }
     ensures { λ _. ⌜ (now (fars .exit) ≡ over count (now (f .entry)) (now (fars .entry)))
         × (now (costs .exit) ≡ over count (now (v .entry)) (now (costs .entry))) ⌝ }
@@ -186,7 +186,7 @@ fn is_short(need: usize, f: usize, v: usize) -> bool
 }
 
 // Refusal 3.
-fn check_room(n: usize, f: usize, v: usize) -> Check
+pub fn check_room(n: usize, f: usize, v: usize) -> Check
     requires { ⌜ (3 ≤ n) × (n ≤ 64) ⌝ }
     ensures { λ r. ⌜ r ≡ outputsRoomCheck (2 * n - 3) f v ⌝ }
 {

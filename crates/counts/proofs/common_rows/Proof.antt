@@ -7,7 +7,8 @@ use borrow.Author.Needs.{needs}
 use borrow.Author.Tests.{ltb-false, ltb-true}
 use Rattle.theory.specs.Comparison.{common, inners}
 use Rattle.counts.specs.Merge.{shared}
-use Rattle.counts.specs.Laws.Merge.{first-ends, oneCommon-le, second-ends, shared-all, shared-turn, advance-le, advance-some}
+use Rattle.ground.specs.Laws.Merges.{advance-le, advance-some}
+use Rattle.counts.specs.Laws.Merge.{first-ends, oneCommon-le, second-ends, shared-all, shared-turn}
 use Rattle.counts.proofs.common_rows.Statement.{statement}
 use Rattle.counts.proofs.common_rows.Tie as tie
 

@@ -14,11 +14,12 @@ use Rattle.ground.specs.Laws.Ascending.{between-from}
 use Rattle.ground.specs.Counts.{one-if}
 use Rattle.ground.specs.Filters.{filter}
 use Rattle.ground.specs.Laws.Filters.{filter-none}
+use Rattle.ground.specs.Laws.Merges.{one-if-le}
 use Rattle.ground.specs.Members.{isIn}
+use Rattle.ground.specs.Merges.{advance}
 use Rattle.theory.specs.Comparison.{common, inners}
 use Rattle.theory.specs.FarSides.{inner}
-use Rattle.counts.specs.Laws.Tally.{one-if-le}
-use Rattle.counts.specs.Merge.{oneCommon, shared, advance}
+use Rattle.counts.specs.Merge.{oneCommon, shared}
 
 -- a number below an ascending list does not stand in it
 isIn-below : (m k x : ℕ) (l : List ℕ) → x < m → Between m l k → isIn x l ≡ false
@@ -107,17 +108,8 @@ unfolding shared
 second-ends n l r i j h e =
     let z = rw (drop-of-length-le r {i = j} h, filter-none (λ x. isIn x []) (drop i l) (λ x t. refl)) at e in omega arith
 
--- how far a turn goes: by one place at most, the count by no more than the first list, and at least one of the lists
-pub advance-le : (x y : ℕ) → advance x y ≤ 1
-unfolding advance
-advance-le x y = one-if-le (leb x y)
-
+-- a turn counts no more than it goes in the first list
 pub oneCommon-le : (n x y : ℕ) → oneCommon n x y ≤ advance x y
 unfolding oneCommon advance
 oneCommon-le n x y =
     cases (eqb x y) (λ e. rw (e, le-leb x y (omega (arith, eqb-true x y e))) (one-if-le (inner n x))) (λ e. rw e (omega arith))
-
-pub advance-some : (x y : ℕ) → 1 ≤ advance x y + advance y x
-unfolding advance
-advance-some x y =
-    cases (leb x y) (λ e. rw e (omega arith)) (λ e. rw (le-leb y x (omega (arith, leb-false x y e))) (omega arith))

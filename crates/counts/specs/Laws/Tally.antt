@@ -1,5 +1,4 @@
 -- How the loop that counts inner far sides meets their count. Assumes nothing.
-use mathlib.Core.Bool.{Bool, false, true}
 use mathlib.Core.List.{List, [], _∷_}
 use mathlib.Core.Path.{ap, refl, _∙_, _≡_}
 use Prim.Native.Nat.{ℕ, _+_, _<_, _≤_}
@@ -8,15 +7,11 @@ use native.Mathlib.Omega.{arith}
 use lib.ListN.{getD, length, length-append, take}
 use lib.Seq.{take-all, take-suc}
 use borrow.Table.Steps.{cases}
-use Rattle.ground.specs.Counts.{one-if}
 use Rattle.ground.specs.Laws.Filters.{filter-append}
+use Rattle.ground.specs.Laws.Merges.{one-if-le}
 use Rattle.theory.specs.Comparison.{inners}
 use Rattle.theory.specs.FarSides.{inner}
 use Rattle.counts.specs.Tally.{oneInner, tally}
-
-pub one-if-le : (b : Bool) → one-if b ≤ 1
-one-if-le true = omega arith
-one-if-le false = omega arith
 
 pub oneInner-le : (n S : ℕ) → oneInner n S ≤ 1
 unfolding oneInner

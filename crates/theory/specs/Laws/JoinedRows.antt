@@ -11,6 +11,12 @@ rowsOf-fars [] v e = refl
 rowsOf-fars (S ∷ l) [] e = absurd (omega arith)
 rowsOf-fars (S ∷ l) (c ∷ v) e = ap (λ z. S ∷ z) (rowsOf-fars l v (omega arith))
 
+pub rowsOf-costs : (l v : List ℕ) → length l ≡ length v → costs (rowsOf l v) ≡ v
+rowsOf-costs [] [] e = refl
+rowsOf-costs [] (c ∷ v) e = absurd (omega arith)
+rowsOf-costs (S ∷ l) [] e = absurd (omega arith)
+rowsOf-costs (S ∷ l) (c ∷ v) e = ap (λ z. c ∷ z) (rowsOf-costs l v (omega arith))
+
 pub rowsOf-all : (T : List Row) → rowsOf (fars T) (costs T) ≡ T
 rowsOf-all [] = refl
 rowsOf-all (r ∷ T) = ap (λ z. r ∷ z) (rowsOf-all T)

@@ -1,8 +1,8 @@
--- `counts::advance` meets its contract. Assumes nothing.
+-- `ground::advance` meets its contract. Assumes nothing.
 use borrow.Author.Tests.{le-leb, lt-leb}
-use Rattle.counts.specs.Merge.{advance}
-use Rattle.counts.proofs.advance.Statement.{statement}
-use Rattle.counts.proofs.advance.Tie as tie
+use Rattle.ground.specs.Merges.{advance}
+use Rattle.ground.proofs.advance.Statement.{statement}
+use Rattle.ground.proofs.advance.Tie as tie
 
 returns : tie.Need-returns
 unfolding advance
