@@ -113,7 +113,13 @@ fn take_next(
     let rows = read_table(n, number, tables, k, &mut f, &mut v);
     match rows {
         Written::Refused(r) => Shared::Refused(k + 1, r),
-        Written::Places(others) => Shared::Rows(meet(count, fars, costs, &f[..others], &v[..others])),
+        Written::Places(others) => Shared::Rows(meet(
+            count,
+            fars,
+            costs,
+            &f[..others],
+            &v[..others],
+        )),
     }
 }
 
@@ -142,13 +148,7 @@ fn take_others(
 }
 
 // All tables.
-fn take_all(
-    n: usize,
-    number: usize,
-    tables: &[u32],
-    fars: &mut [u64],
-    costs: &mut [u32],
-) -> Shared
+fn take_all(n: usize, number: usize, tables: &[u32], fars: &mut [u64], costs: &mut [u32]) -> Shared
     requires { ⌜ Joined n number (now tables) × (length (now fars) ≡ 128) × (length (now costs) ≡ 128) ⌝ }
     ensures { λ r. ⌜ Taken limit n number (now (tables .entry)) number r (now (fars .exit)) (now (costs .exit)) ⌝ }
 {
