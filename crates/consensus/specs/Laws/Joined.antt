@@ -35,6 +35,9 @@ module _ (n m : ℕ) (t : List ℕ) (j : Joined n m t) (k : ℕ) (l : k < m) whe
   pub part-ends : k * (n * n) + n * n ≤ length t
   part-ends = let s : suc k * (n * n) ≤ m * (n * n) = mul-le-mul-right (n * n) l in omega (arith, suc-mul k (n * n), j .sized)
 
+  pub part-small : k * (n * n) + n * n ≤ 65536
+  part-small = omega (arith, part-ends, j .sized, size-small n m (j .few) (j .sixteen))
+
   pub part-sized : length (tableAt n t k) ≡ n * n
   unfolding tableAt
   part-sized = simp (length-take, length-drop) (omega (arith, part-ends))
@@ -51,6 +54,9 @@ each-table n m t P h u q =
     let r = map-mem (tableAt n t) (from 0 m) u q in
     let d = from-mem 0 m (r .0) (r .2) in
     subst P (sym (r .1)) (h (r .0) (omega arith))
+
+pub no-table : (n : ℕ) (t : List ℕ) (P : List ℕ → Type 0) → Each (tablesIn n 0 t) P
+no-table n t P = each-table n 0 t P (λ i l. absurd (omega arith))
 
 pub table-in : (n m : ℕ) (t : List ℕ) (P : List ℕ → Type 0) → Each (tablesIn n m t) P → (i : ℕ) → i < m → P (tableAt n t i)
 table-in n m t P h i l = h (tableAt n t i) (mem-map (tableAt n t) (mem-from 0 m i (omega arith) (omega arith)))

@@ -17,6 +17,7 @@ use Rattle.ground.specs.declared.Check.the-variants.{Passed}
 use Rattle.ground.specs.declared.Check.the-variants as check
 use Rattle.ground.specs.declared.Refusal.{Refusal}
 use Rattle.theory.specs.Checks.{imagesCheck}
+use Rattle.theory.specs.Demands.{one-tree}
 use Rattle.theory.specs.Laws.Checks.{images-passed}
 use Rattle.theory.specs.Outcomes.{LeftRows}
 use Rattle.tree.specs.Exact.{Wired, exactRows, treeCheck}
@@ -24,8 +25,8 @@ use Rattle.tree.specs.Laws.Writing.{room-passed}
 use Rattle.tree.specs.Readings.{outputsRoomCheck, short}
 use Rattle.tree.specs.Writing.{RowsWritten}
 use Rattle.consensus.specs.Call.{consensusOutcome, joinedCheck, leaving, numberCheck, tableByTable, teamAnswer, teamCheck}
-use Rattle.consensus.specs.Laws.Joined.{each-table, table-in, tables-passed, tables-stop, wired-passed}
-use Rattle.consensus.specs.Laws.Sharing.{one-more, share-next, shared-one}
+use Rattle.consensus.specs.Laws.Joined.{no-table, table-in, tables-passed, tables-stop, wired-passed}
+use Rattle.consensus.specs.Laws.Sharing.{first-tree, one-more, share-next, shared-one}
 use Rattle.consensus.specs.Meet.{meet}
 use Rattle.consensus.specs.Taking.{RowsHeld, Shares, Taken}
 use Rattle.consensus.specs.Team.{Joined, sharedLinks, tableAt, tablesIn}
@@ -39,6 +40,9 @@ pub record TeamReady (n m : ℕ) (t : List ℕ) (f v : ℕ) : Type 0 where
   pub far-room : 2 * n - 3 ≤ f
   pub cost-room : 2 * n - 3 ≤ v
 
+pub number-passed : (m : ℕ) → numberCheck m ≡ Passed → (1 ≤ m) × (m ≤ 16)
+number-passed m e = outside-false 1 16 m (refuseIf-passed (outside 1 16 m) _ e)
+
 pub team-passed : (n m : ℕ) (t : List ℕ) (f v : ℕ) → (teamCheck n m t f v ≡ Passed) ↔ TeamReady n m t f v
 unfolding teamCheck
 team-passed n m t f v = (
@@ -47,7 +51,7 @@ team-passed n m t f v = (
       let q = then-passed (numberCheck m) (joinedCheck n m t then outputsRoomCheck (2 * n - 3) f v) (p .1) in
       let s = then-passed (joinedCheck n m t) (outputsRoomCheck (2 * n - 3) f v) (q .1) in
       let i = images-passed n (p .0) in
-      let o = outside-false 1 16 m (refuseIf-passed (outside 1 16 m) _ (q .0)) in
+      let o = number-passed m (q .0) in
       let z = eqb-true (length t) (m * (n * n)) (not-false (eqb (length t) (m * (n * n))) (refuseIf-passed (not (eqb (length t) (m * (n * n)))) _ (s .0))) in
       let w = or-false (ltb f (2 * n - 3)) (ltb v (2 * n - 3)) (refuseIf-passed (short (2 * n - 3) f v) _ (s .1)) in
       record {
@@ -86,11 +90,25 @@ module _ (L n m : ℕ) (t f v : List ℕ) (j : Joined n m t) where
     accepted = λ e s. let z : c ≡ e = cc in subst (Shares L n t k f v) z h;
   }
 
+-- a refusal is handed on
+pub taken-on : (L n m : ℕ) (t : List ℕ) {k i : ℕ} {x : Shared} {f v g w : List ℕ} {j : ℕ} {q : Refusal} → Taken L n m t k x f v → x ≡ Refused j q
+    → Taken L n m t i (Refused j q) g w
+taken-on L n m t {j = j} {q = q} h e = record {
+  refused = λ a b s y. h .refused j q e y ∙ s;
+  accepted = λ c s. absurd (let z : _≡_ {A = ℕ} 0 1 = cc in omega arith);
+}
+
 module _ (L n : ℕ) (t f v : List ℕ) (c : ℕ) where
+  -- what is shared has no more rows than a tree can have
+  pub shares-room : (k : ℕ) → 3 ≤ n → 1 ≤ k → Shares L n t k f v c → c ≤ 2 * n - 3
+  shares-room k h l s =
+      let T = sharedLinks L n (tablesIn n k t) in
+      omega (arith, s .held .counted, one-tree L n T h (first-tree L n t k l (s .wired)) .most)
+
   -- the first table's tree is what one table shares
   pub shares-first : Wired L n (tableAt n t 0) → RowsHeld (exactRows L n (tableAt n t 0)) f v c → Shares L n t 1 f v c
   shares-first w h = record {
-    wired = one-more L n t 0 (each-table n 0 t (Wired L n) (λ i q. absurd (omega arith))) w;
+    wired = one-more L n t 0 (no-table n t (Wired L n)) w;
     held = subst (λ T. RowsHeld T f v c) (sym (shared-one L n (tableAt n t 0) w)) h;
   }
 

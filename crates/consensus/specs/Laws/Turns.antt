@@ -11,6 +11,7 @@ use borrow.Author.Tests.{eqb-false, eqb-true, le-leb}
 use borrow.Table.Steps.{cases}
 use Rattle.ground.specs.Ascending.{Between}
 use Rattle.ground.specs.Filters.{keep}
+use Rattle.ground.specs.Laws.Merges.{advance-le}
 use Rattle.ground.specs.Merges.{advance}
 use Rattle.theory.specs.Laws.JoinedRows.{rowsOf-fars}
 use Rattle.theory.specs.LinkTables.{Row, fars, rowsOf}
@@ -28,6 +29,9 @@ pub same-advance : (x y : ℕ) → oneSame x y ≤ advance x y
 unfolding oneSame advance
 same-advance x y =
     cases (eqb x y) (λ e. rw (e, le-leb x y (omega (arith, eqb-true x y e))) (omega arith)) (λ e. rw e (omega arith))
+
+pub same-le : (x y : ℕ) → oneSame x y ≤ 1
+same-le x y = omega (arith, same-advance x y, advance-le x y)
 
 -- the row read stays as it is where it is not left behind
 pub met-stays : (x y c e : ℕ) → advance x y ≡ 0 → metCost x y c e ≡ c
