@@ -13,3 +13,5 @@ pub mod Joined
 pub mod Sharing
 pub mod Held
 pub mod Taking
+pub mod Left
+pub mod One

@@ -6,5 +6,13 @@ pub mod Call
 pub mod Meet
 pub mod Merge
 pub mod Taking
+-- What the promise is worth.
+pub mod Promises
+pub mod Answers
+pub mod Teams
+-- Small teams, computed.
+pub mod Examples
+-- Its checks by their numbers, in order.
+pub mod InOrder
 -- What is true of it.
 pub mod Laws

@@ -1,7 +1,7 @@
 -- The cost tables of a team, joined in one slice, and the links that their trees share. Assumes nothing.
 use mathlib.Core.List.{List, map}
 use mathlib.Core.Path.{_≡_}
-use Prim.Native.Nat.{ℕ, _*_, _≤_}
+use Prim.Native.Nat.{ℕ, _*_, _-_, _≤_}
 use lib.ListN.{drop, length, take}
 use Rattle.ground.specs.Ranges.{from}
 use Rattle.theory.specs.LinkTables.{Row}
@@ -27,3 +27,9 @@ pub record Joined (n m : ℕ) (t : List ℕ) : Type 0 where
   pub one : 1 ≤ m
   pub sixteen : m ≤ 16
   pub sized : length t ≡ m * (n * n)
+
+-- and outputs of f and v places have room for every tree
+pub record TeamReady (n m : ℕ) (t : List ℕ) (f v : ℕ) : Type 0 where
+  pub joined : Joined n m t
+  pub far-room : 2 * n - 3 ≤ f
+  pub cost-room : 2 * n - 3 ≤ v

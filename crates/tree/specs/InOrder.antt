@@ -34,13 +34,21 @@ exactSteps L n t f v = measuredSteps L n t f v ++ wiringSteps (cost t n) n
 pub exact-order : (L n : ℕ) (t : List ℕ) (f v : ℕ) → InOrder (exactSteps L n t f v) (exactCheck L n t f v)
 exact-order L n t f v = join-order (measured-order L n t f v) (wiring-order (cost t n) n)
 
--- 2, 4, 5, 6, 7 of one table
+-- 4, 5, 6, 7 of one table
+abbrev pub treeSteps : ℕ → ℕ → List ℕ → List Step
+treeSteps L n t = costsSteps L (cost t n) n ++ wiringSteps (cost t n) n
+
+pub tree-order : (L n : ℕ) (t : List ℕ) → InOrder (treeSteps L n t) (treeCheck L n t)
+unfolding treeCheck
+tree-order L n t = join-order (costs-order L (cost t n) n) (wiring-order (cost t n) n)
+
+-- and 2 in front
 abbrev pub tableSteps : ℕ → ℕ → List ℕ → List Step
-tableSteps L n t = 2 by lengthCheck n t ∷ (costsSteps L (cost t n) n ++ wiringSteps (cost t n) n)
+tableSteps L n t = 2 by lengthCheck n t ∷ treeSteps L n t
 
 pub table-order : (L n : ℕ) (t : List ℕ) → InOrder (tableSteps L n t) (tableCheck L n t)
-unfolding tableCheck treeCheck
-table-order L n t = join-order (length-order n t) (join-order (costs-order L (cost t n) n) (wiring-order (cost t n) n))
+unfolding tableCheck
+table-order L n t = join-order (length-order n t) (tree-order L n t)
 
 -- ## What a reading answers and leaves, by its check
 

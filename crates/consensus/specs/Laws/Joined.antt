@@ -1,11 +1,12 @@
 -- Where each table of a team stands in the joined slice, and how tables are taken one after another. Assumes nothing.
-use mathlib.Core.List.{List}
+use mathlib.Core.List.{List, List·Memᴰ, _++_}
 use mathlib.Core.Path.{ap, refl, subst, sym, _∙_, _≡_}
 use Prim.Native.Nat.{suc, zero, ℕ, _*_, _+_, _-_, _<_, _≤_}
 use native.Mathlib.Nat.{mul-le-mul, mul-le-mul-right, suc-mul}
 use native.Mathlib.Omega.{arith}
 use lib.Dec.{eqb}
 use lib.ListN.{drop, length, length-drop, length-take, take}
+use lib.Seq.{drop-append-le, take-append-le}
 use borrow.Author.Tests.{eqb-false, eqb-true}
 use borrow.Table.Steps.{cases}
 use Rattle.ground.specs.Filters.{Each}
@@ -47,6 +48,13 @@ pub part-is : (n k : ℕ) (t : List ℕ) → take (k * (n * n) + n * n - k * (n 
 unfolding tableAt
 part-is n k t = let s : k * (n * n) + n * n - k * (n * n) ≡ n * n = omega arith in rw s
 
+-- tables behind it do not move it
+pub part-front : (n m : ℕ) (t u : List ℕ) → Joined n m t → (k : ℕ) → k < m → tableAt n (t ++ u) k ≡ tableAt n t k
+unfolding tableAt
+part-front n m t u j k l =
+    let e = part-ends n m t j k l in
+    rw (drop-append-le (k * (n * n)) t u (omega arith)) (take-append-le (n * n) (drop (k * (n * n)) t) u (omega (arith, length-drop (k * (n * n)) t)))
+
 -- ## One table of the team, and the first so many
 
 pub each-table : (n m : ℕ) (t : List ℕ) (P : List ℕ → Type 0) → ((i : ℕ) → i < m → P (tableAt n t i)) → Each (tablesIn n m t) P
@@ -58,8 +66,11 @@ each-table n m t P h u q =
 pub no-table : (n : ℕ) (t : List ℕ) (P : List ℕ → Type 0) → Each (tablesIn n 0 t) P
 no-table n t P = each-table n 0 t P (λ i l. absurd (omega arith))
 
+pub in-tables : (n m : ℕ) (t : List ℕ) (i : ℕ) → i < m → List·Memᴰ (tableAt n t i) (tablesIn n m t)
+in-tables n m t i l = mem-map (tableAt n t) (mem-from 0 m i (omega arith) (omega arith))
+
 pub table-in : (n m : ℕ) (t : List ℕ) (P : List ℕ → Type 0) → Each (tablesIn n m t) P → (i : ℕ) → i < m → P (tableAt n t i)
-table-in n m t P h i l = h (tableAt n t i) (mem-map (tableAt n t) (mem-from 0 m i (omega arith) (omega arith)))
+table-in n m t P h i l = h (tableAt n t i) (in-tables n m t i l)
 
 -- ## Table by table
 

@@ -47,8 +47,8 @@ module _ (L n : ℕ) (t : List ℕ) where
   pub fewer : (m k : ℕ) → k ≤ m → Each (tablesIn n m t) (Wired L n) → Each (tablesIn n k t) (Wired L n)
   fewer m k l h = each-table n k t (Wired L n) (λ i q. table-in n m t (Wired L n) h i (omega arith))
 
-  pub one-more : (k : ℕ) → Each (tablesIn n k t) (Wired L n) → Wired L n (tableAt n t k) → Each (tablesIn n (k + 1) t) (Wired L n)
-  one-more k h w =
+  pub wired-more : (k : ℕ) → Each (tablesIn n k t) (Wired L n) → Wired L n (tableAt n t k) → Each (tablesIn n (k + 1) t) (Wired L n)
+  wired-more k h w =
       each-table n (k + 1) t (Wired L n) (λ i q. cases (eqb i k) (λ s. rw (eqb-true i k s) w)
       (λ s. table-in n k t (Wired L n) h i (omega (arith, eqb-false i k s))))
 

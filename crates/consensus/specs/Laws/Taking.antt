@@ -26,19 +26,14 @@ use Rattle.tree.specs.Readings.{outputsRoomCheck, short}
 use Rattle.tree.specs.Writing.{RowsWritten}
 use Rattle.consensus.specs.Call.{consensusOutcome, joinedCheck, leaving, numberCheck, tableByTable, teamAnswer, teamCheck}
 use Rattle.consensus.specs.Laws.Joined.{no-table, table-in, tables-passed, tables-stop, wired-passed}
-use Rattle.consensus.specs.Laws.Sharing.{first-tree, one-more, share-next, shared-one}
+use Rattle.consensus.specs.Laws.Sharing.{first-tree, wired-more, share-next, shared-one}
 use Rattle.consensus.specs.Meet.{meet}
 use Rattle.consensus.specs.Taking.{RowsHeld, Shares, Taken}
-use Rattle.consensus.specs.Team.{Joined, sharedLinks, tableAt, tablesIn}
+use Rattle.consensus.specs.Team.{Joined, TeamReady, sharedLinks, tableAt, tablesIn}
 use Rattle.consensus.specs.declared.Shared.{Shared}
 use Rattle.consensus.specs.declared.Shared.the-variants.{Refused, Rows}
 
 -- ## What the call's own checks have shown
-
-pub record TeamReady (n m : ℕ) (t : List ℕ) (f v : ℕ) : Type 0 where
-  pub joined : Joined n m t
-  pub far-room : 2 * n - 3 ≤ f
-  pub cost-room : 2 * n - 3 ≤ v
 
 pub number-passed : (m : ℕ) → numberCheck m ≡ Passed → (1 ≤ m) × (m ≤ 16)
 number-passed m e = outside-false 1 16 m (refuseIf-passed (outside 1 16 m) _ e)
@@ -108,7 +103,7 @@ module _ (L n : ℕ) (t f v : List ℕ) (c : ℕ) where
   -- the first table's tree is what one table shares
   pub shares-first : Wired L n (tableAt n t 0) → RowsHeld (exactRows L n (tableAt n t 0)) f v c → Shares L n t 1 f v c
   shares-first w h = record {
-    wired = one-more L n t 0 (no-table n t (Wired L n)) w;
+    wired = wired-more L n t 0 (no-table n t (Wired L n)) w;
     held = subst (λ T. RowsHeld T f v c) (sym (shared-one L n (tableAt n t 0) w)) h;
   }
 
@@ -116,7 +111,7 @@ module _ (L n : ℕ) (t f v : List ℕ) (c : ℕ) where
   pub shares-next : (k : ℕ) → 1 ≤ k → Each (tablesIn n k t) (Wired L n) → Wired L n (tableAt n t k)
       → RowsHeld (meet (sharedLinks L n (tablesIn n k t)) (exactRows L n (tableAt n t k))) f v c → Shares L n t (k + 1) f v c
   shares-next k l a w h =
-      let all = one-more L n t k a w in
+      let all = wired-more L n t k a w in
       record { wired = all; held = subst (λ T. RowsHeld T f v c) (sym (share-next L n t k l all)) h }
 
 -- ## What the call leaves
