@@ -27,13 +27,14 @@ rowsE = (2, 2) ∷ (4, 2) ∷ (8, 2) ∷ (12, 4) ∷ (14, 2) ∷ []
 abbrev rowsG : List Row
 rowsG = (2, 2) ∷ (4, 2) ∷ (8, 2) ∷ (14, 2) ∷ []
 
--- the smallest cost is taken for own links too; E and G share the own links alone; with a third tree that has the far side 12 as E has it, at
--- a lower cost, E keeps it
+-- the smallest cost is taken for own links too; E and G share the own links alone; the far side 12, which two of three trees have, is left
+-- out; where all have it, it stands there at its smallest cost
 pub small-teams : (consensus 3 (rowsA ∷ rowsD ∷ []) ≡ (2, 1) ∷ (4, 1) ∷ (6, 0) ∷ [])
     × (consensus 4 (rowsE ∷ rowsG ∷ []) ≡ rowsG)
+    × (consensus 4 (rowsE ∷ rowsE ∷ rowsG ∷ []) ≡ rowsG)
     × (consensus 4 (rowsE ∷ ((2, 3) ∷ (4, 3) ∷ (8, 1) ∷ (12, 1) ∷ (14, 5) ∷ []) ∷ []) ≡ (2, 2) ∷ (4, 2) ∷ (8, 1) ∷ (12, 1) ∷ (14, 2) ∷ [])
 unfolding consensus
-small-teams = (refl, refl, refl)
+small-teams = (refl, refl, refl, refl)
 
 abbrev tableA : List ℕ
 tableA = 0 ∷ 1 ∷ 1 ∷ 1 ∷ 0 ∷ 1 ∷ 1 ∷ 1 ∷ 0 ∷ []
