@@ -48,7 +48,8 @@ module kemotuiki
         kemotuiki_bad_row = 12, &
         kemotuiki_own_link_missing = 13, &
         kemotuiki_neither_includes = 14, &
-        kemotuiki_different_n = 15
+        kemotuiki_different_n = 15, &
+        kemotuiki_bad_table_count = 16
 
     ! What all answers begin with: the refusal's number or 0, the table that was refused in calls that take more than one, and the
     ! places. A place is the argument unchanged, so one above 2^63 - 1 is negative here.

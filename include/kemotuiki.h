@@ -74,7 +74,8 @@ enum KemotuikiNumber {
     KEMOTUIKI_BAD_ROW = 12,          /* bad far side or bad row: row, 0 for the index call */
     KEMOTUIKI_OWN_LINK_MISSING = 13, /* an own link is missing: image */
     KEMOTUIKI_NEITHER_INCLUDES = 14, /* neither table includes the other */
-    KEMOTUIKI_DIFFERENT_N = 15       /* stored tables of different n */
+    KEMOTUIKI_DIFFERENT_N = 15,      /* stored tables of different n */
+    KEMOTUIKI_BAD_TABLE_COUNT = 16   /* no tables or more than sixteen */
 };
 
 /*

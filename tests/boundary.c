@@ -451,7 +451,8 @@ static const struct {
     {{13, 0, 5, 0, 0, 0}, "an own link is missing: image 5"},
     {{14, 0, 0, 0, 0, 0}, "neither table includes the other"},
     {{15, 0, 0, 0, 0, 0}, "stored tables of different n"},
-    {{16, 0, 0, 0, 0, 0}, "no such refusal: number 16"},
+    {{16, 0, 0, 0, 0, 0}, "no tables or more than sixteen"},
+    {{17, 0, 0, 0, 0, 0}, "no such refusal: number 17"},
     {{SIZE_MAX, 0, 1, 2, 3, 4}, "no such refusal: number 18446744073709551615"},
 };
 

@@ -22,7 +22,7 @@ module case_text
     integer :: at, answers, faults = 0
     logical :: can_be_said
     ! Of the call that is run: the numbers that were answered, and the accepted cases of 64 images with a negative far side.
-    logical :: answered(0:15)
+    logical :: answered(0:16)
     integer :: negative
 
     abstract interface
@@ -212,7 +212,7 @@ contains
         procedure(one_case) :: do_case
         integer, intent(in) :: refusals(:)
         logical, intent(in), optional :: far_sides
-        logical :: listed(0:15)
+        logical :: listed(0:16)
         integer :: cases, status
         call_name = name
         answered = .false.
@@ -561,7 +561,8 @@ contains
         call say(kemotuiki_own_link_missing, 0, [5, 0, 0, 0], 'an own link is missing: image 5')
         call say(kemotuiki_neither_includes, 0, [0, 0, 0, 0], 'neither table includes the other')
         call say(kemotuiki_different_n, 0, [0, 0, 0, 0], 'stored tables of different n')
-        call say(16, 0, [0, 0, 0, 0], 'no such refusal: number 16')
+        call say(kemotuiki_bad_table_count, 0, [0, 0, 0, 0], 'no tables or more than sixteen')
+        call say(17, 0, [0, 0, 0, 0], 'no such refusal: number 17')
     end subroutine
 
     subroutine say(number, table, places, text)

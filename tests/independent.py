@@ -599,6 +599,7 @@ SAYINGS = {
     13: ("an own link is missing", "image", "a"),
     14: ("neither table includes the other", None, ""),
     15: ("stored tables of different n", None, ""),
+    16: ("no tables or more than sixteen", None, ""),
 }
 TEXT_BYTES = 192
 
