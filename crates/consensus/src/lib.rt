@@ -3,15 +3,13 @@
 use ground::Check;
 use ground::Refusal;
 use ground::Written;
-ghost use mathlib.Core.Bool.{not};
 ghost use mathlib.Core.Path.{_≡_};
 ghost use Prim.Native.Nat.{_<_, _≤_, _*_, _+_, _-_, _^_};
-ghost use lib.Dec.{eqb};
 ghost use lib.ListN.{length, take};
 ghost use Rattle.ground.specs.Ascending.{Between};
 ghost use Rattle.theory.specs.Outcomes.{LeftRows};
 ghost use Rattle.theory.specs.Tables.{limit};
-ghost use Rattle.consensus.specs.Call.{consensusOutcome, leaving, teamAnswer, teamCheck};
+ghost use Rattle.consensus.specs.Call.{consensusOutcome, joinedCheck, leaving, numberCheck, teamAnswer, teamCheck};
 ghost use Rattle.consensus.specs.Merge.{Met, metCost, oneSame};
 ghost use Rattle.consensus.specs.Taking.{Shares, Taken, TreeRead};
 ghost use Rattle.consensus.specs.Team.{Joined, sharedLinks, tableAt, tablesIn};
@@ -113,7 +111,13 @@ fn take_next(
     let rows = read_table(n, number, tables, k, &mut f, &mut v);
     match rows {
         Written::Refused(r) => Shared::Refused(k + 1, r),
-        Written::Places(others) => Shared::Rows(meet(count, fars, costs, &f[..others], &v[..others])),
+        Written::Places(others) => Shared::Rows(meet(
+            count,
+            fars,
+            costs,
+            &f[..others],
+            &v[..others],
+        )),
     }
 }
 
@@ -142,13 +146,7 @@ fn take_others(
 }
 
 // All tables.
-fn take_all(
-    n: usize,
-    number: usize,
-    tables: &[u32],
-    fars: &mut [u64],
-    costs: &mut [u32],
-) -> Shared
+fn take_all(n: usize, number: usize, tables: &[u32], fars: &mut [u64], costs: &mut [u32]) -> Shared
     requires { ⌜ Joined n number (now tables) × (length (now fars) ≡ 128) × (length (now costs) ≡ 128) ⌝ }
     ensures { λ r. ⌜ Taken limit n number (now (tables .entry)) number r (now (fars .exit)) (now (costs .exit)) ⌝ }
 {
@@ -182,12 +180,19 @@ fn write_shared(
     }
 }
 
-// Whether the joined length is other than that of so many tables.
-fn is_misfit(n: usize, number: usize, tables: &[u32]) -> bool
-    requires { ⌜ (n ≤ 64) × (number ≤ 16) ⌝ }
-    ensures { λ r. ⌜ r ≡ not (eqb (length (now (tables .entry))) (number * (n * n))) ⌝ }
+// Refusal 16.
+fn check_number(number: usize) -> Check
+    ensures { λ r. ⌜ r ≡ numberCheck number ⌝ }
 {
-    tables.len() != number * (n * n)
+    ground::refuse_if(ground::is_outside(1, 16, number), 16, 0, 0)
+}
+
+// Refusal 2.
+fn check_joined(n: usize, number: usize, tables: &[u32]) -> Check
+    requires { ⌜ (n ≤ 64) × (number ≤ 16) ⌝ }
+    ensures { λ r. ⌜ r ≡ joinedCheck n number (now (tables .entry)) ⌝ }
+{
+    ground::refuse_if(tables.len() != number * (n * n), 2, 0, 0)
 }
 
 // Refusals 1, 16, 2, 3, which are no table's.
@@ -198,11 +203,11 @@ fn check_team(n: usize, number: usize, tables: &[u32], f: usize, v: usize) -> Ch
     let Check::Passed = images else {
         return images;
     };
-    let team = ground::refuse_if(ground::is_outside(1, 16, number), 16, 0, 0);
+    let team = check_number(number);
     let Check::Passed = team else {
         return team;
     };
-    let joined = ground::refuse_if(is_misfit(n, number, tables), 2, 0, 0);
+    let joined = check_joined(n, number, tables);
     let Check::Passed = joined else {
         return joined;
     };

@@ -1,0 +1,69 @@
+-- `consensus::read_table` meets its contract: the table is a part of the slice, and `tree::exact` promises the rest. Assumes nothing.
+use native.Mathlib.Omega.{arith}
+use borrow.Author.Needs.{needs}
+use Rattle.theory.specs.Tables.{limit}
+use Rattle.consensus.specs.Laws.Held.{tree-read}
+use Rattle.consensus.specs.Laws.Joined.{part-ends, part-is, part-sized, part-small}
+use Rattle.consensus.specs.Team.{tableAt}
+use Rattle.consensus.proofs.read_table.Statement.{statement}
+use Rattle.consensus.proofs.read_table.Tie as tie
+
+mul-start : tie.Need-mul-start
+mul-start c = let s = c .before .before .before in let q = part-small _ _ _ (s .pre .0) _ (s .pre .1) in omega (arith, q)
+
+mul-start-2 : tie.Need-mul-start-2
+mul-start-2 c = let s = c .before .before .before in let q = part-small _ _ _ (s .pre .0) _ (s .pre .1) in omega (arith, q)
+
+mul-end : tie.Need-mul-end
+mul-end c = let s = c .before .before .before in let q = part-small _ _ _ (s .pre .0) _ (s .pre .1) in omega (arith, q)
+
+add-end : tie.Need-add-end
+add-end c = let s = c .before .before .before in let q = part-small _ _ _ (s .pre .0) _ (s .pre .1) in omega (arith, q)
+
+mul-exact : tie.Need-mul-exact
+mul-exact c = let s = c .before .before .before in let q = part-small _ _ _ (s .pre .0) _ (s .pre .1) in omega (arith, q)
+
+sub-exact : tie.Need-sub-exact
+sub-exact c = search needs
+
+part-exact-start : tie.Need-part-exact-start
+part-exact-start c = search needs
+
+part-exact-end : tie.Need-part-exact-end
+part-exact-end c = let s = c .before .before .before in let q = part-ends _ _ _ (s .pre .0) _ (s .pre .1) in search needs
+
+exact-requires : tie.Need-exact-requires
+exact-requires c κs = search needs
+
+same-length : tie.Need-same-length
+same-length c = search needs
+
+same-length-2 : tie.Need-same-length-2
+same-length-2 c = search needs
+
+returns : tie.Need-returns
+returns c =
+    let e = c .before .before .before .before in
+    let s = e .before .before .before .before .before .before .before in
+    let p = s .pre in
+    let a = s .args in
+    let n = a .n in
+    tree-read limit n (tableAt n (a .tables .now) (a .k)) (p .0 .some) (p .0 .few) (part-sized n (a .number) (a .tables .now) (p .0) (a .k) (p .1))
+    (a .fars .now) (a .costs .now) _ _ (p .2) (p .3) (rw (part-is n (a .k) (a .tables .now)) at (e .exact .ensures))
+
+pub read-table-spec : {M : Type 1} → statement M
+read-table-spec =
+    tie.close
+    (tie.spec
+    mul-start
+    mul-start-2
+    mul-end
+    add-end
+    mul-exact
+    sub-exact
+    part-exact-start
+    part-exact-end
+    exact-requires
+    same-length
+    same-length-2
+    returns)
