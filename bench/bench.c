@@ -15,7 +15,7 @@
 static size_t n, rows, plain_rows, stored_costs, stored_links, stored_fewer;
 static uint32_t tree[4096], other[4096], noisy[4096], back[4096], costs[125], plain_costs[125], out[64], plain_out[64];
 static uint64_t fars[125], plain_fars[125], inner_side;
-static uint32_t team[KEMOTUIKI_TABLES * 4096], shared_costs[125];
+static uint32_t team[16 * 4096], shared_costs[125];
 static uint64_t shared_fars[125];
 static uint8_t cost_bytes[KEMOTUIKI_COST_BYTES], link_bytes[KEMOTUIKI_LINK_BYTES], fewer_bytes[KEMOTUIKI_LINK_BYTES], bytes[KEMOTUIKI_COST_BYTES];
 static volatile size_t sink;
@@ -32,8 +32,8 @@ static void ours_order(void) { sink = kemotuiki_order(n, tree, n * n, 1, n, out,
 static void c_order(void) { plain_order(n, tree, n * n, 1, n, plain_out, 64); sink = n + plain_out[1]; }
 static void ours_compare(void) { KemotuikiComparison r = kemotuiki_compare(n, tree, n * n, other, n * n); sink = r.inner_first + 1000 * r.count; }
 static void c_compare(void) { size_t v[5] = {0}; plain_compare(n, tree, n * n, other, n * n, v); sink = v[0] + 1000 * v[3]; }
-static void ours_consensus(void) { sink = kemotuiki_consensus(n, KEMOTUIKI_TABLES, team, KEMOTUIKI_TABLES * n * n, shared_fars, 125, shared_costs, 125).rows; }
-static void c_consensus(void) { plain_consensus(n, KEMOTUIKI_TABLES, team, KEMOTUIKI_TABLES * n * n, plain_fars, plain_costs, 125, &plain_rows); sink = plain_rows; }
+static void ours_consensus(void) { sink = kemotuiki_consensus(n, 16, team, 16 * n * n, shared_fars, 125, shared_costs, 125).rows; }
+static void c_consensus(void) { plain_consensus(n, 16, team, 16 * n * n, plain_fars, plain_costs, 125, &plain_rows); sink = plain_rows; }
 static void ours_write_costs(void) { sink = kemotuiki_write_costs(n, tree, n * n, cost_bytes, sizeof cost_bytes).used; }
 static void c_write_costs(void) { size_t u = 0; plain_write_costs(n, tree, n * n, bytes, sizeof bytes, &u); sink = u; }
 static void ours_read_costs(void) { sink = kemotuiki_read_costs(cost_bytes, stored_costs, 0, back, 4096).used; }
@@ -48,7 +48,7 @@ static void c_choice(void) { size_t k = 0, u = 0; plain_choice(fewer_bytes, stor
 
 /* Sixteen tables of one tree, with its costs once, twice or three times, so that all rows are shared and none is the last table's. */
 static void fill_team(void) {
-    for (size_t k = 0; k < KEMOTUIKI_TABLES; k++)
+    for (size_t k = 0; k < 16; k++)
         for (size_t i = 0; i < n * n; i++) team[k * n * n + i] = tree[i] * (1 + (k + 2) % 3);
 }
 
