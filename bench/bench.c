@@ -15,6 +15,8 @@
 static size_t n, rows, plain_rows, stored_costs, stored_links, stored_fewer;
 static uint32_t tree[4096], other[4096], noisy[4096], back[4096], costs[125], plain_costs[125], out[64], plain_out[64];
 static uint64_t fars[125], plain_fars[125], inner_side;
+static uint32_t team[16 * 4096], shared_costs[125];
+static uint64_t shared_fars[125];
 static uint8_t cost_bytes[KEMOTUIKI_COST_BYTES], link_bytes[KEMOTUIKI_LINK_BYTES], fewer_bytes[KEMOTUIKI_LINK_BYTES], bytes[KEMOTUIKI_COST_BYTES];
 static volatile size_t sink;
 static int printing;
@@ -30,6 +32,8 @@ static void ours_order(void) { sink = kemotuiki_order(n, tree, n * n, 1, n, out,
 static void c_order(void) { plain_order(n, tree, n * n, 1, n, plain_out, 64); sink = n + plain_out[1]; }
 static void ours_compare(void) { KemotuikiComparison r = kemotuiki_compare(n, tree, n * n, other, n * n); sink = r.inner_first + 1000 * r.count; }
 static void c_compare(void) { size_t v[5] = {0}; plain_compare(n, tree, n * n, other, n * n, v); sink = v[0] + 1000 * v[3]; }
+static void ours_consensus(void) { sink = kemotuiki_consensus(n, 16, team, 16 * n * n, shared_fars, 125, shared_costs, 125).rows; }
+static void c_consensus(void) { plain_consensus(n, 16, team, 16 * n * n, plain_fars, plain_costs, 125, &plain_rows); sink = plain_rows; }
 static void ours_write_costs(void) { sink = kemotuiki_write_costs(n, tree, n * n, cost_bytes, sizeof cost_bytes).used; }
 static void c_write_costs(void) { size_t u = 0; plain_write_costs(n, tree, n * n, bytes, sizeof bytes, &u); sink = u; }
 static void ours_read_costs(void) { sink = kemotuiki_read_costs(cost_bytes, stored_costs, 0, back, 4096).used; }
@@ -41,6 +45,12 @@ static void c_read_links(void) { size_t m = 0, k = 0, u = 0; plain_read_links(li
 
 static void ours_choice(void) { KemotuikiChoice r = kemotuiki_choice(fewer_bytes, stored_fewer, link_bytes, stored_links); sink = r.chosen + 10 * r.used; }
 static void c_choice(void) { size_t k = 0, u = 0; plain_choice(fewer_bytes, stored_fewer, link_bytes, stored_links, &k, &u); sink = k + 10 * u; }
+
+/* Sixteen tables of one tree, with its costs once, twice or three times, so that all rows are shared and none is the last table's. */
+static void fill_team(void) {
+    for (size_t k = 0; k < 16; k++)
+        for (size_t i = 0; i < n * n; i++) team[k * n * n + i] = tree[i] * (1 + (k + 2) % 3);
+}
 
 /* The same tree with every second inner link left out, stored: what the whole tree is chosen against. */
 static void store_fewer(void) {
@@ -87,6 +97,11 @@ static int all_calls(void) {
         race_both("order", ours_order, c_order);
         if (memcmp(out, plain_out, n * 4)) return 1;
         race_both("compare", ours_compare, c_compare);
+        if (n == 9 || n == 64) {
+            fill_team();
+            race_both("consensus of 16 tables", ours_consensus, c_consensus);
+            if (memcmp(shared_fars, plain_fars, plain_rows * 8) || memcmp(shared_costs, plain_costs, plain_rows * 4)) return 1;
+        }
         race_both("write_costs", ours_write_costs, c_write_costs);
         stored_costs = sink;
         if (memcmp(cost_bytes, bytes, stored_costs)) return 1;

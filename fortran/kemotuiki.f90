@@ -10,8 +10,9 @@
 !         print '(a)', r%text()                     ! no wiring: images 1 2 3 5
 !     end if
 !
-! A cost table has rank 2: t(i, j) is the entry in row i and column j. Entries, costs, images, rows and counts are default integers,
-! 32 bits in arrays; far sides are integer(int64), stored bytes integer(int8).
+! A cost table has rank 2: t(i, j) is the entry in row i and column j. The tables of a team have rank 3: tables(:, :, k) is table k.
+! Entries, costs, images, rows and counts are default integers, 32 bits in arrays; far sides are integer(int64), stored bytes
+! integer(int8).
 !
 ! Fortran has no unsigned integers. A far side is 64 bits, image i is bit i-1, btest(far, i-1). With 64 images a far side that holds
 ! image 64 is negative as a signed number; its bits are right, and such rows stand last, since far sides ascend as unsigned numbers.
@@ -26,8 +27,9 @@ module kemotuiki
     character(*), parameter, public :: kemotuiki_version = '1.0.0'
     integer, parameter, public :: kemotuiki_version_major = 1, kemotuiki_version_minor = 0, kemotuiki_version_patch = 0
 
-    ! Room that is enough for every n: images, rows of a tree, bytes of the stored forms; and bytes of a refusal's text.
-    integer, parameter, public :: kemotuiki_images = 64, kemotuiki_rows = 125
+    ! Room that is enough for every n: images, rows of a tree, bytes of the stored forms; the tables of a team; and bytes of a
+    ! refusal's text.
+    integer, parameter, public :: kemotuiki_images = 64, kemotuiki_rows = 125, kemotuiki_tables = 16
     integer, parameter, public :: kemotuiki_cost_bytes = 5041, kemotuiki_link_bytes = 1315
     integer, parameter :: text_bytes = 192
 
@@ -48,7 +50,8 @@ module kemotuiki
         kemotuiki_bad_row = 12, &
         kemotuiki_own_link_missing = 13, &
         kemotuiki_neither_includes = 14, &
-        kemotuiki_different_n = 15
+        kemotuiki_different_n = 15, &
+        kemotuiki_bad_table_count = 16
 
     ! What all answers begin with: the refusal's number or 0, the table that was refused in calls that take more than one, and the
     ! places. A place is the argument unchanged, so one above 2^63 - 1 is negative here.
@@ -92,8 +95,8 @@ module kemotuiki
     end type
 
     public :: kemotuiki_index, kemotuiki_order, kemotuiki_measured, kemotuiki_exact, kemotuiki_path, kemotuiki_upper_rows
-    public :: kemotuiki_route, kemotuiki_compare, kemotuiki_write_costs, kemotuiki_read_costs, kemotuiki_write_links
-    public :: kemotuiki_read_links, kemotuiki_write_batch, kemotuiki_choice
+    public :: kemotuiki_route, kemotuiki_compare, kemotuiki_consensus, kemotuiki_write_costs, kemotuiki_read_costs
+    public :: kemotuiki_write_links, kemotuiki_read_links, kemotuiki_write_batch, kemotuiki_choice
 
     ! Far sides and bit positions may be of either kind. A far side that holds image 32 or a later one needs int64: as a default integer
     ! it would be negative, or not fit.
@@ -179,6 +182,15 @@ module kemotuiki
             integer(word), value :: n, first_count, second_count
             integer(c_int32_t), intent(in) :: first(*), second(*)
             type(five_values) :: r
+        end function
+        function c_consensus(n, number, tables, tables_count, fars, fars_count, costs, costs_count) result(r) &
+            bind(c, name='kemotuiki_consensus')
+            import
+            integer(word), value :: n, number, tables_count, fars_count, costs_count
+            integer(c_int32_t), intent(in) :: tables(*)
+            integer(c_int64_t), intent(inout) :: fars(*)
+            integer(c_int32_t), intent(inout) :: costs(*)
+            type(one_value) :: r
         end function
         function c_write_costs(n, t, t_count, out, out_count) result(r) bind(c, name='kemotuiki_write_costs')
             import
@@ -332,6 +344,17 @@ contains
                                         count=int(c%values(4)), over=int(c%values(5)))
         if (r%table == 1) call place_by_rows(r, first)
         if (r%table == 2) call place_by_rows(r, second)
+    end function
+
+    ! The links that the tables of a team share, into fars and costs. Tables of another shape have a length that C refuses.
+    function kemotuiki_consensus(tables, fars, costs) result(r)
+        integer(int32), intent(in), contiguous :: tables(:, :, :)
+        integer(int64), intent(inout), contiguous :: fars(:)
+        integer(int32), intent(inout), contiguous :: costs(:)
+        type(kemotuiki_rows_answer) :: r
+        r = rows_answer(c_consensus(size(tables, 1, word), size(tables, 3, word), tables, size(tables, kind=word), &
+                                    fars, size(fars, kind=word), costs, size(costs, kind=word)))
+        if (r%table > 0) call place_by_rows(r, tables(:, :, r%table))
     end function
 
     ! The stored form of t, into out.

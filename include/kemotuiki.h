@@ -30,8 +30,9 @@
 #define KEMOTUIKI_VERSION_MINOR 0
 #define KEMOTUIKI_VERSION_PATCH 0
 
-/* Room that is enough for every n: images, rows of a tree, bytes of the stored forms; and bytes of a refusal's text. */
+/* Room that is enough for every n: images, rows of a tree, bytes of the stored forms; the tables of a team; and bytes of a refusal's text. */
 #define KEMOTUIKI_IMAGES 64
+#define KEMOTUIKI_TABLES 16
 #define KEMOTUIKI_ROWS 125
 #define KEMOTUIKI_COST_BYTES 5041
 #define KEMOTUIKI_LINK_BYTES 1315
@@ -74,7 +75,8 @@ enum KemotuikiNumber {
     KEMOTUIKI_BAD_ROW = 12,          /* bad far side or bad row: row, 0 for the index call */
     KEMOTUIKI_OWN_LINK_MISSING = 13, /* an own link is missing: image */
     KEMOTUIKI_NEITHER_INCLUDES = 14, /* neither table includes the other */
-    KEMOTUIKI_DIFFERENT_N = 15       /* stored tables of different n */
+    KEMOTUIKI_DIFFERENT_N = 15,      /* stored tables of different n */
+    KEMOTUIKI_BAD_TABLE_COUNT = 16   /* no tables or more than sixteen */
 };
 
 /*
@@ -210,6 +212,16 @@ KemotuikiRows kemotuiki_route(size_t n, size_t count, const uint64_t *fars, size
  */
 KemotuikiComparison kemotuiki_compare(size_t n, const uint32_t *first, size_t first_count,
                                       const uint32_t *second, size_t second_count);
+
+/*
+ * The links that a team shares: the far sides that the exact readings of all its tables have, each with the smallest of its
+ * doubled costs. The tables are 1 to 16, joined in one slice, table by table.
+ * Answers the rows written to fars and costs, which are a link table. Room: 2n-3 places in each. Refusals 1, 16, 2, 3 with
+ * table 0; then 4, 5, 6, 7 table by table, with the table's number.
+ */
+KemotuikiRows kemotuiki_consensus(size_t n, size_t number, const uint32_t *tables, size_t tables_count,
+                                  uint64_t *KEMOTUIKI_RESTRICT fars, size_t fars_count,
+                                  uint32_t *KEMOTUIKI_RESTRICT costs, size_t costs_count);
 
 /*
  * The stored form of a cost table.

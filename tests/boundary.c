@@ -11,7 +11,7 @@
 #include "kemotuiki.h"
 
 #define GUARD 64
-#define LINE 70000
+#define LINE 150000
 
 static int faults;
 static const char *call_name = "";
@@ -234,6 +234,21 @@ static void do_compare(void) {
     settle(&lb, 0);
 }
 
+static void do_consensus(void) {
+    Lent lt, lf, lc;
+    size_t n = number(), tables = number();
+    uint32_t *t = read32(&lt);
+    uint64_t *fars = read64(&lf);
+    uint32_t *costs = read32(&lc);
+    KemotuikiRows r = kemotuiki_consensus(n, tables, t, lt.count, fars, lf.count, costs, lc.count);
+    if (ANSWER(r, 1)) printf(" %zu", r.rows);
+    show64(fars, lf.count);
+    show32(costs, lc.count);
+    settle(&lt, 0);
+    settle(&lf, r.rows * 8);
+    settle(&lc, r.rows * 4);
+}
+
 static void do_write_costs(void) {
     Lent lt, lo;
     size_t n = number();
@@ -333,6 +348,7 @@ static const struct {
     {"route", do_route},           {"compare", do_compare},       {"write_costs", do_write_costs},
     {"read_costs", do_read_costs}, {"write_links", do_write_links}, {"read_links", do_read_links},
     {"write_batch", do_write_batch}, {"choice", do_choice},       {"refusal_text", do_refusal_text},
+    {"consensus", do_consensus},
 };
 
 static int cases(const char *folder) {
@@ -388,6 +404,7 @@ static void no_images(void) {
         EXPECT(KemotuikiRows, upper_rows, (n, n, NULL, 0, NULL, 0, NULL, 0), KEMOTUIKI_BAD_N, n, 0);
         EXPECT(KemotuikiRows, route, (n, n, NULL, 0, NULL, 0, 1, NULL, 0), KEMOTUIKI_BAD_N, n, 0);
         EXPECT(KemotuikiComparison, compare, (n, NULL, 0, NULL, 0), KEMOTUIKI_BAD_N, n, 0);
+        EXPECT(KemotuikiRows, consensus, (n, n, NULL, 0, NULL, 0, NULL, 0), KEMOTUIKI_BAD_N, n, 0);
         EXPECT(KemotuikiBytes, write_costs, (n, NULL, 0, NULL, 0), KEMOTUIKI_BAD_N, n, 0);
         EXPECT(KemotuikiBytes, write_links, (n, n, NULL, 0, NULL, 0, NULL, 0), KEMOTUIKI_BAD_N, n, 0);
     }
@@ -409,7 +426,20 @@ static void no_places(void) {
         EXPECT(KemotuikiRows, route, (n, 2 * n - 2, NULL, 0, NULL, 0, 1, NULL, 0), KEMOTUIKI_BAD_ROW_COUNT, 2 * n - 2, 0);
         EXPECT(KemotuikiBytes, write_links, (n, n - 1, NULL, 0, NULL, 0, NULL, 0), KEMOTUIKI_BAD_ROW_COUNT, n - 1, 0);
         EXPECT(KemotuikiComparison, compare, (n, NULL, 0, NULL, 0), KEMOTUIKI_BAD_LENGTH, 0, 1);
+        EXPECT(KemotuikiRows, consensus, (n, 1, NULL, 0, NULL, 0, NULL, 0), KEMOTUIKI_BAD_LENGTH, 0, 0);
+        EXPECT(KemotuikiRows, consensus, (n, KEMOTUIKI_TABLES, NULL, 0, NULL, 0, NULL, 0), KEMOTUIKI_BAD_LENGTH, 0, 0);
     }
+}
+
+/* Numbers of tables that no team has; with 4 images and some of them the number of entries would be 0 or 16 after an overflow. */
+static void no_team(void) {
+    static const size_t bad[] = {0, 17, 18, (size_t)1 << 60, ((size_t)1 << 60) + 1, (size_t)1 << 63, SIZE_MAX};
+    static const uint32_t zeros[16];
+    for (size_t k = 0; k < sizeof bad / sizeof *bad; k++) {
+        EXPECT(KemotuikiRows, consensus, (4, bad[k], NULL, 0, NULL, 0, NULL, 0), KEMOTUIKI_BAD_TABLE_COUNT, 0, 0);
+        EXPECT(KemotuikiRows, consensus, (4, bad[k], zeros, 16, NULL, 0, NULL, 0), KEMOTUIKI_BAD_TABLE_COUNT, 0, 0);
+    }
+    EXPECT(KemotuikiRows, consensus, (4, 1, zeros, 16, NULL, 0, NULL, 0), KEMOTUIKI_NO_ROOM, 0, 0);
 }
 
 /* No bytes, read at any position; an empty batch, which is accepted; no bytes to choose from. */
@@ -451,7 +481,8 @@ static const struct {
     {{13, 0, 5, 0, 0, 0}, "an own link is missing: image 5"},
     {{14, 0, 0, 0, 0, 0}, "neither table includes the other"},
     {{15, 0, 0, 0, 0, 0}, "stored tables of different n"},
-    {{16, 0, 0, 0, 0, 0}, "no such refusal: number 16"},
+    {{16, 0, 0, 0, 0, 0}, "no tables or more than sixteen"},
+    {{17, 0, 0, 0, 0, 0}, "no such refusal: number 17"},
     {{SIZE_MAX, 0, 1, 2, 3, 4}, "no such refusal: number 18446744073709551615"},
 };
 
@@ -477,6 +508,7 @@ static void text_of_answers(void) {
 static int edges(void) {
     no_images();
     no_places();
+    no_team();
     no_bytes();
     text_of_answers();
     return faults ? 1 : 0;

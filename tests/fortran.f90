@@ -3,7 +3,7 @@
 !   fortran DATA ANSWERS       writes to ANSWERS what crates/cases/stdout has for the exported calls. A case that cannot be said in
 !                              Fortran, such as a table with fewer entries than its n asks for, has the line "-" instead.
 !   fortran --by-hand VERSION  compares the version, the texts of all refusals, and what only Fortran can say: tables by rows,
-!                              tables of another shape, sections, and integers of either kind.
+!                              tables of another shape, teams of rank 3, sections, and integers of either kind.
 !
 ! What is wrong is printed; then the status is 1.
 
@@ -13,16 +13,16 @@ module case_text
     use kemotuiki, only: kemotuiki_answer, kemotuiki_images
     implicit none
     private
-    public :: number, small_number, fits, slice8, slice32, slice64, table, read_table, read_rows, can_be_said
+    public :: number, small_number, fits, slice8, slice32, slice64, table, read_table, read_team, read_rows, can_be_said
     public :: put_answer, put, note_far_sides, fault, faults, answers, run
 
-    integer, parameter :: line_room = 100000
+    integer, parameter :: line_room = 150000
     character(line_room) :: line
     character(:), allocatable :: call_name
     integer :: at, answers, faults = 0
     logical :: can_be_said
     ! Of the call that is run: the numbers that were answered, and the accepted cases of 64 images with a negative far side.
-    logical :: answered(0:15)
+    logical :: answered(0:16)
     integer :: negative
 
     abstract interface
@@ -128,6 +128,27 @@ contains
         if (can_be_said) t = table(n, entries)
     end subroutine
 
+    ! n, the number of tables and the joined tables. Both numbers are extents in Fortran, so that the entries have to fill them.
+    subroutine read_team(n, tables)
+        integer, intent(out) :: n
+        integer(int32), allocatable, intent(out) :: tables(:, :, :)
+        integer(int32), allocatable :: entries(:)
+        integer :: number_of_tables, part, k
+        n = small_number()
+        number_of_tables = small_number()
+        entries = slice32()
+        can_be_said = can_be_said .and. n >= 0 .and. number_of_tables >= 0
+        if (.not. can_be_said) return
+        part = size(entries) / max(number_of_tables, 1)
+        part = part - mod(part, max(n, 1))
+        can_be_said = int(part, int64) * number_of_tables == size(entries) .and. (n > 0 .or. part == 0)
+        if (.not. can_be_said) return
+        allocate (tables(n, part / max(n, 1), number_of_tables))
+        do k = 1, merge(number_of_tables, 0, part > 0)
+            tables(:, :, k) = table(n, entries(part * (k - 1) + 1:part * k))
+        end do
+    end subroutine
+
     ! n and a link table. The row count is that of the far sides in Fortran.
     subroutine read_rows(n, fars, costs)
         integer, intent(out) :: n
@@ -212,7 +233,7 @@ contains
         procedure(one_case) :: do_case
         integer, intent(in) :: refusals(:)
         logical, intent(in), optional :: far_sides
-        logical :: listed(0:15)
+        logical :: listed(0:16)
         integer :: cases, status
         call_name = name
         answered = .false.
@@ -266,6 +287,7 @@ contains
         call run('read_links', do_read_links, folder, [1, 3, 9, 10, 11, 12, 13], far_sides=.true.)
         call run('write_batch', do_write_batch, folder, [1, 2, 3, 10, 12, 13])
         call run('choice', do_choice, folder, [1, 9, 10, 11, 12, 13, 14, 15])
+        call run('consensus', do_consensus, folder, [1, 2, 3, 4, 5, 6, 7, 16], far_sides=.true.)
     end subroutine
 
     ! With a far side that is a default integer, where it can be one.
@@ -394,6 +416,22 @@ contains
         end if
         r = kemotuiki_compare(first, second)
         call put_answer(r, [integer(int64) :: r%inner_first, r%inner_second, r%common, r%count, r%over], tables=.true.)
+    end subroutine
+
+    subroutine do_consensus()
+        type(kemotuiki_rows_answer) :: r
+        integer(int32), allocatable :: tables(:, :, :), costs(:)
+        integer(int64), allocatable :: fars(:)
+        integer :: n
+        call read_team(n, tables)
+        fars = slice64()
+        costs = slice32()
+        if (.not. can_be_said) return
+        r = kemotuiki_consensus(tables, fars, costs)
+        call put_answer(r, [integer(int64) :: r%rows], tables=.true.)
+        call put(fars)
+        call put(costs)
+        call note_far_sides(r, n, fars(:r%rows))
     end subroutine
 
     subroutine do_write_costs()
@@ -527,6 +565,7 @@ contains
         call texts()
         call places_by_rows()
         call another_shape()
+        call teams()
         call stored_in_a_corner()
         call sections()
         faults = wrong
@@ -561,7 +600,8 @@ contains
         call say(kemotuiki_own_link_missing, 0, [5, 0, 0, 0], 'an own link is missing: image 5')
         call say(kemotuiki_neither_includes, 0, [0, 0, 0, 0], 'neither table includes the other')
         call say(kemotuiki_different_n, 0, [0, 0, 0, 0], 'stored tables of different n')
-        call say(16, 0, [0, 0, 0, 0], 'no such refusal: number 16')
+        call say(kemotuiki_bad_table_count, 0, [0, 0, 0, 0], 'no tables or more than sixteen')
+        call say(17, 0, [0, 0, 0, 0], 'no such refusal: number 17')
     end subroutine
 
     subroutine say(number, table, places, text)
@@ -600,7 +640,16 @@ contains
         call hold('write_costs by rows', refused_at(kemotuiki_write_costs(t, bytes), 0, 2, 5))
         call hold('compare by rows, first table', refused_at(kemotuiki_compare(t, star(6)), 1, 2, 5))
         call hold('compare by rows, second table', refused_at(kemotuiki_compare(star(6), t), 2, 2, 5))
+        call hold('consensus by rows, third table', refused_at(kemotuiki_consensus(stars_and(t), fars, costs), 3, 2, 5))
     end subroutine
+
+    ! A team of four stars, of which t stands in the third place.
+    pure function stars_and(t) result(tables)
+        integer, intent(in) :: t(6, 6)
+        integer :: tables(6, 6, 4)
+        tables = spread(star(6), 3, 4)
+        tables(:, :, 3) = t
+    end function
 
     pure function refused_at(r, table, row, column)
         class(kemotuiki_answer), intent(in) :: r
@@ -616,6 +665,30 @@ contains
         call hold('a second table of another shape', r%number == kemotuiki_bad_length .and. r%table == 2)
         r = kemotuiki_compare(reshape(star(6), [9, 4]), star(6))
         call hold('a first table of another shape', r%number == kemotuiki_bad_length .and. r%table == 1)
+    end subroutine
+
+    ! Three stars, of which the second has the smallest costs. No tables at all, as many as a team may have, and one more; and
+    ! tables of 6 by 9 entries, which are none of 6 images.
+    subroutine teams()
+        type(kemotuiki_rows_answer) :: r
+        integer(int64) :: fars(9)
+        integer :: costs(9), tables(4, 4, 3)
+        fars = -1
+        costs = -1
+        tables(:, :, 1) = 4 * star(4)
+        tables(:, :, 2) = star(4)
+        tables(:, :, 3) = 2 * star(4)
+        r = kemotuiki_consensus(tables, fars, costs)
+        call hold('a team of stars', r%rows == 4 .and. all(fars == [2, 4, 8, 14, -1, -1, -1, -1, -1]) &
+                  .and. all(costs == [2, 2, 2, 2, -1, -1, -1, -1, -1]))
+        r = kemotuiki_consensus(tables(:, :, :0), fars, costs)
+        call hold('no tables', r%number == kemotuiki_bad_table_count .and. r%table == 0)
+        r = kemotuiki_consensus(spread(star(4), 3, kemotuiki_tables), fars, costs)
+        call hold('as many tables as there may be', r%accepted() .and. r%rows == 4)
+        r = kemotuiki_consensus(spread(star(4), 3, kemotuiki_tables + 1), fars, costs)
+        call hold('one table too many', r%number == kemotuiki_bad_table_count .and. r%table == 0)
+        r = kemotuiki_consensus(reshape(spread(star(6), 3, 3), [6, 9, 2]), fars, costs)
+        call hold('tables of another shape', r%number == kemotuiki_bad_length .and. r%table == 0)
     end subroutine
 
     ! Two stored tables one after another, read into larger tables, and at positions of either kind.

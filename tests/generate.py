@@ -27,9 +27,11 @@ from independent import (Dice, is_inner, own_link, pairs, stored_costs, table_fr
 ROOT = os.path.dirname(os.path.dirname(os.path.abspath(__file__)))
 
 # The programs that run the cases have arrays of these lengths: for a slice of numbers, for
-# one of bytes, for the bytes of the reader's calls, and for a file of cases.
-LONGEST_LINE = 60000
+# the joined tables of a team, for a slice of bytes, for the bytes of the reader's calls, and
+# for a file of cases.
+LONGEST_LINE = 140000
 LONGEST_SLICE = 4200
+LONGEST_TEAM = 65600
 LONGEST_BYTES = 5200
 LONGEST_READ = 10200
 LARGEST_FILE = 400000
@@ -61,10 +63,11 @@ CALLS = {
     "two_costs": (law.two_costs, "8 32* 32*", (1, 3, 4, 9, 11)),
     "two_fields": (law.two_fields, "8 n n n", (3, 9)),
     "refusal_text": (law.refusal_text, "n n n n n n 8*", (3,)),
+    "consensus": (law.consensus, "n n 32 64* 32*", (1, 2, 3, 4, 5, 6, 7, 16)),
 }
 
 # Those that put a table's number behind a refusal number.
-OVER_SEVERAL_TABLES = ("compare", "write_batch", "choice", "two_costs")
+OVER_SEVERAL_TABLES = ("compare", "write_batch", "choice", "two_costs", "consensus")
 
 # Those of the reader.
 READER = ("first_two", "first_links", "two_costs", "two_fields")
@@ -1164,14 +1167,207 @@ def refusal_text_cases(dice):
     """Every number with a table and without one, in just enough room and in more; numbers that
     no refusal has; the longest text; and too little room."""
     enough = law.TEXT_BYTES
-    unknown = [16, 17, 64, 99, 2 ** 32 + 7, 2 ** 63, 2 ** 64 - 1]
-    for number in list(range(16)) + unknown:
+    unknown = [17, 64, 99, 2 ** 32 + 7, 2 ** 63, 2 ** 64 - 1]
+    for number in list(range(17)) + unknown:
         for table in (0, 1, dice.one_of([2, 10, 64, 500])):
             places_of = [dice.one_of([1, 2, 9, 10, 33, 64, 99, 100, 12345]) for _ in range(4)]
             yield (number, table, *places_of, byte_places(dice, dice.one_of([enough, enough, enough + 3])))
         yield number, 0, 0, 0, 0, 0, byte_places(dice, enough)
         yield (number, *[2 ** 64 - 1] * 5, byte_places(dice, enough))
         yield number, 3, 1, 2, 3, 5, byte_places(dice, dice.one_of([0, 1, 20, enough - 1, enough - 1]))
+
+
+# Teams: tables over the same images, joined
+
+TEAMS = ["all", "but one", "some", "none", "any", "same", "stars"]
+
+
+def team(dice, n, number, kind, most=20):
+    """The trees of so many tables: with the same far sides, one of which one tree may lack,
+    with some of them, with own links alone in common, or whatever trees come; one tree so
+    many times; stars, whose own links may cost nothing."""
+    one = tree_rows(dice, n, "uneven", most)
+    inner = [far for far, _ in one if is_inner(n, far)]
+    if kind == "same":
+        return [one] * number
+    if kind == "all" or (kind == "but one" and not inner):
+        return [[(far, cost + 2 * dice.below(4)) for far, cost in one] for _ in range(number)]
+    if kind == "but one":
+        lacking, lost = dice.below(number), dice.one_of(inner)
+        trees = [[(far, cost + dice.below(4)) for far, cost in one] for _ in range(number)]
+        trees[lacking] = [row for row in trees[lacking] if row[0] != lost]
+    elif kind == "some":
+        trees = [[(far, cost + dice.below(4)) for far, cost in one
+                  if not is_inner(n, far) or dice.chance(4, 5)] for _ in range(number)]
+    elif kind == "none":
+        trees = [tree_rows(dice, n, law.random_shape(dice), most) for _ in range(number)]
+        trees[dice.below(number)] = tree_rows(dice, n, "star", most)
+    elif kind == "any":
+        trees = [tree_rows(dice, n, law.random_shape(dice), most) for _ in range(number)]
+    else:
+        trees = [[(own_link(n, i), dice.below(3)) for i in list(range(2, n + 1)) + [1]]
+                 for _ in range(number)]
+    return [even_rows(rows) for rows in trees]
+
+
+def team_tables(n, trees):
+    return [tree_table(n, rows) for rows in trees]
+
+
+def one_slice(tables_of_team):
+    return [entry for t in tables_of_team for entry in t]
+
+
+def crooked(dice, n):
+    """A well-formed table without a wiring: one entry longer than the way over a third image."""
+    t = tree(dice, n)
+    i, j, k = dice.mixed(range(n))[:3]
+    t[i * n + j] = t[j * n + i] = t[i * n + k] + t[k * n + j] + dice.between(1, 3)
+    return t
+
+
+def bad_number(dice, number):
+    return dice.one_of([0, 0, 17, 17, 18, 32, 2 ** 32 + number, 2 ** 40, 2 ** 60, 2 ** 63, 2 ** 64 - 1])
+
+
+def bad_joined(dice, n, entries):
+    """Joined tables of another length."""
+    return dice.one_of([entries[:-1], entries + [0], [], entries[:-n * n], entries + entries[:n * n],
+                        entries[:n], entries + entries])
+
+
+def damaged_team(dice, faults):
+    """n, the number of tables and the joined tables with these faults, which several tables
+    share where there are some of a table; and the n that the outputs are for."""
+    n, number = damaged_n(dice), dice.one_of([1, 2, 2, 3, 3, 5])
+    tables_of_team = team_tables(n, team(dice, n, number, dice.one_of(TEAMS)))
+    for which in {dice.below(number), dice.below(number)} if dice.chance(1, 2) else {number - 1}:
+        if "wiring" in faults:
+            tables_of_team[which] = crooked(dice, n)
+        some = faults & {"entry", "diagonal", "asymmetric"}
+        tables_of_team[which] = damage_table(dice, n, tables_of_team[which], some_of(dice, some))[1]
+    entries = one_slice(tables_of_team)
+    if "length" in faults:
+        entries = bad_joined(dice, n, entries)
+    if "number" in faults:
+        number = bad_number(dice, number)
+    bad_n = dice.one_of(BAD_N) if "n" in faults else n
+    return bad_n, number, entries, n
+
+
+def team_of_examples(dice):
+    """Every settled example alone, sixteen times, and beside every other over as many images."""
+    for n, t in example_tables():
+        yield n, [t]
+        yield n, [t] * 16
+        for n2, t2 in example_tables():
+            if n == n2 and t != t2:
+                yield n, [t, t2]
+                if dice.chance(1, 3):
+                    yield n, [t2] * dice.between(1, 3) + [t, t2]
+
+
+def teams_of_trees(dice):
+    """Trees that share all far sides, some or none; one row that one tree lacks, wherever it
+    stands; all costs lowered to 0 by one table after another; entries of 1,000,000."""
+    for kind in TEAMS:
+        for number in (1, 2, 3, 5, 16):
+            for n in (small_n(dice), dice.one_of([4, 5, 6])):
+                yield n, team_tables(n, team(dice, n, number, kind, dice.one_of([1, 3, 20])))
+    for n, number in ((4, 2), (4, 3), (5, 5), (9, 3)):
+        rows = even_rows(tree_rows(dice, n, "caterpillar", 5))
+        lost = dice.one_of([far for far, _ in rows if is_inner(n, far)])
+        fewer = [row for row in rows if row[0] != lost]
+        for place in range(number):
+            yield n, team_tables(n, [fewer if k == place else rows for k in range(number)])
+    for n in (3, 4):
+        far_away = [table_from(n, [1000000 if image in pair else 0 for pair in pairs(n)])
+                    for image in range(1, n + 1)]
+        yield n, far_away[:1]
+        yield n, far_away[:2]
+        yield n, far_away
+        yield n, [table_from(n, [1000000] * (n * n)), table_from(n, [999999] * (n * n))]
+    for kind in ("all", "but one", "some", "any"):
+        yield 9, team_tables(9, team(dice, 9, dice.one_of([2, 3, 4]), kind))
+    yield 9, team_tables(9, team(dice, 9, 16, "some", 3))
+
+
+def refused_tables(dice):
+    """Each fault of a table with each in a later one, next to it and behind others; and one
+    fault in each of sixteen."""
+    n, good = law.example("E")
+    kinds = ["entry", "diagonal", "asymmetric", "wiring"]
+
+    def spoilt(fault):
+        t = crooked(dice, n) if fault == "wiring" else good
+        return damage_table(dice, n, t, {fault})[1]
+
+    for fault in kinds:
+        for fault2 in kinds:
+            yield n, [spoilt(fault), spoilt(fault2)]
+            yield n, [good, good, spoilt(fault), good, spoilt(fault2)]
+        for place in (2, 9, 15):
+            yield n, [good] * place + [spoilt(fault)] + [good] * (15 - place)
+    yield n, [law.example("F")[1]] * 16
+
+
+def no_teams(dice):
+    """An n and a number of tables that no team has, alone and with each other, beside tables
+    that fit them as far as there can be; 2^60 tables over four images have 2^64 entries."""
+    for n in BAD_N:
+        yield n, dice.one_of([1, 2, 16]), [], 3
+        yield n, bad_number(dice, 1), dice.one_of([[], [1000001] * 4]), 3
+    for n in (1, 2):
+        yield n, 2, [0] * (2 * n * n), 3
+    for n in (3, 4):
+        for number in (0, 17, 18, 2 ** 32 + 1, 2 ** 60, 2 ** 62, 2 ** 63, 2 ** 64 - 1):
+            yield n, number, [], n
+            yield n, number, [0] * (n * n * min(number, 18)), n
+    for number in (1, 2, 15, 16):
+        yield 3, number, [0] * (9 * number + dice.one_of([-9, -1, 1, 9])), 3
+        yield 3, number, [1000001] * (9 * number + dice.one_of([-9, -1, 1, 9])), 3
+
+
+def large_teams(dice):
+    """Thirty-three and sixty-four images, sixteen tables of them with small entries."""
+    yield 33, team_tables(33, team(dice, 33, 1, "same", 3))
+    yield 33, team_tables(33, team(dice, 33, 5, "some", 1))
+    tables_of_team = team_tables(33, team(dice, 33, 3, "some", 1)) * 6
+    yield 33, tables_of_team[:15] + [crooked(dice, 33)]
+    yield 64, team_tables(64, team(dice, 64, 1, "same", 1))
+    yield 64, team_tables(64, team(dice, 64, 2, "but one", 1))
+    yield 64, team_tables(64, team(dice, 64, 3, "some", 1))
+    # Own links and some of four inner far sides, one inside another, image 64 in two of them.
+    own = [own_link(64, image) for image in list(range(2, 65)) + [1]]
+    sides = [2 ** 63 + 2 ** 62, 2 ** 63 + 2 ** 62 + 2 ** 40, 6, 2 ** 33 + 2 ** 32 + 2 ** 31]
+    trees = []
+    for lost in (None, 1, 2, None, 1):
+        inner = [far for at, far in enumerate(sides) if at != lost]
+        trees.append(sorted((far, dice.one_of([1, 2]) if far in inner else dice.below(2))
+                            for far in own + inner))
+    tables_of_team = team_tables(64, [even_rows(rows) for rows in trees])
+    yield 64, (tables_of_team * 4)[:16]
+
+
+def consensus_cases(dice):
+    def outputs(n, short=False):
+        room1, room2 = two_rooms(dice, 2 * n - 3, short)
+        return far_places(dice, room1), places(dice, room2)
+
+    for source in (team_of_examples, teams_of_trees, refused_tables, large_teams):
+        for n, tables_of_team in source(dice):
+            yield (n, len(tables_of_team), one_slice(tables_of_team), *outputs(n))
+    for bad_n, number, entries, n in no_teams(dice):
+        yield (bad_n, number, entries, *outputs(n, dice.chance(1, 3)))
+    kinds = ["n", "number", "length", "room", "entry", "diagonal", "asymmetric", "wiring"]
+    for faults in fault_sets(dice, kinds, 6, 84):
+        bad_n, number, entries, n = damaged_team(dice, faults)
+        yield (bad_n, number, entries, *outputs(n, "room" in faults))
+    # Room for the rows that are shared, but not the 2n-3 places that are asked; just enough; more.
+    for n in (4, 5, 9):
+        entries = one_slice(team_tables(n, team(dice, n, 2, "none", 5)))
+        for room1, room2 in ((n, 2 * n - 3), (2 * n - 3, 2 * n - 4), (2 * n - 3, 2 * n - 3), (2 * n, 3 * n)):
+            yield n, 2, entries, far_places(dice, room1), places(dice, room2)
 
 
 CASES = {
@@ -1194,6 +1390,7 @@ CASES = {
     "two_costs": two_costs_cases,
     "two_fields": two_fields_cases,
     "refusal_text": refusal_text_cases,
+    "consensus": consensus_cases,
 }
 
 
@@ -1210,6 +1407,12 @@ def line_of(arguments):
     return " ".join(map(str, numbers))
 
 
+def longest_slice(name, kind):
+    if kind in ("8", "8*"):
+        return LONGEST_READ if name in READER else LONGEST_BYTES
+    return LONGEST_TEAM if name == "consensus" and kind == "32" else LONGEST_SLICE
+
+
 def check_arguments(name, arguments):
     """Every number fits its type, and no slice is too long."""
     kinds = CALLS[name][1].split()
@@ -1219,8 +1422,7 @@ def check_arguments(name, arguments):
             assert 0 <= argument < 2 ** 64, (name, argument)
         else:
             bits = int(kind.rstrip("*"))
-            longest = LONGEST_SLICE if bits > 8 else LONGEST_READ if name in READER else LONGEST_BYTES
-            assert len(argument) <= longest, (name, len(argument))
+            assert len(argument) <= longest_slice(name, kind), (name, len(argument))
             most = 2 ** bits
             assert all(0 <= element < most for element in argument), (name, argument)
 

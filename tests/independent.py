@@ -1,23 +1,24 @@
 #!/usr/bin/env python3
-"""Every public call of document 01, written from its definitions.
+"""Every public call of document 01, and the links that a team shares of document
+02, written from their definitions.
 
 Nothing here is taken from the crates: the words, the orders of checks and the
-numbers are document 01's, and where it leaves a point open, the decision noted
+numbers are the documents', and where they leave a point open, the decision noted
 for the project. The code is as plain as it can be at 64 images.
 
 A call answers a tuple of numbers. The first is 0 where the call accepts, and
 the refusal number where it refuses. A refusal is (number, a, b, c, d), the four
-places with unused ones 0; comparison, batch, choice and the reading of two
-tables put the table's number behind the refusal number: (number, table, a, b, c,
-d). Where a reader stands after a call is the last number, behind a refusal too.
+places with unused ones 0; comparison, consensus, batch, choice and the reading of
+two tables put the table's number behind the refusal number: (number, table, a, b,
+c, d). Where a reader stands after a call is the last number, behind a refusal too.
 
 Slices are lists of numbers. A lent output is a list that an accepted call
 writes into. A refused call alters no list.
 
     python3 tests/independent.py --self-test
 
-runs the settled examples of document 01 and checks of demands 2 and 3 on tables
-drawn from a fixed seed.
+runs the settled examples of document 01, checks of demands 2 and 3 on tables drawn
+from a fixed seed, and what document 02 says of the links that a team shares.
 """
 
 import functools
@@ -30,6 +31,7 @@ if not __debug__:
 
 MOST_ENTRY = 1000000
 MOST_COST = 2000000
+MOST_TABLES = 16
 
 
 # Refusals
@@ -109,6 +111,16 @@ def check_wiring(n, t):
     four = first_failing_four(n, tuple(t))
     if four is not None:
         refuse(7, *four)
+
+
+def check_table_count(number):
+    if number < 1 or number > MOST_TABLES:
+        refuse(16)
+
+
+def check_joined_length(n, number, tables):
+    if len(tables) != number * n * n:
+        refuse(2)
 
 
 def check_image(n, image):
@@ -542,6 +554,30 @@ def compare(n, first, second):
     return 0, len(one), len(two), len(one & two), len(one ^ two), over
 
 
+def tree_of(n, t):
+    """The doubled cost of each far side of a table that is read exactly, with the checks
+    4, 5, 6, 7."""
+    check_entries(n, t)
+    check_wiring(n, t)
+    return dict(exact_rows(n, tuple(t)))
+
+
+@call
+def consensus(n, number, tables, fars, costs):
+    """The far sides present in every tree, each with the smallest of its doubled costs."""
+    numbered(0, check_n, n)
+    numbered(0, check_table_count, number)
+    numbered(0, check_joined_length, n, number, tables)
+    numbered(0, check_room, fars, 2 * n - 3)
+    numbered(0, check_room, costs, 2 * n - 3)
+    trees = [numbered(table, tree_of, n, tables[(table - 1) * n * n:table * n * n])
+             for table in range(1, number + 1)]
+    in_all = sorted(far for far in trees[0] if all(far in tree for tree in trees))
+    fars[:len(in_all)] = in_all
+    costs[:len(in_all)] = [min(tree[far] for tree in trees) for far in in_all]
+    return 0, len(in_all)
+
+
 @call
 def write_costs(n, t, out):
     check_n(n)
@@ -599,6 +635,7 @@ SAYINGS = {
     13: ("an own link is missing", "image", "a"),
     14: ("neither table includes the other", None, ""),
     15: ("stored tables of different n", None, ""),
+    16: ("no tables or more than sixteen", None, ""),
 }
 TEXT_BYTES = 192
 
@@ -934,6 +971,13 @@ def read_rows(reader, n, t):
     return list(zip(fars[:count], costs[:count])) if answer[0] == 0 else answer
 
 
+def shared_rows(n, tables):
+    """Rows that these tables share, or the refusal."""
+    def reader(n, joined, fars, costs):
+        return consensus(n, len(tables), joined, fars, costs)
+    return read_rows(reader, n, sum(tables, []))
+
+
 def is_link_table(n, rows):
     fars, costs = [far for far, _ in rows], [cost for _, cost in rows]
     return path(n, len(rows), fars, costs, 1, 1) == (0, 0)
@@ -1138,6 +1182,104 @@ def test_comparison(dice):
                 0, len(inner1), len(inner2), len(common), count, max(2 * n - 6, 1))
 
 
+def test_consensus_examples():
+    """The settled examples alone and together, and the refusals that are no table's."""
+    for name in EXAMPLES:
+        n, t = example(name)
+        if name in NOT_EXACT:
+            number, *four = NOT_EXACT[name]
+            good = example({3: "A", 4: "E"}[n])[1]
+            for before in range(16):
+                tables = [good] * before + [t] * (16 - before)
+                assert shared_rows(n, tables) == (number, before + 1, *four)
+        else:
+            for number in (1, 2, 16):
+                assert shared_rows(n, [t] * number) == MEASURED[name]
+    a, b, d = [example(name)[1] for name in "ABD"]
+    assert shared_rows(3, [a, d]) == [(2, 1), (4, 1), (6, 0)] == shared_rows(3, [d, a])
+    assert shared_rows(3, [a, b, d]) == MEASURED["B"]
+    n, e = example("E")
+    g = example("G")[1]
+    # The inner row 12:4 of E is not in G.
+    assert shared_rows(n, [e, g]) == [(2, 2), (4, 2), (8, 2), (14, 2)] == shared_rows(n, [g, e, e])
+    bad = [2 * MOST_ENTRY] * 9
+    for number in (0, 17, 2 ** 60, 2 ** 64 - 1):
+        assert consensus(2, number, [], [], []) == (1, 0, 2, 0, 0, 0)
+        assert consensus(65, number, bad, [], []) == (1, 0, 65, 0, 0, 0)
+        assert consensus(4, number, [], [], []) == (16, 0, 0, 0, 0, 0)
+        assert consensus(4, number, e, [0] * 5, [0] * 5) == (16, 0, 0, 0, 0, 0)
+    assert consensus(3, 17, a * 17, [0] * 3, [0] * 3) == (16, 0, 0, 0, 0, 0)
+    for number, tables in ((2, bad), (1, bad * 2), (1, bad[:-1]), (16, [])):
+        assert consensus(3, number, tables, [], []) == (2, 0, 0, 0, 0, 0)
+    for room1, room2 in ((2, 3), (3, 2), (0, 0)):
+        assert consensus(3, 1, bad, [0] * room1, [0] * room2) == (3, 0, 0, 0, 0, 0)
+    assert consensus(4, 2, g + g, [0] * 4, [0] * 5) == (3, 0, 0, 0, 0, 0)
+    assert consensus(3, 2, a + bad, [0] * 3, [0] * 3) == (4, 2, 1, 1, 0, 0)
+
+
+def spoilt(n, t, fault):
+    """The table with one fault in its last row, and the refusal that it gets."""
+    t = list(t)
+    if fault == 4:
+        t[-2] = MOST_ENTRY + 1
+        return t, (4, n, n - 1, 0, 0)
+    if fault == 5:
+        t[-1] = 1
+        return t, (5, n, 0, 0, 0)
+    if fault == 6:
+        t[-2] += 1
+        return t, (6, n - 1, n, 0, 0)
+    far = t[n - 2] + t[n - 1] + 1
+    t[-2] = t[-n - 1] = far
+    return t, (7, *first_failing_four(n, tuple(t)))
+
+
+def test_consensus_refusals(dice):
+    """Of two tables that are refused the earlier counts, whatever its refusal is, and
+    the refusal is that of its exact reading."""
+    for n in (3, 4, 6):
+        good = tree_table(n, tree_rows(dice, n, "uneven", 20))
+        for fault, later in itertools.product((4, 5, 6, 7), repeat=2):
+            t, refused = spoilt(n, good, fault)
+            assert read_rows(exact, n, t) == refused
+            for place in range(4):
+                tables = [good] * place + [t, good, spoilt(n, good, later)[0]]
+                assert shared_rows(n, tables) == (refused[0], place + 1) + refused[1:]
+
+
+def test_consensus(dice):
+    """A far side is in it exactly when it is in every tree, with the smallest cost; the
+    order of tables plays no part; one table gives its exact reading; one table more only
+    takes rows away and lowers costs. The rows go through upper rows and storage."""
+    for n in (3, 4, 5, 6, 9, 20, 33):
+        for number in (1, 2, 3, 5, 16):
+            base = tree_rows(dice, n, random_shape(dice), 20)
+            trees = []
+            for _ in range(number):
+                kept = [row for row in base if not is_inner(n, row[0]) or dice.chance(5, 6)]
+                trees.append([(far, 2 * cost + 2 * dice.below(5)) for far, cost in kept])
+            tables = [tree_table(n, rows) for rows in trees]
+            found = shared_rows(n, tables)
+            assert [far for far, _ in found] == [
+                far for far, _ in base if all(far in dict(rows) for rows in trees)]
+            for far, cost in found:
+                costs = [dict(rows)[far] for rows in trees]
+                assert cost in costs and cost <= min(costs)
+            assert found == shared_rows(n, tables[::-1]) == shared_rows(n, dice.mixed(tables))
+            assert is_link_table(n, found)
+            assert shared_rows(n, tables[:1]) == read_rows(exact, n, tables[0])
+            before = dict(trees[0])
+            for more in range(2, number + 1):
+                after = dict(shared_rows(n, tables[:more]))
+                assert all(far in before and cost <= before[far] for far, cost in after.items())
+                before = after
+            fars, costs = [far for far, _ in found], [cost for _, cost in found]
+            uppers = [0] * (2 * n - 3)
+            assert upper_rows(n, len(found), fars, costs, uppers) == (0, len(found))
+            room = len(stored_links(n, fars, costs))
+            assert write_links(n, len(found), fars, costs, [0] * room) == (0, room)
+
+
 def test_routes(dice):
     for n in (3, 4, 5, 9, 33, 64):
         for shape in ("star", "caterpillar", "uneven"):
@@ -1282,7 +1424,8 @@ def self_test():
         (test_all_small_tables, ()), (test_only_one_table, ()), (test_demand_2, (dice,)),
         (test_demand_3, (dice,)), (test_comparison, (dice,)), (test_routes, (dice,)),
         (test_stored_forms, (dice,)), (test_choice, (dice,)), (test_sixty_four, (dice,)),
-        (test_reader_on_a, ()), (test_reader, (dice,)),
+        (test_reader_on_a, ()), (test_reader, (dice,)), (test_consensus_examples, ()),
+        (test_consensus_refusals, (dice,)), (test_consensus, (dice,)),
     ]
     for test, arguments in tests:
         test(*arguments)

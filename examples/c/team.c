@@ -1,6 +1,7 @@
 /*
  * Nine images on an uneven network form a team. Each has its own copy of the table of link costs, reads it exactly, and the trees
- * are compared before the team forms: one copy has two images exchanged, and one was measured and is a little off.
+ * are compared before the team forms: one copy has two images exchanged, and one was measured and is a little off. Then the links
+ * that all trees of a team hold are found.
  */
 #include <stdio.h>
 #include <stdlib.h>
@@ -114,6 +115,23 @@ static void compare_all(void) {
     }
 }
 
+/* The links that all nine share, and those of the eight images that have a tree. Their tables stand joined as they are. */
+static void share(void) {
+    uint64_t fars[ROOM];
+    uint32_t costs[ROOM], out[ROOM];
+    KemotuikiRows r = kemotuiki_consensus(N, N, tables[0], N * N * N, fars, ROOM, costs, ROOM);
+    printf("links that all nine share: ");
+    if (r.number) printf("%s\n", TEXT(r));
+    else printf("%zu rows\n", r.rows);
+    r = kemotuiki_consensus(N, 8, tables[0], 8 * N * N, fars, ROOM, costs, ROOM);
+    NEED(r);
+    printf("links that images 1 to 8 share, each at its smallest cost\n");
+    rows(r.rows, fars, costs);
+    KemotuikiRows route = kemotuiki_route(N, r.rows, fars, r.rows, costs, r.rows, 8, out, ROOM);
+    NEED(route);
+    numbers("route of 8 over them:", route.rows, out);
+}
+
 /* Image 1's tree, its routes and upper rows. */
 static void use_tree(void) {
     uint64_t fars[ROOM];
@@ -193,6 +211,7 @@ int main(void) {
     fill();
     read_exactly();
     compare_all();
+    share();
     use_tree();
     use_table();
     store();

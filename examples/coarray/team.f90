@@ -1,13 +1,15 @@
 ! Nine images form a team, each on its own copy of the table of link costs. Every image reads its table exactly and compares its tree
-! with image 1's; those that draw the same tree form team 1, the others team 2, so that no relay runs over two different trees.
+! with image 1's; those that draw the same tree form team 1, the others team 2, so that no relay runs over two different trees. The
+! relay of team 1 runs over the links that all its tables share: the same rows for every image, with the same costs.
 program team
     use, intrinsic :: iso_fortran_env, only: int64, team_type
-    use kemotuiki, only: kemotuiki_compare, kemotuiki_comparison_answer, kemotuiki_exact, kemotuiki_route, kemotuiki_rows_answer
+    use kemotuiki, only: kemotuiki_compare, kemotuiki_comparison_answer, kemotuiki_consensus, kemotuiki_exact, kemotuiki_route, &
+                         kemotuiki_rows_answer
     use network, only: n, room, table_of
     implicit none
-    integer :: table(n, n)[*], reference(n, n), costs(room), out(room), chosen, members
+    integer :: table(n, n)[*], chosen[*], reference(n, n), tables(n, n, n), costs(room), out(room), members, mates, k
     integer(int64) :: fars(room)
-    type(kemotuiki_rows_answer) :: tree, route
+    type(kemotuiki_rows_answer) :: tree, shared, route
     type(kemotuiki_comparison_answer) :: both
     type(team_type) :: relay
 
@@ -31,13 +33,25 @@ program team
         end if
     end if
 
+    ! The tables of all images that chose team 1.
+    sync all
+    mates = 0
+    do k = 1, n
+        if (chosen[k] /= 1) cycle
+        mates = mates + 1
+        tables(:, :, mates) = table(:, :)[k]
+    end do
+
     form team (chosen, relay)
     change team (relay)
         members = num_images()
     end team
 
     if (chosen == 1) then
-        route = kemotuiki_route(n, fars(:tree%rows), costs(:tree%rows), this_image(), out)
+        shared = kemotuiki_consensus(tables(:, :, :mates), fars, costs)
+        if (.not. shared%accepted()) error stop shared%text()
+        if (this_image() == 1) print '(2(a, i0), a)', 'the team of ', members, ' shares ', shared%rows, ' links'
+        route = kemotuiki_route(n, fars(:shared%rows), costs(:shared%rows), this_image(), out)
         if (.not. route%accepted()) error stop route%text()
         print '(2(a, i0), a, *(1x, i0))', 'image ', this_image(), ' in a team of ', members, ', route', out(:route%rows)
     end if

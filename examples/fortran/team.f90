@@ -1,5 +1,6 @@
 ! Nine images on an uneven network form a team. Each has its own copy of the table of link costs, reads it exactly, and the trees
-! are compared before the team forms: one copy has two images exchanged, and one was measured and is a little off.
+! are compared before the team forms: one copy has two images exchanged, and one was measured and is a little off. Then the links
+! that all trees of a team hold are found.
 program team
     use, intrinsic :: iso_fortran_env, only: int8, int64
     use kemotuiki
@@ -12,6 +13,7 @@ program team
     end do
     call read_exactly()
     call compare_all()
+    call share()
     call use_tree()
     call store()
     call choose()
@@ -64,6 +66,26 @@ contains
                 print '(a, i0, a)', 'image ', k, ': the same tree'
             end if
         end do
+    end subroutine
+
+    ! The links that all nine share, and those of the eight images that have a tree.
+    subroutine share()
+        integer(int64) :: fars(room)
+        integer :: costs(room), out(room)
+        type(kemotuiki_rows_answer) :: r, route
+        r = kemotuiki_consensus(tables, fars, costs)
+        if (r%accepted()) then
+            print '(a, i0, a)', 'links that all nine share: ', r%rows, ' rows'
+        else
+            print '(2a)', 'links that all nine share: ', r%text()
+        end if
+        r = kemotuiki_consensus(tables(:, :, :8), fars, costs)
+        call require(r)
+        print '(a)', 'links that images 1 to 8 share, each at its smallest cost'
+        call print_rows(fars(:r%rows), costs(:r%rows))
+        route = kemotuiki_route(n, fars(:r%rows), costs(:r%rows), 8, out)
+        call require(route)
+        print '(a, *(1x, i0))', 'route of 8 over them:', out(:route%rows)
     end subroutine
 
     subroutine use_tree()

@@ -7,6 +7,7 @@ mod choice_cases;
 mod cost_cases;
 mod link_cases;
 mod reader_cases;
+mod team_cases;
 mod text_cases;
 
 use libc::STDOUT_FILENO;
@@ -30,6 +31,9 @@ fn one_case(call: u32, text: &[u8], at: usize) -> usize {
     }
     if call == calls::REFUSAL_TEXT {
         return text_cases::text_case(text, at);
+    }
+    if call == calls::CONSENSUS {
+        return team_cases::team_case(text, at);
     }
     reader_cases::reader_case(call, text, at)
 }
@@ -80,4 +84,5 @@ fn main() {
     run(calls::TWO_COSTS, b"two_costs", b"two_costs.txt");
     run(calls::TWO_FIELDS, b"two_fields", b"two_fields.txt");
     run(calls::REFUSAL_TEXT, b"refusal_text", b"refusal_text.txt");
+    run(calls::CONSENSUS, b"consensus", b"consensus.txt");
 }

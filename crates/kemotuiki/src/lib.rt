@@ -18,6 +18,7 @@ ghost use Rattle.order.specs.Outcome.{orderOutcome};
 ghost use Rattle.tree.specs.Readings.{measuredOutcome, exactOutcome};
 ghost use Rattle.routes.specs.Outcomes.{pathOutcome, upperOutcome, routeOutcome};
 ghost use Rattle.compare.specs.Call.{comparison};
+ghost use Rattle.consensus.specs.Call.{consensusOutcome};
 ghost use Rattle.cost_writer.specs.Writing as costs-writing;
 ghost use Rattle.stored_costs.specs.Outcomes as costs-reading;
 ghost use Rattle.link_writer.specs.Writing as links-writing;
@@ -25,7 +26,7 @@ ghost use Rattle.stored_links.specs.Outcomes as links-reading;
 ghost use Rattle.batch.specs.Batch.{batchOutcome};
 ghost use Rattle.choice.specs.Call.{choiceOf};
 ghost use Rattle.refusal_text.specs.Text.{refusalTextOutcome};
-ghost use Rattle.numbers.specs.Numbers.{ofIndex, ofOrder, ofRows, ofPath, ofComparison};
+ghost use Rattle.numbers.specs.Numbers.{ofIndex, ofOrder, ofRows, ofPath, ofComparison, ofShared};
 ghost use Rattle.numbers.specs.Stored.{ofBytes, ofBatched, ofCosts, ofLinks, ofChosen};
 ghost use Rattle.kemotuiki.specs.Crossing.{crossed, crossedRows};
 ghost use Rattle.stored_costs.specs.Form.{oldCosts};
@@ -131,6 +132,21 @@ pub extern "C" fn kemotuiki_compare(n: usize, first: &[u32], second: &[u32]) -> 
     ensures { λ r. ⌜ r ≡ ofComparison (comparison limit n (now (first .entry)) (now (second .entry))) ⌝ }
 {
     numbers::of_comparison(compare::compare(n, first, second))
+}
+
+// The links that a team shares.
+#[no_mangle]
+pub extern "C" fn kemotuiki_consensus(
+    n: usize,
+    number: usize,
+    tables: &[u32],
+    fars: &mut [u64],
+    costs: &mut [u32],
+) -> KemotuikiRows
+    ensures { λ r. ⌜ LeftRows (crossedRows ofShared (consensusOutcome limit n number (now (tables .entry)) (now (fars .entry)) (now (costs .entry)))) r
+        (now (fars .exit)) (now (costs .exit)) ⌝ }
+{
+    numbers::of_shared(consensus::consensus(n, number, tables, fars, costs))
 }
 
 // A cost table stored.

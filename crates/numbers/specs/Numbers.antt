@@ -6,6 +6,8 @@ use Rattle.ground.specs.declared.Written.{Written}
 use Rattle.ground.specs.declared.Written.the-variants.{Places}
 use Rattle.compare.specs.declared.Comparison.{Comparison}
 use Rattle.compare.specs.declared.Comparison.the-variants.{Compared}
+use Rattle.consensus.specs.declared.Shared.{Shared}
+use Rattle.consensus.specs.declared.Shared.the-variants.{Rows}
 use Rattle.numbers.specs.Heads.{accepted, refused}
 use Rattle.numbers.specs.declared.KemotuikiComparison.{KemotuikiComparison}
 use Rattle.numbers.specs.declared.KemotuikiIndex.{KemotuikiIndex}
@@ -15,6 +17,7 @@ use Rattle.numbers.specs.declared.KemotuikiRows.{KemotuikiRows}
 use Rattle.ground.specs.declared.Answer.the-variants as answer
 use Rattle.ground.specs.declared.Written.the-variants as written
 use Rattle.compare.specs.declared.Comparison.the-variants as compared
+use Rattle.consensus.specs.declared.Shared.the-variants as shared
 
 -- the index
 abbrev pub ofIndex : Answer → KemotuikiIndex
@@ -48,3 +51,8 @@ ofComparison (Compared w) = record {
 }
 ofComparison (compared.Refused m r) =
     record { head = refused m r; «inner_first» = 0; «inner_second» = 0; common = 0; count = 0; over = 0 }
+
+-- the rows that a team shares
+abbrev pub ofShared : Shared → KemotuikiRows
+ofShared (Rows m) = record { head = accepted; rows = m }
+ofShared (shared.Refused m r) = record { head = refused m r; rows = 0 }

@@ -3,6 +3,7 @@
 use batch::Batched;
 use choice::Chosen;
 use compare::Comparison;
+use consensus::Shared;
 use ground::Answer;
 use ground::Refusal;
 use ground::Written;
@@ -10,7 +11,7 @@ use stored_costs::StoredCosts;
 use stored_links::StoredLinks;
 ghost use mathlib.Core.Path.{_≡_};
 ghost use Rattle.numbers.specs.Heads.{accepted, refused};
-ghost use Rattle.numbers.specs.Numbers.{ofIndex, ofOrder, ofRows, ofPath, ofComparison};
+ghost use Rattle.numbers.specs.Numbers.{ofIndex, ofOrder, ofRows, ofPath, ofComparison, ofShared};
 ghost use Rattle.numbers.specs.Stored.{ofBytes, ofBatched, ofCosts, ofLinks, ofChosen};
 
 // The refusal's number, 0 where the call was accepted; the table that was refused, where a call takes more than one; the refusal's places.
@@ -208,6 +209,22 @@ pub fn of_comparison(x: Comparison) -> KemotuikiComparison
             common: 0,
             count: 0,
             over: 0,
+        },
+    }
+}
+
+// The numbers of the rows that a team shares.
+pub fn of_shared(x: Shared) -> KemotuikiRows
+    ensures { λ r. ⌜ r ≡ ofShared x ⌝ }
+{
+    match x {
+        Shared::Rows(rows) => KemotuikiRows {
+            head: accept(),
+            rows,
+        },
+        Shared::Refused(table, r) => KemotuikiRows {
+            head: refuse(table, r),
+            rows: 0,
         },
     }
 }

@@ -28,6 +28,10 @@ pub bad-far-side : refusalText 12 0 0 0 0 0 ≡ bytesOf "bad far side or bad row
 unfolding refusalText aboutTable saidOf sayingText sayingIn firstSayings furtherSayings bytesOf fields
 bad-far-side = refl
 
+pub bad-table-count : refusalText 16 0 0 0 0 0 ≡ bytesOf "no tables or more than sixteen"
+unfolding refusalText aboutTable saidOf sayingText sayingIn firstSayings furtherSayings bytesOf fields
+bad-table-count = refl
+
 pub no-such : refusalText 99 0 1 2 3 4 ≡ bytesOf "no such refusal: number 99"
 unfolding refusalText aboutTable saidOf sayingText sayingIn firstSayings furtherSayings bytesOf fields field decimal digits
 no-such = refl

@@ -31,7 +31,7 @@ firstSayings a b c d =
 abbrev pub badRow : ℕ → Saying
 badRow a = says 12 (cond (eqb a 0) "bad far side or bad row" "bad far side or bad row: row") (cond (eqb a 0) [] (a ∷ []))
 
--- 8 to 15
+-- 8 to 16
 unfoldable pub furtherSayings : ℕ → List Saying
 furtherSayings a =
     says 8 "image outside 1..n, or first and last the same" []
@@ -42,6 +42,7 @@ furtherSayings a =
     ∷ says 13 "an own link is missing: image" (a ∷ [])
     ∷ says 14 "neither table includes the other" []
     ∷ says 15 "stored tables of different n" []
+    ∷ says 16 "no tables or more than sixteen" []
     ∷ []
 
 -- all of them

@@ -74,6 +74,7 @@ fn put_further(out: &mut [u8], at: usize, number: usize, a: usize) -> usize
         13 => put_one(out, at, b"an own link is missing: image", a),
         14 => text::put_word(out, at, b"neither table includes the other"),
         15 => text::put_word(out, at, b"stored tables of different n"),
+        16 => text::put_word(out, at, b"no tables or more than sixteen"),
         _ => put_one(out, at, b"no such refusal: number", number),
     }
 }

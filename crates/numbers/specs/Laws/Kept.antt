@@ -14,9 +14,11 @@ use Rattle.ground.specs.declared.Written.{Written}
 use Rattle.ground.specs.declared.Written.the-variants.{Places}
 use Rattle.compare.specs.declared.Comparison.{Comparison}
 use Rattle.compare.specs.declared.Comparison.the-variants.{Compared}
+use Rattle.consensus.specs.declared.Shared.{Shared}
+use Rattle.consensus.specs.declared.Shared.the-variants.{Rows}
 use Rattle.numbers.specs.Heads.{refused}
 use Rattle.numbers.specs.Kept.{Kept, Numbered}
-use Rattle.numbers.specs.Numbers.{ofComparison, ofIndex, ofOrder, ofPath, ofRows}
+use Rattle.numbers.specs.Numbers.{ofComparison, ofIndex, ofOrder, ofPath, ofRows, ofShared}
 use Rattle.numbers.specs.declared.KemotuikiComparison.{KemotuikiComparison}
 use Rattle.numbers.specs.declared.KemotuikiHead.{KemotuikiHead}
 use Rattle.numbers.specs.declared.KemotuikiIndex.{KemotuikiIndex}
@@ -26,6 +28,7 @@ use Rattle.numbers.specs.declared.KemotuikiRows.{KemotuikiRows}
 use Rattle.ground.specs.declared.Answer.the-variants as answer
 use Rattle.ground.specs.declared.Written.the-variants as written
 use Rattle.compare.specs.declared.Comparison.the-variants as compared
+use Rattle.consensus.specs.declared.Shared.the-variants as shared
 
 -- the refusal
 abbrev refusalOf : KemotuikiHead → Refusal
@@ -98,3 +101,10 @@ comparison-kept = kept _ ofComparison compared.Refused differs (λ m q. refl) ea
     each : (x : Comparison) → ReadBack (λ (k : KemotuikiComparison). k .head) ofComparison compared.Refused differs x
     each (Compared w) = inr (refl, refl)
     each (compared.Refused m q) = inl (m, q, refl, refl)
+
+pub shared-kept : Kept (λ (k : KemotuikiRows). k .head) ofShared shared.Refused
+shared-kept = kept _ ofShared shared.Refused (λ k. Rows (k .rows)) (λ m q. refl) each
+  where
+    each : (x : Shared) → ReadBack (λ (k : KemotuikiRows). k .head) ofShared shared.Refused (λ k. Rows (k .rows)) x
+    each (Rows m) = inr (refl, refl)
+    each (shared.Refused m q) = inl (m, q, refl, refl)

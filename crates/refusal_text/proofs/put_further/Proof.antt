@@ -42,9 +42,14 @@ returns-8 c = rw (c .before .before .before .before .before .match .keys8) (c .b
 
 returns-9 : tie.Need-returns-9
 unfolding sayingText sayingIn furtherSayings bytesOf fields
-returns-9 c =
+returns-9 c = rw (c .before .before .before .before .before .match .keys9) (c .before .before .put-word6 .ensures)
+
+returns-10 : tie.Need-returns-10
+unfolding sayingText sayingIn furtherSayings bytesOf fields
+returns-10 c =
     let m = c .before .before .before .before .before .match .rest in
     rw (
+      ne-eqb _ _ (m .0 .0 .0 .0 .0 .0 .0 .0 .1),
       ne-eqb _ _ (m .0 .0 .0 .0 .0 .0 .0 .1),
       ne-eqb _ _ (m .0 .0 .0 .0 .0 .0 .1),
       ne-eqb _ _ (m .0 .0 .0 .0 .0 .1),
@@ -70,6 +75,7 @@ put-further-spec =
     (λ c. search needs) (λ c κs. search needs)
     (λ c. search needs) (λ c κs. search needs)
     (λ c. search needs) (λ c κs. search needs)
+    (λ c. search needs) (λ c κs. search needs)
     (λ c. search needs) returns
     (λ c. search needs) returns-2
     (λ c. search needs) returns-3
@@ -78,4 +84,5 @@ put-further-spec =
     (λ c. search needs) returns-6
     (λ c. search needs) returns-7
     (λ c. search needs) returns-8
-    (λ c. search needs) returns-9)
+    (λ c. search needs) returns-9
+    (λ c. search needs) returns-10)
