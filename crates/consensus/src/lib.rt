@@ -10,7 +10,7 @@ ghost use Rattle.ground.specs.Ascending.{Between};
 ghost use Rattle.theory.specs.Outcomes.{LeftRows};
 ghost use Rattle.theory.specs.Tables.{limit};
 ghost use Rattle.consensus.specs.Call.{consensusOutcome, joinedCheck, leaving, numberCheck, teamAnswer, teamCheck};
-ghost use Rattle.consensus.specs.Merge.{Met, metCost, oneSame};
+ghost use Rattle.consensus.specs.Merge.{Met, RowKept, metCost, oneSame};
 ghost use Rattle.consensus.specs.Taking.{Shares, Taken, TreeRead};
 ghost use Rattle.consensus.specs.Team.{Joined, sharedLinks, tableAt, tablesIn};
 
@@ -35,9 +35,21 @@ fn met_cost(x: u64, y: u64, c: u32, e: u32) -> u32
     if x == y { ground::lower(c, e) } else { c }
 }
 
+// Row i stored at the place `at`, with the smaller cost where the other tree has its far side, y, at the cost e; the number of rows kept
+// goes on if it has.
+fn keep_row(i: usize, y: u64, e: u32, at: usize, fars: &mut [u64], costs: &mut [u32]) -> usize
+    requires { ⌜ (at ≤ i) × (i < length (now fars)) × (i < length (now costs)) ⌝ }
+    ensures { λ r. ⌜ RowKept i y e at (now (fars .entry)) (now (costs .entry)) r (now (fars .exit)) (now (costs .exit)) ⌝ }
+{
+    let x = fars[i];
+    costs[at] = met_cost(x, y, costs[i], e);
+    fars[at] = x;
+    at + one_same(x, y)
+}
+
 // Of the first `count` rows those that the tree f, v has too, each with the smaller cost, in the first places; how many they are. One
-// merge: of the two rows in front the one with the lesser far side is left behind, both where they are the same. Each turn stores a
-// row, never behind the one that it read, and the number of rows goes on where the two are the same.
+// merge: of the two rows in front the one with the lesser far side is left behind, both where they are the same. No row is stored behind
+// the one that is read.
 fn meet(count: usize, fars: &mut [u64], costs: &mut [u32], f: &[u64], v: &[u32]) -> usize
     requires { ⌜ Between 1 (take count (now fars)) (2 ^ 64) × Between 1 (now f) (2 ^ 64) × (length (now v) ≡ length (now f))
         × (count ≤ length (now fars)) × (count ≤ length (now costs)) ⌝ }
@@ -49,9 +61,7 @@ fn meet(count: usize, fars: &mut [u64], costs: &mut [u32], f: &[u64], v: &[u32])
     while i < count && j < f.len() {
         let x = fars[i];
         let y = f[j];
-        costs[at] = met_cost(x, y, costs[i], v[j]);
-        fars[at] = x;
-        at += one_same(x, y);
+        at = keep_row(i, y, v[j], at, fars, costs);
         i += ground::advance(x, y);
         j += ground::advance(y, x);
     }

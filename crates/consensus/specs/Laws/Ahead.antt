@@ -4,7 +4,7 @@ use mathlib.Core.Path.{ap, refl, sym, _∙_, _≡_}
 use Prim.Native.Nat.{min, suc, ℕ, _+_, _<_, _≤_}
 use native.Mathlib.Omega.{arith}
 use lib.Dec.{eqb}
-use lib.ListN.{drop, drop-of-length-le, getD, length, set, take}
+use lib.ListN.{drop, drop-of-length-le, getD, length, take}
 use lib.Seq.{getD-take, length-take-le}
 use Rattle.ground.specs.Ascending.{Between}
 use Rattle.ground.specs.Filters.{keep}
@@ -12,9 +12,9 @@ use Rattle.ground.specs.Merges.{advance}
 use Rattle.theory.specs.LinkTables.{fars, rowsOf}
 use Rattle.tree.specs.Writing.{rowsLeft}
 use Rattle.consensus.specs.Laws.Merge.{meet-none, merge-turn}
-use Rattle.consensus.specs.Laws.Turns.{ascends, kept-turn, met-stays, rest-cons, rest-drop, rest-fars, restRows, same-at, stay}
+use Rattle.consensus.specs.Laws.Turns.{ascends, kept-turn, met-stays, rest-cons, rest-drop, rest-fars, restRows, same-advance, same-at, stay}
 use Rattle.consensus.specs.Meet.{meet}
-use Rattle.consensus.specs.Merge.{Met, metCost, oneSame}
+use Rattle.consensus.specs.Merge.{Met, RowKept}
 
 -- ## One turn, over the rows f, v and g, w
 
@@ -34,6 +34,10 @@ module _ (k : ℕ) (f v g w : List ℕ) (a : Between 1 f k) (b : Between 1 g k) 
       rw (rest-drop i (advance x y) f v ev, rest-drop j (advance y x) g w ew, r, q)
       (sym (merge-turn k (x, getD v i 0) (y, getD w j 0) (restRows (suc i) f v) (restRows (suc j) g w) p t))
 
+-- a turn keeps no more rows than it goes in the rows held
+pub kept-count : (i y e at : ℕ) (f v : List ℕ) (r : ℕ) (f′ v′ : List ℕ) {s : ℕ} → RowKept i y e at f v r f′ v′ → s ≡ advance (getD f i 0) y → at ≤ i → r ≤ i + s
+kept-count i y e at f v r f′ v′ q es h = omega (arith, q .count, same-advance (getD f i 0) y)
+
 -- ## The loop, over the first c rows of f, v and all of g, w
 
 module _ (c : ℕ) (f v g w : List ℕ) where
@@ -48,11 +52,10 @@ module _ (c : ℕ) (f v g w : List ℕ) where
   ahead-all = record { all = refl; far-rest = refl; cost-rest = refl }
 
   module _ (k : ℕ) (a : Between 1 (take c f) k) (b : Between 1 g k) (e : length w ≡ length g) (hf : c ≤ length f) (hv : c ≤ length v) where
-    pub ahead-turn : (f′ v′ : List ℕ) (at i j : ℕ) {p o s u : ℕ} → Ahead f′ v′ at i j → i < c → j < length g → at ≤ i → length f′ ≡ length f
-        → length v′ ≡ length v → p ≡ metCost (getD f′ i 0) (getD g j 0) (getD v′ i 0) (getD w j 0) → o ≡ oneSame (getD f′ i 0) (getD g j 0)
-        → s ≡ advance (getD f′ i 0) (getD g j 0) → u ≡ advance (getD g j 0) (getD f′ i 0)
-        → Ahead (set f′ at (getD f′ i 0)) (set v′ at p) (at + o) (i + s) (j + u)
-    ahead-turn f′ v′ at i j h hi hj ha lf lv ep eo es eu =
+    pub ahead-turn : (f′ v′ f″ v″ : List ℕ) (at i j : ℕ) {r s u : ℕ} → Ahead f′ v′ at i j → i < c → j < length g → at ≤ i → length f′ ≡ length f
+        → length v′ ≡ length v → RowKept i (getD g j 0) (getD w j 0) at f′ v′ r f″ v″ → s ≡ advance (getD f′ i 0) (getD g j 0)
+        → u ≡ advance (getD g j 0) (getD f′ i 0) → Ahead f″ v″ r (i + s) (j + u)
+    ahead-turn f′ v′ f″ v″ at i j {s = s} h hi hj ha lf lv q es eu =
         let x = getD f′ i 0 in
         let y = getD g j 0 in
         let ex : getD (take c f) i 0 ≡ x = getD-take c f i 0 hi ∙ sym (same-at i f′ f (h .far-rest)) in
@@ -62,10 +65,10 @@ module _ (c : ℕ) (f v g w : List ℕ) where
         let z = ahead-front k (take c f) (take c v) g w a b (m ∙ sym l) e i j (omega arith) hj in
         record {
           all =
-              rw (ep, eo, es, eu, kept-turn at f′ v′ x y (getD v′ i 0) (getD w j 0) (omega arith) (omega arith), append-assoc)
+              rw (q .count, q .fars, q .costs, es, eu, kept-turn at f′ v′ x y (getD v′ i 0) (getD w j 0) (omega arith) (omega arith), append-assoc)
               (ap (λ r. rowsLeft at f′ v′ ++ r) (rw (ex, ev) at z) ∙ h .all);
-          far-rest = stay f′ f at i _ x (h .far-rest) ha (λ q. refl);
-          cost-rest = stay v′ v at i _ _ (h .cost-rest) ha (λ q. ep ∙ met-stays x y (getD v′ i 0) (getD w j 0) (sym es ∙ q));
+          far-rest = rw (q .fars) (stay f′ f at i s x (h .far-rest) ha (λ o. refl));
+          cost-rest = rw (q .costs) (stay v′ v at i s _ (h .cost-rest) ha (λ o. met-stays x y (getD v′ i 0) (getD w j 0) (sym es ∙ o)));
         }
 
   -- the two ways out
