@@ -17,7 +17,7 @@ use Rattle.theory.specs.LinkTables.{Row}
 use Rattle.theory.specs.Outcomes.{LeftRows}
 use Rattle.tree.specs.Exact.{Wired, treeCheck}
 use Rattle.consensus.specs.Call.{consensusOutcome, leaving, numbered, tableByTable, teamAnswer, teamCheck}
-use Rattle.consensus.specs.InOrder.{leaving-answer}
+use Rattle.consensus.specs.InOrder.{consensus-answers}
 use Rattle.consensus.specs.Laws.Left.{consensus-accepted, consensus-reads}
 use Rattle.consensus.specs.Team.{TeamReady, sharedLinks, tableAt, tablesIn}
 use Rattle.consensus.specs.declared.Shared.{Shared}
@@ -73,16 +73,16 @@ module _ (L n m : ℕ) (t f v : List ℕ) where
   -- accepted exactly when one to sixteen tables over 3 to 64 images are joined, there is room, and some wiring gives each of them
   pub consensus-exactly : ((r : ℕ) × (consensusOutcome L n m t f v .answer ≡ Rows r)) ↔ (TeamReady n m t (length f) (length v) × Each (tablesIn n m t) (Wired L n))
   consensus-exactly = (
-    λ p. consensus-accepted L n m t f v (p .0) (sym (leaving-answer (numbered 0 (teamCheck n m t (length f) (length v)) (teamAnswer L n m t)) _ f v) ∙ p .1),
+    λ p. consensus-accepted L n m t f v (p .0) (sym (consensus-answers L n m t f v) ∙ p .1),
     λ p. (
       length (sharedLinks L n (tablesIn n m t)),
-      leaving-answer (numbered 0 (teamCheck n m t (length f) (length v)) (teamAnswer L n m t)) _ f v ∙ consensus-reads L n m t f v (p .0) (p .1),
+      consensus-answers L n m t f v ∙ consensus-reads L n m t f v (p .0) (p .1),
     ),
   )
 
   pub consensus-refused : (j : ℕ) (q : Refusal) → consensusOutcome L n m t f v .answer ≡ Refused j q → FirstRefusal L n m t (length f) (length v) j q
   consensus-refused j q e =
-      go (teamCheck n m t (length f) (length v)) refl (sym (leaving-answer (numbered 0 (teamCheck n m t (length f) (length v)) (teamAnswer L n m t)) _ f v) ∙ e)
+      go (teamCheck n m t (length f) (length v)) refl (sym (consensus-answers L n m t f v) ∙ e)
     where
       go : (c : Check) → teamCheck n m t (length f) (length v) ≡ c → numbered 0 c (teamAnswer L n m t) ≡ Refused j q → FirstRefusal L n m t (length f) (length v) j q
       go (check.Refused p) s e = of-team (number-same e) (s ∙ ap check.Refused (refusal-same e))

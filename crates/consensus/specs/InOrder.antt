@@ -57,10 +57,15 @@ pub consensus-decides : (L n m : ℕ) (t : List ℕ) (f v : ℕ)
 consensus-decides L n m t f v =
     decides-next Refused 0 (team-order n m t f v) (from-decides L n t 0 m (Rows (length (sharedLinks L n (tablesIn n m t)))))
 
--- the outcome's answer is the one that its first line names
-pub leaving-answer : (x : Shared) (T : List Row) (f v : List ℕ) → leaving x T f v .answer ≡ x
+leaving-answer : (x : Shared) (T : List Row) (f v : List ℕ) → leaving x T f v .answer ≡ x
 leaving-answer (Rows r) T f v = refl
 leaving-answer (Refused k q) T f v = refl
+
+-- it is the answer of the outcome
+pub consensus-answers : (L n m : ℕ) (t f v : List ℕ)
+    → consensusOutcome L n m t f v .answer ≡ numbered 0 (teamCheck n m t (length f) (length v)) (teamAnswer L n m t)
+consensus-answers L n m t f v =
+    leaving-answer (numbered 0 (teamCheck n m t (length f) (length v)) (teamAnswer L n m t)) (sharedLinks L n (tablesIn n m t)) f v
 
 -- a refused call leaves the lent slices as they were
 pub consensus-unaltered : (L n m : ℕ) (t f v : List ℕ) (s : Step) (q : Refusal) → FirstRefused (consensusSteps L n m t (length f) (length v)) s q

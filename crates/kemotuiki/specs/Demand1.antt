@@ -1,14 +1,15 @@
 -- Demand 1, call by call: "Each call takes every possible argument and ends. Bad counts, short buffers, entries out of range and damaged stored
 -- tables are refused by a fixed number in a fixed order, and a refused call alters no place in a lent buffer." Here are the calls of src/lib.rt
 -- over cost tables and link tables; those over stored tables are in Demand1Stored.antt. No call has a `requires`: each takes every argument
--- and ends. `Refusals` says the rest of what its contract promises, in this order: the numbers that the call refuses by, as document 01 lists
--- them, with the table's number in front, 0 where there is one table; the steps, which name the check of each number (specs/InOrder.antt of the
+-- and ends. `Refusals` says the rest of what its contract promises, in this order: the numbers that the call refuses by, as documents 01 and 02
+-- list them, with the table's number in front, 0 where there is one table; the steps, which name the check of each number (specs/InOrder.antt of the
 -- call's crate); the head of the answer; the lent buffers before the call; and after it. Assumes nothing.
 use mathlib.Core.List.{List, [], _++_, _∷_}
-use mathlib.Core.Path.{refl, _≡_}
+use mathlib.Core.Path.{ap, ap₂, refl, _∙_, _≡_}
 use Prim.Native.Nat.{ℕ}
 use lib.ListN.{length}
 use Rattle.ground.specs.Outcomes.{Left}
+use Rattle.ground.specs.Ranges.{from, gather}
 use Rattle.ground.specs.Steps.{ofTable}
 use Rattle.theory.specs.Outcomes.{LeftRows}
 use Rattle.theory.specs.Tables.{limit}
@@ -23,7 +24,9 @@ use Rattle.tree.specs.InOrder.{exact-order, exactSteps, measured-order, measure
 use Rattle.tree.specs.Readings.{exactCheck, exactOutcome, measuredCheck, measuredOutcome}
 use Rattle.compare.specs.Call.{comparison}
 use Rattle.compare.specs.InOrder.{compare-decides, compareSteps}
-use Rattle.numbers.specs.Numbers.{ofComparison, ofIndex, ofOrder, ofPath, ofRows}
+use Rattle.consensus.specs.Call.{consensusOutcome}
+use Rattle.consensus.specs.InOrder.{consensus-answers, consensus-decides, consensus-numbers, consensus-unaltered, consensusSteps}
+use Rattle.numbers.specs.Numbers.{ofComparison, ofIndex, ofOrder, ofPath, ofRows, ofShared}
 use Rattle.numbers.specs.declared.KemotuikiComparison.{KemotuikiComparison}
 use Rattle.numbers.specs.declared.KemotuikiIndex.{KemotuikiIndex}
 use Rattle.numbers.specs.declared.KemotuikiOrder.{KemotuikiOrder}
@@ -35,6 +38,7 @@ use Rattle.kemotuiki.specs.Refusals.{Refusals}
 use Rattle.ground.specs.declared.Answer.the-variants as answer
 use Rattle.ground.specs.declared.Written.the-variants as written
 use Rattle.compare.specs.declared.Comparison.the-variants as compared
+use Rattle.consensus.specs.declared.Shared.the-variants as shared
 
 -- ## Cost tables
 
@@ -71,6 +75,15 @@ pub compare : (n : ℕ) (t u : List ℕ) (r : KemotuikiComparison) → r ≡ ofC
 compare n t u r e =
     refusals (λ (k : KemotuikiComparison). k .head) ofComparison compared.Refused (λ m q. refl) refl refl (compare-decides limit n t u) e
     (λ s q f. refl)
+
+-- 1, 16, 2, 3 with number 0, then each table's with its own
+pub consensus : (n m : ℕ) (t f v f′ v′ : List ℕ) (r : KemotuikiRows) → LeftRows (crossedRows ofShared (consensusOutcome limit n m t f v)) r f′ v′
+    → Refusals (ofTable 0 (1 ∷ 16 ∷ 2 ∷ 3 ∷ []) ++ gather (from 1 m) (λ k. ofTable k (4 ∷ 5 ∷ 6 ∷ 7 ∷ [])))
+    (consensusSteps limit n m t (length f) (length v)) (r .head) (f ∷ v ∷ []) (f′ ∷ v′ ∷ [])
+consensus n m t f v f′ v′ r p =
+    refusals (λ (k : KemotuikiRows). k .head) ofShared shared.Refused (λ k q. refl) (consensus-numbers limit n m t (length f) (length v)) refl
+    (consensus-decides limit n m t (length f) (length v)) (p .answered ∙ ap ofShared (consensus-answers limit n m t f v))
+    (λ s q e. let u = consensus-unaltered limit n m t f v s q e in ap₂ (λ (g x : List ℕ). g ∷ x ∷ []) (p .far-sides ∙ u .0) (p .doubled ∙ u .1))
 
 -- ## Link tables
 

@@ -1,0 +1,83 @@
+-- What the two readings and the consensus leave goes on as it stands: path costs, upper rows, routes and storage take the rows from the front
+-- of the two slices, f′ and v′ after f and v. Assumes nothing.
+use mathlib.Core.List.{List}
+use mathlib.Core.Path.{ap, subst, sym, _∙_, _≡_}
+use Prim.Native.Nat.{ℕ, _*_, _-_, _≤_}
+use native.Mathlib.Omega.{arith}
+use lib.ListN.{length, length-take, take}
+use Rattle.ground.specs.declared.Check.the-variants.{Passed}
+use Rattle.ground.specs.declared.Written.the-variants.{Places}
+use Rattle.theory.specs.Laws.JoinedRows.{rowsOf-most}
+use Rattle.theory.specs.LinkTables.{LinkTable, Row}
+use Rattle.theory.specs.Outcomes.{LeftRows}
+use Rattle.theory.specs.Tables.{limit}
+use Rattle.links.specs.Links.{Links}
+use Rattle.routes.specs.Orders.{pathChecks, routeChecks, upperChecks}
+use Rattle.routes.specs.Promises.{path-accepted, route-accepted, upper-accepted}
+use Rattle.stored_links.specs.Form.{linkUsed, oldLinks}
+use Rattle.stored_links.specs.Outcomes.{readOutcome}
+use Rattle.stored_links.specs.Stored.{readInto}
+use Rattle.link_writer.specs.Laws.Accepted.{passed-write}
+use Rattle.link_writer.specs.RoundTrips.{reading-undoes-writing}
+use Rattle.link_writer.specs.Writing.{writeChecks, writeOutcome}
+use Rattle.tree.specs.Promises.{exact-answer, measured-answer}
+use Rattle.tree.specs.Readings.{exactOutcome, measuredOutcome}
+use Rattle.tree.specs.Writing.{RowsStand}
+use Rattle.consensus.specs.Call.{consensusOutcome}
+use Rattle.consensus.specs.Promises.{consensus-answer}
+use Rattle.consensus.specs.declared.Shared.the-variants.{Rows}
+
+-- the r rows l and v over n images pass every check of the calls over link tables, where these name images and have room
+pub record GoesOn (n r : ℕ) (l v : List ℕ) : Type 0 where
+  pub path : (i j : ℕ) → 1 ≤ i → i ≤ n → 1 ≤ j → j ≤ n → pathChecks limit n r l v i j ≡ Passed
+  pub upper-rows : (room : ℕ) → 2 * n - 3 ≤ room → upperChecks limit n r l v room ≡ Passed
+  pub route : (i room : ℕ) → 1 ≤ i → i ≤ n → 2 * n - 3 ≤ room → routeChecks limit n r l v i room ≡ Passed
+  pub stored : (room : ℕ) → linkUsed oldLinks n r ≤ room → writeChecks oldLinks n r l v room ≡ Passed
+  -- and what is stored is read back as the same rows
+  pub read-back : (out f u : List ℕ) → linkUsed oldLinks n r ≤ length out → 2 * n - 3 ≤ length f → 2 * n - 3 ≤ length u
+      → readOutcome oldLinks (writeOutcome oldLinks n r l v out .places) 0 f u ≡ readInto n r (linkUsed oldLinks n r) l v f u
+
+links-go-on : (n r : ℕ) (l v : List ℕ) → Links limit n r l v → GoesOn n r l v
+links-go-on n r l v t = record {
+  path = λ i j a b c d. path-accepted limit n r l v i j .1 (record { table = t; low = a; high = b; low′ = c; high′ = d });
+  upper-rows = λ room h. upper-accepted limit n r l v room .1 (record { table = t; spare = h });
+  route = λ i room a b h. route-accepted limit n r l v i room .1 (record { uppers = record { table = t; spare = h }; low = a; high = b });
+  stored = λ room h. passed-write oldLinks n r l v room t (subst (λ x. linkUsed oldLinks n x ≤ room) (sym (t .counted)) h);
+  read-back = λ out f u a b c. reading-undoes-writing n r l v out f u t a b c .1;
+}
+
+rows-go-on : (n r : ℕ) (T : List Row) (f v f′ v′ : List ℕ) → 3 ≤ n → n ≤ 64 → LinkTable limit n T → RowsStand T r f v f′ v′ → GoesOn n r (take r f′) (take r v′)
+rows-go-on n r T f v f′ v′ a b t s =
+    let m = rowsOf-most (take r f′) (take r v′) in
+    let e = s .counted ∙ sym (ap length (s .rows)) in
+    links-go-on n r (take r f′) (take r v′)
+    (record {
+      some = a;
+      few = b;
+      counted = omega (arith, e, m, length-take r f′);
+      costed = omega (arith, e, m, length-take r v′);
+      table = subst (LinkTable limit n) (sym (s .rows)) t;
+    })
+
+-- the links that a team shares
+pub consensus-goes-on : (n m : ℕ) (t f v : List ℕ) (r : ℕ) (f′ v′ : List ℕ) → LeftRows (consensusOutcome limit n m t f v) (Rows r) f′ v′
+    → GoesOn n r (take r f′) (take r v′)
+consensus-goes-on n m t f v r f′ v′ l =
+    let a = consensus-answer limit n m t f v r f′ v′ l in
+    let j = a .ready .joined in
+    rows-go-on n r _ f v f′ v′ (j .some) (j .few) (subst (LinkTable limit n) (a .left .rows) (a .shared .tree .tree)) (a .left)
+
+-- the exact reading
+pub exact-goes-on : (n : ℕ) (t f v : List ℕ) (r : ℕ) (f′ v′ : List ℕ) → LeftRows (exactOutcome limit n t f v) (Places r) f′ v′ → GoesOn n r (take r f′) (take r v′)
+exact-goes-on n t f v r f′ v′ l =
+    let a = exact-answer limit n t f v r f′ v′ l in
+    let c = a .ready .table in
+    rows-go-on n r _ f v f′ v′ (c .some) (c .few) (subst (LinkTable limit n) (a .left .rows) (a .tree .tree)) (a .left)
+
+-- the measured reading
+pub measured-goes-on : (n : ℕ) (t f v : List ℕ) (r : ℕ) (f′ v′ : List ℕ) → LeftRows (measuredOutcome limit n t f v) (Places r) f′ v′
+    → GoesOn n r (take r f′) (take r v′)
+measured-goes-on n t f v r f′ v′ l =
+    let a = measured-answer limit n t f v r f′ v′ l in
+    let c = a .ready .table in
+    rows-go-on n r _ f v f′ v′ (c .some) (c .few) (subst (LinkTable limit n) (a .left .rows) (a .drawn .tree .tree)) (a .left)
