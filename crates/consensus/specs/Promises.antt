@@ -69,11 +69,12 @@ shared-by-team L n t ts h =
     }
 
 module _ (L n m : ℕ) (t f v : List ℕ) where
-  -- an accepted call: one to sixteen tables, joined, with room; each is accepted by the exact reading; the rows left are the links that they
-  -- share, and every place behind them is as it was
+  -- an accepted call: one to sixteen tables, joined, with room; each is accepted by the exact reading; the r rows left are the links that
+  -- they share, and every place behind them is as it was
   pub record ConsensusAnswer (r : ℕ) (f′ v′ : List ℕ) : Type 0 where
     pub ready : TeamReady n m t (length f) (length v)
     pub wired : Each (tablesIn n m t) (Wired L n)
+    pub counted : r ≡ length (rowsLeft r f′ v′)
     pub left : RowsStand (sharedLinks L n (tablesIn n m t)) r f v f′ v′
     pub shared : SharedByTeam L n (tablesIn n m t) (rowsLeft r f′ v′)
 
@@ -83,6 +84,7 @@ module _ (L n m : ℕ) (t f v : List ℕ) where
       record {
         ready = a .ready;
         wired = a .wired;
+        counted = a .counted ∙ sym (ap length (a .left .rows));
         left = a .left;
         shared = subst (SharedByTeam L n (tablesIn n m t)) (sym (a .left .rows)) (all m (a .ready .joined .one) (a .wired));
       }

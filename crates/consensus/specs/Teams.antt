@@ -81,8 +81,8 @@ module _ (L n m k : ℕ) (t u f v : List ℕ) where
         rows =
             omega (
               arith,
-              x .left .counted ∙ ap length (sym (x .left .rows)),
-              y .left .counted ∙ ap length (sym (y .left .rows)),
+              x .counted ∙ ap length (sym (x .left .rows)),
+              y .counted ∙ ap length (sym (y .left .rows)),
               length-map (rowsLeft r f′ v′) far,
               length-map (rowsLeft s g′ w′) far,
               fewer 1 (2 ^ n) (fars (rowsLeft s g′ w′)) (fars (rowsLeft r f′ v′)) (b .tree .tree .ascending) (a .tree .tree .ascending) sides,

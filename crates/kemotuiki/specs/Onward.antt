@@ -5,7 +5,8 @@ use mathlib.Core.Path.{ap, subst, sym, _∙_, _≡_}
 use Prim.Native.Nat.{ℕ, _*_, _-_, _≤_}
 use native.Mathlib.Omega.{arith}
 use lib.ListN.{length, length-take, take}
-use Rattle.ground.specs.declared.Check.the-variants.{Passed}
+use Rattle.ground.specs.declared.Check.{Check}
+use Rattle.ground.specs.declared.Check.the-variants.{Passed, Refused}
 use Rattle.ground.specs.declared.Written.the-variants.{Places}
 use Rattle.theory.specs.Laws.JoinedRows.{rowsOf-most}
 use Rattle.theory.specs.LinkTables.{LinkTable, Row}
@@ -21,8 +22,8 @@ use Rattle.link_writer.specs.Laws.Accepted.{passed-write}
 use Rattle.link_writer.specs.RoundTrips.{reading-undoes-writing}
 use Rattle.link_writer.specs.Writing.{writeChecks, writeOutcome}
 use Rattle.tree.specs.Promises.{exact-answer, measured-answer}
-use Rattle.tree.specs.Readings.{exactOutcome, measuredOutcome}
-use Rattle.tree.specs.Writing.{RowsStand}
+use Rattle.tree.specs.Readings.{exactCheck, exactOutcome, measuredCheck, measuredOutcome, outcome}
+use Rattle.tree.specs.Writing.{rowsLeft}
 use Rattle.consensus.specs.Call.{consensusOutcome}
 use Rattle.consensus.specs.Promises.{consensus-answer}
 use Rattle.consensus.specs.declared.Shared.the-variants.{Rows}
@@ -46,38 +47,41 @@ links-go-on n r l v t = record {
   read-back = λ out f u a b c. reading-undoes-writing n r l v out f u t a b c .1;
 }
 
-rows-go-on : (n r : ℕ) (T : List Row) (f v f′ v′ : List ℕ) → 3 ≤ n → n ≤ 64 → LinkTable limit n T → RowsStand T r f v f′ v′ → GoesOn n r (take r f′) (take r v′)
-rows-go-on n r T f v f′ v′ a b t s =
+rows-go-on : (n r : ℕ) (f′ v′ : List ℕ) → 3 ≤ n → n ≤ 64 → LinkTable limit n (rowsLeft r f′ v′) → r ≡ length (rowsLeft r f′ v′)
+    → GoesOn n r (take r f′) (take r v′)
+rows-go-on n r f′ v′ a b t e =
     let m = rowsOf-most (take r f′) (take r v′) in
-    let e = s .counted ∙ sym (ap length (s .rows)) in
     links-go-on n r (take r f′) (take r v′)
-    (record {
-      some = a;
-      few = b;
-      counted = omega (arith, e, m, length-take r f′);
-      costed = omega (arith, e, m, length-take r v′);
-      table = subst (LinkTable limit n) (sym (s .rows)) t;
-    })
+    (record { some = a; few = b; counted = omega (arith, e, m, length-take r f′); costed = omega (arith, e, m, length-take r v′); table = t })
 
 -- the links that a team shares
 pub consensus-goes-on : (n m : ℕ) (t f v : List ℕ) (r : ℕ) (f′ v′ : List ℕ) → LeftRows (consensusOutcome limit n m t f v) (Rows r) f′ v′
     → GoesOn n r (take r f′) (take r v′)
 consensus-goes-on n m t f v r f′ v′ l =
     let a = consensus-answer limit n m t f v r f′ v′ l in
-    let j = a .ready .joined in
-    rows-go-on n r _ f v f′ v′ (j .some) (j .few) (subst (LinkTable limit n) (a .left .rows) (a .shared .tree .tree)) (a .left)
+    rows-go-on n r f′ v′ (a .ready .joined .some) (a .ready .joined .few) (a .shared .tree .tree) (a .counted)
 
--- the exact reading
-pub exact-goes-on : (n : ℕ) (t f v : List ℕ) (r : ℕ) (f′ v′ : List ℕ) → LeftRows (exactOutcome limit n t f v) (Places r) f′ v′ → GoesOn n r (take r f′) (take r v′)
+-- ## The same of the two readings
+
+-- the answer counts the rows that were left
+rows-counted : (c : Check) (T : List Row) (f v : List ℕ) (r : ℕ) (f′ v′ : List ℕ) → LeftRows (outcome c T f v) (Places r) f′ v′ → rowsLeft r f′ v′ ≡ T
+    → r ≡ length (rowsLeft r f′ v′)
+rows-counted Passed T f v r f′ v′ l e = same r (length T) (l .answered) ∙ sym (ap length e)
+  where
+    same : (a b : ℕ) → Places a ≡ Places b → a ≡ b
+    same a b e = cc
+rows-counted (Refused q) T f v r f′ v′ l e = absurd (let w = l .answered in let z : _≡_ {A = ℕ} 0 1 = cc in omega arith)
+
+pub exact-goes-on : (n : ℕ) (t f v : List ℕ) (r : ℕ) (f′ v′ : List ℕ) → LeftRows (exactOutcome limit n t f v) (Places r) f′ v′
+    → GoesOn n r (take r f′) (take r v′)
 exact-goes-on n t f v r f′ v′ l =
     let a = exact-answer limit n t f v r f′ v′ l in
     let c = a .ready .table in
-    rows-go-on n r _ f v f′ v′ (c .some) (c .few) (subst (LinkTable limit n) (a .left .rows) (a .tree .tree)) (a .left)
+    rows-go-on n r f′ v′ (c .some) (c .few) (a .tree .tree) (rows-counted (exactCheck limit n t (length f) (length v)) _ f v r f′ v′ l (a .left .rows))
 
--- the measured reading
 pub measured-goes-on : (n : ℕ) (t f v : List ℕ) (r : ℕ) (f′ v′ : List ℕ) → LeftRows (measuredOutcome limit n t f v) (Places r) f′ v′
     → GoesOn n r (take r f′) (take r v′)
 measured-goes-on n t f v r f′ v′ l =
     let a = measured-answer limit n t f v r f′ v′ l in
     let c = a .ready .table in
-    rows-go-on n r _ f v f′ v′ (c .some) (c .few) (subst (LinkTable limit n) (a .left .rows) (a .drawn .tree .tree)) (a .left)
+    rows-go-on n r f′ v′ (c .some) (c .few) (a .drawn .tree .tree) (rows-counted (measuredCheck limit n t (length f) (length v)) _ f v r f′ v′ l (a .left .rows))

@@ -45,6 +45,7 @@ module _ (L n m : ℕ) (t f v : List ℕ) where
   pub record ConsensusLeft (r : ℕ) (f′ v′ : List ℕ) : Type 0 where
     pub ready : TeamReady n m t (length f) (length v)
     pub wired : Each (tablesIn n m t) (Wired L n)
+    pub counted : r ≡ length (sharedLinks L n (tablesIn n m t))
     pub left : RowsStand (sharedLinks L n (tablesIn n m t)) r f v f′ v′
 
   abbrev T : List Row
@@ -80,6 +81,7 @@ module _ (L n m : ℕ) (t f v : List ℕ) where
           record {
             ready = a .0;
             wired = a .1;
+            counted = c;
             left = written-stand T r f v f′ v′ (record { counted = c; far-front = l .far-sides; cost-front = l .doubled });
           }
 
