@@ -25,9 +25,9 @@
 #include <stdint.h>
 
 /* The version, as the file VERSION has it. */
-#define KEMOTUIKI_VERSION "1.0.0"
+#define KEMOTUIKI_VERSION "1.1.0"
 #define KEMOTUIKI_VERSION_MAJOR 1
-#define KEMOTUIKI_VERSION_MINOR 0
+#define KEMOTUIKI_VERSION_MINOR 1
 #define KEMOTUIKI_VERSION_PATCH 0
 
 /* Room that is enough for every n: images, rows of a tree, bytes of the stored forms; the tables of a team; and bytes of a refusal's text. */

@@ -7,7 +7,7 @@ program team
                          kemotuiki_rows_answer
     use network, only: n, room, table_of
     implicit none
-    integer :: table(n, n)[*], chosen[*], reference(n, n), tables(n, n, n), costs(room), out(room), members, mates, k
+    integer :: table(n, n)[*], reference(n, n), tables(n, n, n), choices(n), costs(room), out(room), chosen, members, k
     integer(int64) :: fars(room)
     type(kemotuiki_rows_answer) :: tree, shared, route
     type(kemotuiki_comparison_answer) :: both
@@ -33,14 +33,13 @@ program team
         end if
     end if
 
-    ! The tables of all images that chose team 1.
-    sync all
-    mates = 0
-    do k = 1, n
-        if (chosen[k] /= 1) cycle
-        mates = mates + 1
-        tables(:, :, mates) = table(:, :)[k]
-    end do
+    ! Every image gets the team that each image chose, and all tables.
+    choices = 0
+    choices(this_image()) = chosen
+    call co_sum(choices)
+    tables = 0
+    tables(:, :, this_image()) = table
+    call co_sum(tables)
 
     form team (chosen, relay)
     change team (relay)
@@ -48,7 +47,7 @@ program team
     end team
 
     if (chosen == 1) then
-        shared = kemotuiki_consensus(tables(:, :, :mates), fars, costs)
+        shared = kemotuiki_consensus(tables(:, :, pack([(k, k = 1, n)], choices == 1)), fars, costs)
         if (.not. shared%accepted()) error stop shared%text()
         if (this_image() == 1) print '(2(a, i0), a)', 'the team of ', members, ' shares ', shared%rows, ' links'
         route = kemotuiki_route(n, fars(:shared%rows), costs(:shared%rows), this_image(), out)

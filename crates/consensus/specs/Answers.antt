@@ -71,7 +71,8 @@ table-refused L n t k (suc m) r j q e = go (treeCheck L n (tableAt n t k)) refl 
 
 module _ (L n m : ℕ) (t f v : List ℕ) where
   -- accepted exactly when one to sixteen tables over 3 to 64 images are joined, there is room, and some wiring gives each of them
-  pub consensus-exactly : ((r : ℕ) × (consensusOutcome L n m t f v .answer ≡ Rows r)) ↔ (TeamReady n m t (length f) (length v) × Each (tablesIn n m t) (Wired L n))
+  pub consensus-exactly : ((r : ℕ) × (consensusOutcome L n m t f v .answer ≡ Rows r))
+      ↔ (TeamReady n m t (length f) (length v) × Each (tablesIn n m t) (Wired L n))
   consensus-exactly = (
     λ p. consensus-accepted L n m t f v (p .0) (sym (consensus-answers L n m t f v) ∙ p .1),
     λ p. (
@@ -84,7 +85,8 @@ module _ (L n m : ℕ) (t f v : List ℕ) where
   consensus-refused j q e =
       go (teamCheck n m t (length f) (length v)) refl (sym (consensus-answers L n m t f v) ∙ e)
     where
-      go : (c : Check) → teamCheck n m t (length f) (length v) ≡ c → numbered 0 c (teamAnswer L n m t) ≡ Refused j q → FirstRefusal L n m t (length f) (length v) j q
+      go : (c : Check) → teamCheck n m t (length f) (length v) ≡ c → numbered 0 c (teamAnswer L n m t) ≡ Refused j q
+          → FirstRefusal L n m t (length f) (length v) j q
       go (check.Refused p) s e = of-team (number-same e) (s ∙ ap check.Refused (refusal-same e))
       go Passed s e = of-table s (table-refused L n t 0 m _ j q e)
 

@@ -1,8 +1,8 @@
 -- What two calls for teams say of each other, over what they answered and left: the order of the tables plays no part, one table gives its
 -- exact reading, and one table more only takes rows away or lowers costs. Assumes nothing.
-use mathlib.Core.List.{List, List·Memᴰ, [], map, _++_, _∷_}
+use mathlib.Core.List.{List, List·Memᴰ, map, _++_}
 use mathlib.Core.Logic.{_↔_}
-use mathlib.Core.Path.{ap, ap₂, refl, subst, sym, _∙_, _≡_}
+use mathlib.Core.Path.{ap, subst, sym, _∙_, _≡_}
 use Prim.Native.Nat.{ℕ, _+_, _^_, _≤_}
 use native.Mathlib.Omega.{arith}
 use lib.ListN.{length, length-map}
@@ -28,7 +28,7 @@ use Rattle.consensus.specs.Laws.Left.{consensus-left, left-again}
 use Rattle.consensus.specs.Laws.Members.{consensus-same}
 use Rattle.consensus.specs.Laws.One.{exact-to-one, one-to-exact, only-table}
 use Rattle.consensus.specs.Promises.{consensus-answer}
-use Rattle.consensus.specs.Team.{Joined, sharedLinks, tableAt, tablesIn}
+use Rattle.consensus.specs.Team.{Joined, sharedLinks, tablesIn}
 use Rattle.consensus.specs.declared.Shared.the-variants.{Rows}
 
 -- the same tables, in any order and each as often as one likes

@@ -84,4 +84,5 @@ pub measured-goes-on : (n : ℕ) (t f v : List ℕ) (r : ℕ) (f′ v′ : List 
 measured-goes-on n t f v r f′ v′ l =
     let a = measured-answer limit n t f v r f′ v′ l in
     let c = a .ready .table in
-    rows-go-on n r f′ v′ (c .some) (c .few) (a .drawn .tree .tree) (rows-counted (measuredCheck limit n t (length f) (length v)) _ f v r f′ v′ l (a .left .rows))
+    rows-go-on n r f′ v′ (c .some) (c .few) (a .drawn .tree .tree)
+    (rows-counted (measuredCheck limit n t (length f) (length v)) _ f v r f′ v′ l (a .left .rows))

@@ -15,7 +15,9 @@ enum-known-first : tie.Need-enum-known-first
 enum-known-first c = search needs
 
 take-others-requires : tie.Need-take-others-requires
-take-others-requires c κs = (c .before .before .before .before .before .before .before .before .before .before .before .before .before .before .before .pre .0, c .before .before .before .before .before .before .before .before .before .take-first .ensures .accepted _ (c .before .before .before .first .given .1))
+take-others-requires c κs =
+    let e = c .before .before .before .before .before .before .before .before .before in
+    (e .before .before .before .before .before .before .pre .0, e .take-first .ensures .accepted _ (c .before .before .before .first .given .1))
 
 same-length : tie.Need-same-length
 same-length c = search needs

@@ -27,7 +27,8 @@ returns c =
     let e = c .before .before .before .before .before .before .before in
     let s = e .before .before .before .before .before .before in
     let p = s .pre in
-    taken-refused limit (s .args .n) (s .args .number) (s .args .tables .now) _ _ (p .0) 0 1 (c .before .r .given .0 .0) (p .0 .one) (no-table (s .args .n) (s .args .tables .now) (Wired limit (s .args .n)))
+    taken-refused limit (s .args .n) (s .args .number) (s .args .tables .now) _ _ (p .0) 0 1 (c .before .r .given .0 .0)
+    (p .0 .one) (no-table (s .args .n) (s .args .tables .now) (Wired limit (s .args .n)))
     (e .read-table .ensures .refused _ (c .before .r .given .1))
 
 same-length-3 : tie.Need-same-length-3

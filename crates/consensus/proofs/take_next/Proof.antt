@@ -20,7 +20,8 @@ begun c = c .before .before .before .before .before .before .before .before .bef
 tree : (c : tie.After-rows2)
     → Wired limit (begun c .args .n) (tableAt (begun c .args .n) (begun c .args .tables .now) (begun c .args .k))
     × RowsHeld (exactRows limit (begun c .args .n) (tableAt (begun c .args .n) (begun c .args .tables .now) (begun c .args .k)))
-    (c .before .before .before .before .read-table .last .1 .1 .1 .1 .0) (c .before .before .before .before .read-table .last .1 .1 .1 .1 .1 .0) (c .rows2 .given .0 .0)
+    (c .before .before .before .before .read-table .last .1 .1 .1 .1 .0) (c .before .before .before .before .read-table .last .1 .1 .1 .1 .1 .0)
+    (c .rows2 .given .0 .0)
 tree c = c .before .before .before .before .read-table .ensures .accepted _ (c .rows2 .given .1)
 
 slice-aggregate-read-table : tie.Need-slice-aggregate-read-table

@@ -35,7 +35,8 @@ same-length-2 c = search needs
 returns : tie.Need-returns Inv-loop μ-loop
 returns c =
     let e = c .before .before .before .before .before .before .before in
-    taken-on limit (e .before .before .before .before .before .before .before .before .args .n) (e .before .before .before .before .before .before .before .before .args .number) (e .before .before .before .before .before .before .before .before .args .tables .now) (e .take-next .ensures) (c .before .table .given .1)
+    let a = e .before .before .before .before .before .before .before .before .args in
+    taken-on limit (a .n) (a .number) (a .tables .now) (e .take-next .ensures) (c .before .table .given .1)
 
 enum-known-both : tie.Need-enum-known-both Inv-loop μ-loop
 enum-known-both c = search needs
@@ -47,7 +48,8 @@ loop-less : tie.Need-loop-less Inv-loop μ-loop
 loop-less c = search needs
 
 loop-again : tie.Need-loop-again Inv-loop μ-loop
-loop-again c = (search needs, search needs, c .before .before .before .before .before .before .before .take-next .ensures .accepted _ (c .before .both .given .1))
+loop-again c =
+    (search needs, search needs, c .before .before .before .before .before .before .before .take-next .ensures .accepted _ (c .before .both .given .1))
 
 same-length-3 : tie.Need-same-length-3 Inv-loop μ-loop
 same-length-3 c = search needs

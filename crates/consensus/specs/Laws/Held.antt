@@ -19,7 +19,7 @@ use Rattle.ground.specs.declared.Written.the-variants as written
 use Rattle.theory.specs.Laws.JoinedRows.{rowsOf-all, rowsOf-costs, rowsOf-fars}
 use Rattle.theory.specs.LinkTables.{LinkTable, Row, costs, far, fars, rowsOf}
 use Rattle.theory.specs.Outcomes.{LeftRows}
-use Rattle.tree.specs.Exact.{Wired, exactRows, treeCheck}
+use Rattle.tree.specs.Exact.{exactRows, treeCheck}
 use Rattle.tree.specs.Laws.Exact.{exact-check, exact-tree, table-passed, table-sized}
 use Rattle.tree.specs.Readings.{exactOutcome, outcome}
 use Rattle.tree.specs.Writing.{RowsWritten, rowsLeft}
@@ -36,7 +36,8 @@ costs-length : (T : List Row) → length (costs T) ≡ length T
 costs-length T = length-map T (λ (r : Row). r .1)
 
 -- rows written to the front of 128 places are held there
-front-held : (T : List Row) (f v : List ℕ) (c : ℕ) → c ≡ length T → c ≤ 128 → length f ≡ 128 → length v ≡ 128 → RowsHeld T (front (fars T) f) (front (costs T) v) c
+front-held : (T : List Row) (f v : List ℕ) (c : ℕ) → c ≡ length T → c ≤ 128 → length f ≡ 128 → length v ≡ 128
+    → RowsHeld T (front (fars T) f) (front (costs T) v) c
 front-held T f v c e l a b = record {
   far-part = take-at (fars T) (drop (length (fars T)) f) c (length-map T far ∙ sym e);
   cost-part = take-at (costs T) (drop (length (costs T)) v) c (costs-length T ∙ sym e);

@@ -1,6 +1,6 @@
 -- Where each table of a team stands in the joined slice, and how tables are taken one after another. Assumes nothing.
 use mathlib.Core.List.{List, List·Memᴰ, _++_}
-use mathlib.Core.Path.{ap, refl, subst, sym, _∙_, _≡_}
+use mathlib.Core.Path.{refl, subst, sym, _∙_, _≡_}
 use Prim.Native.Nat.{suc, zero, ℕ, _*_, _+_, _-_, _<_, _≤_}
 use native.Mathlib.Nat.{mul-le-mul, mul-le-mul-right, suc-mul}
 use native.Mathlib.Omega.{arith}
@@ -99,4 +99,5 @@ module _ (L n : ℕ) (t : List ℕ) (y : Shared) where
   tables-stop i (suc m) k q a b p e =
       cases (eqb i k)
       (λ s. let z = eqb-true i k s in rw (z, e))
-      (λ s. let z = eqb-false i k s in rw (p i (omega arith) (omega arith)) (tables-stop (suc i) m k q (omega arith) (omega arith) (λ h c d. p h (omega arith) d) e))
+      (λ s. let z = eqb-false i k s in
+      rw (p i (omega arith) (omega arith)) (tables-stop (suc i) m k q (omega arith) (omega arith) (λ h c d. p h (omega arith) d) e))

@@ -1,6 +1,5 @@
 -- What the answer of the call for a team says: which tables were accepted, which was refused first, and what was left. Assumes nothing.
 use mathlib.Core.List.{List}
-use mathlib.Core.Logic.{_↔_}
 use mathlib.Core.Path.{ap, refl, subst, sym, _∙_, _≡_}
 use Prim.Native.Nat.{suc, zero, ℕ, _+_, _<_, _≤_}
 use native.Mathlib.Omega.{arith}
@@ -13,12 +12,11 @@ use Rattle.ground.specs.Laws.Refusals.{if-accepted}
 use Rattle.ground.specs.declared.Check.{Check}
 use Rattle.ground.specs.declared.Check.the-variants.{Passed}
 use Rattle.ground.specs.declared.Check.the-variants as check
-use Rattle.ground.specs.declared.Refusal.{Refusal}
 use Rattle.theory.specs.LinkTables.{Row}
 use Rattle.theory.specs.Outcomes.{LeftRows, RowsOutcome}
 use Rattle.tree.specs.Exact.{Wired, treeCheck}
 use Rattle.tree.specs.Laws.Writing.{written-stand}
-use Rattle.tree.specs.Writing.{RowsStand, RowsWritten}
+use Rattle.tree.specs.Writing.{RowsStand}
 use Rattle.consensus.specs.Call.{consensusOutcome, leaving, numbered, tableByTable, teamAnswer, teamCheck}
 use Rattle.consensus.specs.Laws.Joined.{each-table, passed-wired, table-in, tables-passed, wired-passed}
 use Rattle.consensus.specs.Laws.Taking.{team-passed}
@@ -87,13 +85,14 @@ module _ (L n m : ℕ) (t f v : List ℕ) where
 
 -- another call over accepted tables that share the same links, into the same places, is accepted and leaves the same
 pub left-again : (L n m k : ℕ) (t u f v : List ℕ) (r : ℕ) (f′ v′ : List ℕ) → LeftRows (consensusOutcome L n m t f v) (Rows r) f′ v′ → Joined n k u
-    → Each (tablesIn n k u) (Wired L n) → sharedLinks L n (tablesIn n m t) ≡ sharedLinks L n (tablesIn n k u) → LeftRows (consensusOutcome L n k u f v) (Rows r) f′ v′
+    → Each (tablesIn n k u) (Wired L n) → sharedLinks L n (tablesIn n m t) ≡ sharedLinks L n (tablesIn n k u)
+    → LeftRows (consensusOutcome L n k u f v) (Rows r) f′ v′
 left-again L n m k t u f v r f′ v′ l j w e =
     let a = consensus-left L n m t f v r f′ v′ l in
+    let T = sharedLinks L n (tablesIn n m t) in
+    let U = sharedLinks L n (tablesIn n k u) in
     let x = consensus-reads L n m t f v (a .ready) (a .wired) in
     let y = consensus-reads L n k u f v (record { joined = j; far-room = a .ready .far-room; cost-room = a .ready .cost-room }) w in
-    let p : leaving (Rows (length (sharedLinks L n (tablesIn n m t)))) (sharedLinks L n (tablesIn n m t)) f v
-    ≡ leaving (Rows (length (sharedLinks L n (tablesIn n k u)))) (sharedLinks L n (tablesIn n k u)) f v = ap (λ (T : List Row). leaving (Rows (length T)) T f v) e in
     let z : consensusOutcome L n m t f v ≡ consensusOutcome L n k u f v =
-    ap (λ (s : Shared). leaving s (sharedLinks L n (tablesIn n m t)) f v) x ∙ p ∙ ap (λ (s : Shared). leaving s (sharedLinks L n (tablesIn n k u)) f v) (sym y) in
+    ap (λ (s : Shared). leaving s T f v) x ∙ ap (λ (X : List Row). leaving (Rows (length X)) X f v) e ∙ ap (λ (s : Shared). leaving s U f v) (sym y) in
     subst (λ (o : RowsOutcome Shared). LeftRows o (Rows r) f′ v′) z l

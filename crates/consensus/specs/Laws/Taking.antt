@@ -1,6 +1,6 @@
 -- How the tables of a team are taken one after another, and what the call then leaves. Assumes nothing.
 use mathlib.Core.Bool.{not}
-use mathlib.Core.List.{List, []}
+use mathlib.Core.List.{List}
 use mathlib.Core.Logic.{_↔_}
 use mathlib.Core.Path.{ap, refl, subst, sym, _∙_, _≡_}
 use Prim.Native.Nat.{ℕ, _*_, _+_, _-_, _<_, _≤_}
@@ -24,7 +24,7 @@ use Rattle.tree.specs.Exact.{Wired, exactRows, treeCheck}
 use Rattle.tree.specs.Laws.Writing.{room-passed}
 use Rattle.tree.specs.Readings.{outputsRoomCheck, short}
 use Rattle.tree.specs.Writing.{RowsWritten}
-use Rattle.consensus.specs.Call.{consensusOutcome, joinedCheck, leaving, numberCheck, tableByTable, teamAnswer, teamCheck}
+use Rattle.consensus.specs.Call.{consensusOutcome, joinedCheck, leaving, numberCheck, teamAnswer, teamCheck}
 use Rattle.consensus.specs.Laws.Joined.{no-table, table-in, tables-passed, tables-stop, wired-passed}
 use Rattle.consensus.specs.Laws.Sharing.{first-tree, wired-more, share-next, shared-one}
 use Rattle.consensus.specs.Meet.{meet}
@@ -119,7 +119,8 @@ module _ (L n : ℕ) (t f v : List ℕ) (c : ℕ) where
 module _ (L n m : ℕ) (t f v : List ℕ) where
   pub left-table : {x : Shared} {g w : List ℕ} {k : ℕ} {q : Refusal} → Taken L n m t m x g w → x ≡ Refused k q
       → LeftRows (leaving (teamAnswer L n m t) (sharedLinks L n (tablesIn n m t)) f v) (Refused k q) f v
-  left-table {x} {g} {w} {k} {q} h e = rw (h .refused k q e (Rows (length (sharedLinks L n (tablesIn n m t))))) (record { answered = refl; far-sides = refl; doubled = refl })
+  left-table {x} {g} {w} {k} {q} h e =
+      rw (h .refused k q e (Rows (length (sharedLinks L n (tablesIn n m t))))) (record { answered = refl; far-sides = refl; doubled = refl })
 
   pub left-rows : {c : ℕ} {g w f′ v′ : List ℕ} → Joined n m t → Shares L n t m g w c → RowsWritten (sharedLinks L n (tablesIn n m t)) c f v f′ v′
       → LeftRows (leaving (teamAnswer L n m t) (sharedLinks L n (tablesIn n m t)) f v) (Rows c) f′ v′
@@ -127,7 +128,8 @@ module _ (L n m : ℕ) (t f v : List ℕ) where
       rw (tables-passed L n t (Rows (length (sharedLinks L n (tablesIn n m t)))) 0 m (λ i a b. passed L n m t f v j m (omega arith) (h .wired) i (omega arith)))
       (record { answered = ap Rows (w .counted); far-sides = w .far-front; doubled = w .cost-front })
 
-  pub left-team : {x : Check} {q : Refusal} → x ≡ teamCheck n m t (length f) (length v) → x ≡ check.Refused q → LeftRows (consensusOutcome L n m t f v) (Refused 0 q) f v
+  pub left-team : {x : Check} {q : Refusal} → x ≡ teamCheck n m t (length f) (length v) → x ≡ check.Refused q
+      → LeftRows (consensusOutcome L n m t f v) (Refused 0 q) f v
   left-team e s = let z = sym e ∙ s in rw z (record { answered = refl; far-sides = refl; doubled = refl })
 
   pub left-through : {x : Check} {r : Shared} {f′ v′ : List ℕ} → x ≡ teamCheck n m t (length f) (length v) → x ≡ Passed
