@@ -3,14 +3,14 @@
 use mathlib.Core.List.{List, List·Memᴰ, List·Memᴰ·head, map, _∷_}
 use mathlib.Core.Logic.{_↔_}
 use mathlib.Core.Path.{ap, refl, subst, sym, _∙_, _≡_}
-use Prim.Native.Nat.{zero, suc, ℕ, _≤_}
+use Prim.Native.Nat.{suc, zero, ℕ, _^_, _≤_}
 use native.Mathlib.Omega.{arith}
 use lib.ListN.{length}
 use Rattle.ground.specs.Filters.{Each}
 use Rattle.ground.specs.Laws.Maps.{map-mem, mem-map}
 use Rattle.ground.specs.Ranges.{from}
 use Rattle.theory.specs.Demands.{OneTree, one-tree}
-use Rattle.theory.specs.LinkTables.{Row, costOf, fars}
+use Rattle.theory.specs.LinkTables.{LinkTable, Row, costOf, fars}
 use Rattle.theory.specs.Outcomes.{LeftRows}
 use Rattle.theory.specs.Readings.{Exact}
 use Rattle.theory.specs.Tables.{cost}
@@ -21,6 +21,7 @@ use Rattle.consensus.specs.Call.{consensusOutcome}
 use Rattle.consensus.specs.Laws.Fold.{consensus-cost, consensus-mem}
 use Rattle.consensus.specs.Laws.Left.{consensus-left}
 use Rattle.consensus.specs.Laws.Members.{smallest-is}
+use Rattle.consensus.specs.Laws.Rows.{cost-row}
 use Rattle.consensus.specs.Laws.Sharing.{shared-tree, trees-of}
 use Rattle.consensus.specs.Team.{TeamReady, sharedLinks, tableAt, tablesIn}
 use Rattle.consensus.specs.declared.Shared.the-variants.{Rows}
@@ -38,7 +39,8 @@ pub record SharedByTeam (L n : ℕ) (ts : List (List ℕ)) (T : List Row) : Type
   pub trees : Each ts (λ t. Exact L (cost t n) n (exactRows L n t))
   -- a far side is in T exactly when it is in every tree
   pub members : (S : ℕ) → List·Memᴰ S (fars T) ↔ Each ts (λ t. List·Memᴰ S (exactSides L n t))
-  -- each with the smallest of its doubled costs
+  -- each row with the smallest of its doubled costs; an absent link costs 0 in T, as it does in some tree
+  pub rows : Each T (λ r. SmallestCost L n ts (r .0) (r .1))
   pub costs : (S : ℕ) → SmallestCost L n ts S (costOf T S)
   -- T is a link table with n to 2 n - 3 rows, and they form one tree
   pub tree : OneTree L n T
@@ -55,18 +57,29 @@ shared-by-team L n t ts h =
         λ p. consensus-mem L n (F t) (map F ts) all S .1
             (λ T m. let r = map-mem F (t ∷ ts) T m in subst (λ X. List·Memᴰ S (fars X)) (sym (r .1)) (p (r .0) (r .2))),
       );
-      costs = λ S.
-          let s = smallest-is (F t) (map F ts) S in
-          let e = consensus-cost L n (F t) (map F ts) all S in
-          let r = map-mem F (t ∷ ts) (s .tree) (s .is-one) in
-          record {
-            low = λ u m. omega (arith, e, s .low (F u) (mem-map F m));
-            table = r .0;
-            is-one = r .2;
-            at = e ∙ s .at ∙ ap (λ (X : List Row). costOf X S) (r .1);
-          };
-      tree = one-tree L n _ (h t (List·Memᴰ·head refl) .table .some) (shared-tree L n t ts h);
+      rows = λ r m. subst (SmallestCost L n (t ∷ ts) (r .0)) (cost-row 1 (2 ^ n) T (drawn .ascending) r m) (smallest-cost (r .0));
+      costs = smallest-cost;
+      tree = one-tree L n T (h t (List·Memᴰ·head refl) .table .some) drawn;
     }
+  where
+    T : List Row
+    T = sharedLinks L n (t ∷ ts)
+
+    drawn : LinkTable L n T
+    drawn = shared-tree L n t ts h
+
+    smallest-cost : (S : ℕ) → SmallestCost L n (t ∷ ts) S (costOf T S)
+    smallest-cost S =
+        let F = exactRows L n in
+        let s = smallest-is (F t) (map F ts) S in
+        let e = consensus-cost L n (F t) (map F ts) (trees-of L n (t ∷ ts) h) S in
+        let r = map-mem F (t ∷ ts) (s .tree) (s .is-one) in
+        record {
+          low = λ u m. omega (arith, e, s .low (F u) (mem-map F m));
+          table = r .0;
+          is-one = r .2;
+          at = e ∙ s .at ∙ ap (λ (X : List Row). costOf X S) (r .1);
+        }
 
 module _ (L n m : ℕ) (t f v : List ℕ) where
   -- an accepted call: one to sixteen tables, joined, with room; each is accepted by the exact reading; the r rows left are the links that
