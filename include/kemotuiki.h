@@ -30,12 +30,15 @@
 #define KEMOTUIKI_VERSION_MINOR 1
 #define KEMOTUIKI_VERSION_PATCH 0
 
-/* Room that is enough for every n: images, rows of a tree, bytes of the stored forms; the tables of a team; and bytes of a refusal's text. */
+/*
+ * Room that is enough for every n: images, rows of a tree, bytes of the stored forms; the most tables of a team; and bytes of a
+ * refusal's text.
+ */
 #define KEMOTUIKI_IMAGES 64
-#define KEMOTUIKI_TABLES 16
 #define KEMOTUIKI_ROWS 125
 #define KEMOTUIKI_COST_BYTES 5041
 #define KEMOTUIKI_LINK_BYTES 1315
+#define KEMOTUIKI_TABLES 16
 #define KEMOTUIKI_TEXT_BYTES 192
 
 #if defined(__STDC_VERSION__) && __STDC_VERSION__ >= 199901L
