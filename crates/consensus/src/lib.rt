@@ -81,8 +81,9 @@ fn read_table(
     requires { ⌜ Joined n number (now tables) × (k < number) × (length (now fars) ≡ 128) × (length (now costs) ≡ 128) ⌝ }
     ensures { λ r. ⌜ TreeRead limit n (tableAt n (now (tables .entry)) k) r (now (fars .exit)) (now (costs .exit)) ⌝ }
 {
-    let start = k * (n * n);
-    let end = start + n * n;
+    let size = n * n;
+    let start = k * size;
+    let end = start + size;
     tree::exact(n, &tables[start..end], fars, costs)
 }
 

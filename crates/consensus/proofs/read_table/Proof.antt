@@ -1,4 +1,5 @@
 -- `consensus::read_table` meets its contract: the table is a part of the slice, and `tree::exact` promises the rest. Assumes nothing.
+use Prim.Native.Nat.{_*_, _+_, _≤_}
 use native.Mathlib.Omega.{arith}
 use borrow.Author.Needs.{needs}
 use Rattle.theory.specs.Tables.{limit}
@@ -8,20 +9,21 @@ use Rattle.consensus.specs.Team.{tableAt}
 use Rattle.consensus.proofs.read_table.Statement.{statement}
 use Rattle.consensus.proofs.read_table.Tie as tie
 
+-- the table ends at a small number
+small : (s : tie.Start) → s .args .k * (s .args .n * s .args .n) + s .args .n * s .args .n ≤ 65536
+small s = part-small _ _ _ (s .pre .0) _ (s .pre .1)
+
+mul-size : tie.Need-mul-size
+mul-size c = omega (arith, small (c .before .before .before))
+
 mul-start : tie.Need-mul-start
-mul-start c = let s = c .before .before .before in let q = part-small _ _ _ (s .pre .0) _ (s .pre .1) in omega (arith, q)
-
-mul-start-2 : tie.Need-mul-start-2
-mul-start-2 c = let s = c .before .before .before in let q = part-small _ _ _ (s .pre .0) _ (s .pre .1) in omega (arith, q)
-
-mul-end : tie.Need-mul-end
-mul-end c = let s = c .before .before .before in let q = part-small _ _ _ (s .pre .0) _ (s .pre .1) in omega (arith, q)
+mul-start c = omega (arith, small (c .before .before .before))
 
 add-end : tie.Need-add-end
-add-end c = let s = c .before .before .before in let q = part-small _ _ _ (s .pre .0) _ (s .pre .1) in omega (arith, q)
+add-end c = omega (arith, small (c .before .before .before))
 
 mul-exact : tie.Need-mul-exact
-mul-exact c = let s = c .before .before .before in let q = part-small _ _ _ (s .pre .0) _ (s .pre .1) in omega (arith, q)
+mul-exact c = omega (arith, small (c .before .before .before))
 
 sub-exact : tie.Need-sub-exact
 sub-exact c = search needs
@@ -55,9 +57,8 @@ pub read-table-spec : {M : Type 1} → statement M
 read-table-spec =
     tie.close
     (tie.spec
+    mul-size
     mul-start
-    mul-start-2
-    mul-end
     add-end
     mul-exact
     sub-exact
