@@ -13,8 +13,8 @@ use Rattle.ground.specs.Ascending.{Between}
 use Rattle.ground.specs.Laws.Ascending.{between-from}
 use Rattle.ground.specs.Counts.{one-if}
 use Rattle.ground.specs.Filters.{filter}
+use Rattle.ground.specs.Laws.Counts.{one-if-le}
 use Rattle.ground.specs.Laws.Filters.{filter-none}
-use Rattle.ground.specs.Laws.Merges.{one-if-le}
 use Rattle.ground.specs.Members.{isIn}
 use Rattle.ground.specs.Merges.{advance}
 use Rattle.theory.specs.Comparison.{common, inners}

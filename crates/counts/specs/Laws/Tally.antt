@@ -7,8 +7,8 @@ use native.Mathlib.Omega.{arith}
 use lib.ListN.{getD, length, length-append, take}
 use lib.Seq.{take-all, take-suc}
 use borrow.Table.Steps.{cases}
+use Rattle.ground.specs.Laws.Counts.{one-if-le}
 use Rattle.ground.specs.Laws.Filters.{filter-append}
-use Rattle.ground.specs.Laws.Merges.{one-if-le}
 use Rattle.theory.specs.Comparison.{inners}
 use Rattle.theory.specs.FarSides.{inner}
 use Rattle.counts.specs.Tally.{oneInner, tally}

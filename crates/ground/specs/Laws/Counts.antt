@@ -1,5 +1,5 @@
 -- Laws of how many numbers pass a test. Assumes nothing.
-use mathlib.Core.Bool.{Bool, true}
+use mathlib.Core.Bool.{Bool, false, true}
 use mathlib.Core.List.{List, List·Memᴰ, List·Memᴰ·head, List·Memᴰ·tail, [], _∷_}
 use mathlib.Core.Path.{refl, _≡_}
 use Prim.Native.Nat.{suc, zero, ℕ, _+_, _-_, _<_, _≤_}
@@ -11,6 +11,10 @@ use Rattle.ground.specs.Ascending.{Between}
 use Rattle.ground.specs.Sums.{sum}
 use Rattle.ground.specs.Laws.Sums.{sum-add, sum-zero}
 use Rattle.ground.specs.Counts.{count, one-if}
+
+pub one-if-le : (b : Bool) → one-if b ≤ 1
+one-if-le true = omega arith
+one-if-le false = omega arith
 
 -- at least v, where v in a row pass
 pub count-row : (p : ℕ → Bool) (N lo v : ℕ) → ((t : ℕ) → lo ≤ t → t < lo + v → p t ≡ true) → lo + v ≤ N → v ≤ count N p

@@ -1,16 +1,11 @@
 -- A turn of a merge goes by one place at most, and in at least one of the lists. Assumes nothing.
-use mathlib.Core.Bool.{Bool, false, true}
 use Prim.Native.Nat.{ℕ, _+_, _≤_}
 use native.Mathlib.Omega.{arith}
 use lib.Dec.{leb}
 use borrow.Author.Tests.{le-leb, leb-false}
 use borrow.Table.Steps.{cases}
-use Rattle.ground.specs.Counts.{one-if}
+use Rattle.ground.specs.Laws.Counts.{one-if-le}
 use Rattle.ground.specs.Merges.{advance}
-
-pub one-if-le : (b : Bool) → one-if b ≤ 1
-one-if-le true = omega arith
-one-if-le false = omega arith
 
 pub advance-le : (x y : ℕ) → advance x y ≤ 1
 unfolding advance
