@@ -25,9 +25,9 @@
 #include <stdint.h>
 
 /* The version, as the file VERSION has it. */
-#define KEMOTUIKI_VERSION "1.1.0"
+#define KEMOTUIKI_VERSION "1.2.0"
 #define KEMOTUIKI_VERSION_MAJOR 1
-#define KEMOTUIKI_VERSION_MINOR 1
+#define KEMOTUIKI_VERSION_MINOR 2
 #define KEMOTUIKI_VERSION_PATCH 0
 
 /*

@@ -1,30 +1,4 @@
 #!/usr/bin/env bash
-# listing.sh [FILE]: prints the tree of the stored cost table in FILE, or on standard input. The program is proved and built first
-# if it is not there, which takes minutes and says on standard error how far it is. It is x86-64 code: elsewhere it runs under an
-# emulator. Status 0 if the program ran, 1 if it was not proved, 2 if the file, the kit or the emulator is missing.
-set -euo pipefail
-table=${1:-/dev/stdin}
-case $table in /*) ;; *) table=$PWD/$table ;; esac
-[ -r "$table" ] && [ ! -d "$table" ] || { echo "listing.sh: cannot read $table" >&2; exit 2; }
-cd "$(dirname "$0")/.."
-. scripts/common.sh
-need_kit
-program=target/bin/listing
-if [ ! -x "$program" ]; then
-    echo "listing.sh: proving and building the program, once: $(crates_of listing) crates, some minutes" >&2
-    prove listing </dev/null || exit 1
-fi
-machine=$(uname -m)
-command=()
-if [ "$machine" != x86_64 ]; then
-    emulator=$(emulator)
-    [ -n "$emulator" ] || { echo "listing.sh: this machine is $machine and there is no qemu-x86_64" >&2; exit 2; }
-    command+=("$emulator")
-fi
-for lib in "$kit/on/$machine/toolchain/lib" "$kit/toolchain/lib"; do
-    if [ -e "$lib/ld-linux-x86-64.so.2" ]; then
-        command+=("$lib/ld-linux-x86-64.so.2" --library-path "$lib")
-        break
-    fi
-done
-exec "${command[@]}" "$program" <"$table"
+# listing.sh [FILE]: prints the tree of the stored cost table in FILE, or on standard input, and an order around it that ends at the far
+# end, the image with the greatest cost from image 1. How it runs, and its status: run_listing.sh.
+exec bash "$(dirname "$0")/run_listing.sh" listing "$@"

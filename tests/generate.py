@@ -8,8 +8,9 @@ It writes crates/cases/data/CALL.txt, one case a line: the call's arguments in
 order, a slice as its length and then its elements. It writes crates/cases/stdout,
 for each call a line with its name and then one line a case: the numbers of the
 answer, then each lent output as the call leaves it, its length first. It writes
-tests/listing/NAME.stdin and NAME.stdout, stored bytes for the listing program and
-the text it prints. All is decided by the seeds below.
+tests/listing/NAME.stdin, stored bytes for both listing programs, and the text that
+each of them prints, tests/PROGRAM/NAME.stdout; example H is also what `rt ci` runs
+them on. All is decided by the seeds below.
 """
 
 import os
@@ -64,7 +65,12 @@ CALLS = {
     "two_fields": (law.two_fields, "8 n n n", (3, 9)),
     "refusal_text": (law.refusal_text, "n n n n n n 8*", (3,)),
     "consensus": (law.consensus, "n n 32 64* 32*", (1, 2, 3, 4, 5, 6, 7, 16)),
+    "listing": (law.listing, "8", (1, 4, 7, 9, 11)),
 }
+
+# The programs that print a listing, and what they print. The cases of `listing` have the
+# text of each, and a refusal stands in the text.
+LISTINGS = {"listing": law.listing, "listing_last_n": law.listing_last_n}
 
 # Those that put a table's number behind a refusal number.
 OVER_SEVERAL_TABLES = ("compare", "write_batch", "choice", "two_costs", "consensus")
@@ -1370,6 +1376,50 @@ def consensus_cases(dice):
             yield n, 2, entries, far_places(dice, room1), places(dice, room2)
 
 
+# Listings
+
+def star(n, own):
+    """The table of a star whose images have these own links."""
+    return table_from(n, [own[i - 1] + own[j - 1] for i, j in pairs(n)])
+
+
+def far_ends(dice):
+    """Stars in which some images are the farthest, also with image 1 on the switch itself; stars
+    of equal links, and of links without a cost; trees with so small costs that images tie."""
+    for n in (4, 5, 9):
+        for farthest in ({2}, {3}, {n - 1}, {n}, {2, n}, {3, n}, {n - 1, n}, set()):
+            for own in (0, dice.between(1, 9)):
+                yield n, star(n, [own] + [7 if i in farthest else dice.below(7) for i in range(2, n + 1)])
+    for n in (3, 4, 9, 33, 64):
+        yield n, star(n, [1] * n)
+        yield n, [0] * (n * n)
+    for n in (9, 9, 9, 33, 64):
+        yield n, tree(dice, n, 2, "uneven")
+
+
+def listing_cases(dice):
+    def followed(stored):
+        return stored + [dice.below(256) for _ in range(dice.one_of([0, 0, 0, 1, 3]))]
+
+    yield [],
+    for source in (example_tables(), ((3, t) for t in all_small_tables()), far_ends(dice)):
+        for n, t in source:
+            yield followed(stored_costs(n, t)),
+    for n in [small_n(dice) for _ in range(24)]:
+        yield followed(stored_costs(n, tree(dice, n))),
+    yield stored_costs(33, tree(dice, 33, 3000, "caterpillar")),
+    yield stored_costs(64, tree(dice, 64, 9000, "caterpillar")),
+    for n in (33, 64):
+        yield stored_costs(n, crooked(dice, n)),
+        yield stored_costs(n, tree(dice, n))[:-1],
+    kinds = ["header", "n", "body", "fill", "entry", "wiring"]
+    for faults in fault_sets(dice, kinds, 6, 40):
+        n = damaged_n(dice)
+        t = crooked(dice, n) if "wiring" in faults else tree(dice, n)
+        stored = damaged_stored_costs(dice, n, t, faults)
+        yield (stored if faults & {"header", "body"} else followed(stored)),
+
+
 CASES = {
     "index": index_cases,
     "order": order_cases,
@@ -1391,6 +1441,7 @@ CASES = {
     "two_fields": two_fields_cases,
     "refusal_text": refusal_text_cases,
     "consensus": consensus_cases,
+    "listing": listing_cases,
 }
 
 
@@ -1430,6 +1481,9 @@ def check_arguments(name, arguments):
 def answer_line(name, arguments):
     """The line that a call's answer makes, and the answer."""
     function, kinds, _ = CALLS[name]
+    if name == "listing":
+        texts = [program(*arguments) for program in LISTINGS.values()]
+        return line_of([0] + [list(text.encode()) for text in texts]), listing_answer(texts)
     outputs = [at for at, kind in enumerate(kinds.split()) if kind.endswith("*")]
     given = [list(a) if isinstance(a, list) else a for a in arguments]
     answer = function(*given)
@@ -1440,6 +1494,15 @@ def answer_line(name, arguments):
     if name == "choice":
         left.append(law.choose(*given))
     return line_of(list(answer) + left), answer
+
+
+def listing_answer(texts):
+    """The numbers of the refusal that all these texts are, or 0."""
+    first = texts[0].split()
+    if first[0] != "refused":
+        return 0,
+    assert texts == texts[:1] * len(texts), texts
+    return tuple(map(int, first[1:]))
 
 
 def make():
@@ -1479,7 +1542,12 @@ def make():
     assert len(files["crates/cases/stdout"]) <= LARGEST_ANSWERS, len(files["crates/cases/stdout"])
     for name, stored in listing_inputs():
         files["tests/listing/%s.stdin" % name] = bytes(stored)
-        files["tests/listing/%s.stdout" % name] = law.listing(stored).encode()
+        for program, text_of in LISTINGS.items():
+            files["tests/%s/%s.stdout" % (program, name)] = text_of(stored).encode()
+    for program, text_of in LISTINGS.items():
+        stored = stored_costs(*law.example("H"))
+        files["crates/%s/stdin" % program] = bytes(stored)
+        files["crates/%s/stdout" % program] = text_of(stored).encode()
     assert sum(count for _, count, _ in report) >= FEWEST_CASES
     assert sum(map(len, files.values())) <= LARGEST_TOTAL, sum(map(len, files.values()))
     return files, report
@@ -1498,6 +1566,15 @@ def listing_inputs():
     yield "short", law.STORED_A_COSTS[:-1]
     yield "fill", law.STORED_A_COSTS[:-1] + [0x21]
     yield "two_images", [4, 0, 0, 32]
+    # Stars: all images tie, of 4 and of 64, and cost nothing; the farthest are 3, 5 and 6 of 9; image
+    # n alone is. Then trees with inner links and ties.
+    yield "star", stored_costs(*law.example("G"))
+    yield "star64", stored_costs(64, star(64, [1] * 64))
+    yield "zeros", stored_costs(*law.example("B"))
+    yield "tie", stored_costs(9, star(9, [4, 1, 6, 2, 6, 6, 0, 5, 1]))
+    yield "far_end_n", stored_costs(9, star(9, [0, 3, 3, 3, 3, 3, 3, 3, 4]))
+    yield "tie_in_tree", stored_costs(*law.example("E"))
+    yield "tie64", stored_costs(64, tree(dice, 64, 2, "uneven"))
 
 
 def check(files):
@@ -1511,7 +1588,7 @@ def check(files):
             with open(path, "rb") as file:
                 if file.read() != text:
                     wrong.append("differs: " + name)
-    for folder in ("crates/cases/data", "tests/listing"):
+    for folder in ["crates/cases/data"] + ["tests/" + program for program in LISTINGS]:
         path = os.path.join(ROOT, folder)
         for name in sorted(os.listdir(path)) if os.path.isdir(path) else []:
             if folder + "/" + name not in files:

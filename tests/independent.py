@@ -356,6 +356,13 @@ def order_of(n, d, first, last):
     return [first] + order
 
 
+def far_end(n, d):
+    """The other image with the greatest cost from image 1, the lowest on a tie."""
+    others = range(2, n + 1)
+    greatest = max(d[1][i] for i in others)
+    return min(i for i in others if d[1][i] == greatest)
+
+
 # Stored forms
 
 def field(width, value):
@@ -795,6 +802,17 @@ def choose(first, second):
 
 def listing(stored):
     """What the listing program prints for these bytes on standard input."""
+    return listing_with(stored, far_end)
+
+
+def listing_last_n(stored):
+    """What the listing program for the ring scripts prints: the order has last n."""
+    return listing_with(stored, lambda n, d: n)
+
+
+def listing_with(stored, last_of):
+    """The exact reading, and the order from 1 with the last image that is chosen by n and
+    the costs; or one line with the refusal."""
     try:
         n, t, _ = cost_table_in(stored, None)
         check_wiring(n, t)
@@ -804,7 +822,8 @@ def listing(stored):
     uppers = upper_rows_of([far for far, cost in rows])
     lines = ["images %d rows %d" % (n, len(rows))]
     lines += ["%d %d %d" % (far, cost, upper) for (far, cost), upper in zip(rows, uppers)]
-    lines.append("order " + " ".join(map(str, order_of(n, square(n, t), 1, n))))
+    d = square(n, t)
+    lines.append("order " + " ".join(map(str, order_of(n, d, 1, last_of(n, d)))))
     return "".join(line + "\n" for line in lines)
 
 
@@ -950,7 +969,8 @@ NOT_EXACT = {"C": (7, 1, 1, 2, 3), "F": (7, 1, 2, 3, 4)}
 STORED_A_COSTS = [0x06, 0x00, 0x00, 0x20, 0x00, 0x02, 0x00, 0x00, 0x20]
 STORED_A_LINKS = [0x06, 0x0D, 0x00, 0x00, 0x0C, 0x00, 0x00, 0x1C, 0x00, 0x00, 0x20]
 
-LISTING_A = "images 3 rows 3\n2 1 3\n4 1 3\n6 1 0\norder 1 2 3\n"
+LISTING_A = "images 3 rows 3\n2 1 3\n4 1 3\n6 1 0\norder 1 3 2\n"
+LISTING_A_LAST_N = "images 3 rows 3\n2 1 3\n4 1 3\n6 1 0\norder 1 2 3\n"
 LISTING_C = "refused 7 1 1 2 3\n"
 
 
@@ -1028,7 +1048,7 @@ def test_settled_limits():
         assert read_links(stored, 0, [0] * 130, [0] * 130) == refused
         assert two_costs(stored, [0] * 5000, []) == (1, 1, n, 0, 0, 0)
         assert choice(stored, stored) == (1, 1, n, 0, 0, 0)
-        assert listing(stored) == "refused 1 %d 0 0 0\n" % n
+        assert listing(stored) == listing_last_n(stored) == "refused 1 %d 0 0 0\n" % n
     for n in (3, 4, 9):
         t = table_from(n, [MOST_ENTRY] * (n * n))
         rows = [(2 ** i, MOST_ENTRY) for i in range(1, n)] + [(2 ** n - 2, MOST_ENTRY)]
@@ -1058,10 +1078,28 @@ def test_stored_a():
 
 def test_listing():
     n, c = example("C")
-    assert listing(STORED_A_COSTS) == LISTING_A
-    assert listing(STORED_A_COSTS + [1, 2, 3]) == LISTING_A
-    assert listing(stored_costs(n, c)) == LISTING_C
-    assert listing([]) == "refused 9 0 0 0 0\n"
+    for program, text in ((listing, LISTING_A), (listing_last_n, LISTING_A_LAST_N)):
+        assert program(STORED_A_COSTS) == program(STORED_A_COSTS + [1, 2, 3]) == text
+        assert program(stored_costs(n, c)) == LISTING_C
+        assert program([]) == "refused 9 0 0 0 0\n"
+
+
+def test_far_end(dice):
+    """The last image of each listing, and that nothing else differs; on a star of equal links it is 2."""
+    for n in (3, 4, 9, 33, 64):
+        even = table_from(n, [2] * (n * n))
+        assert far_end(n, square(n, even)) == 2
+        for shape in ("star", "caterpillar", "uneven", "uneven"):
+            t = tree_table(n, tree_rows(dice, n, shape, dice.one_of([2, 9, 300])))
+            d, stored = square(n, t), stored_costs(n, t)
+            lines, old = listing(stored).splitlines(), listing_last_n(stored).splitlines()
+            last = int(lines[-1].split()[-1])
+            assert 2 <= last <= n and all(d[1][i] < d[1][last] for i in range(2, last))
+            assert all(d[1][i] <= d[1][last] for i in range(last, n + 1))
+            assert lines[:-1] == old[:-1] and int(old[-1].split()[-1]) == n
+            assert (lines == old) == (last == n)
+            for line in (lines[-1], old[-1]):
+                assert sorted(map(int, line.split()[1:])) == list(range(1, n + 1))
 
 
 def tables_to_try(dice, n, count):
@@ -1425,7 +1463,7 @@ def self_test():
         (test_demand_3, (dice,)), (test_comparison, (dice,)), (test_routes, (dice,)),
         (test_stored_forms, (dice,)), (test_choice, (dice,)), (test_sixty_four, (dice,)),
         (test_reader_on_a, ()), (test_reader, (dice,)), (test_consensus_examples, ()),
-        (test_consensus_refusals, (dice,)), (test_consensus, (dice,)),
+        (test_consensus_refusals, (dice,)), (test_consensus, (dice,)), (test_far_end, (dice,)),
     ]
     for test, arguments in tests:
         test(*arguments)

@@ -299,7 +299,8 @@ def near(link, place):
 
 def listing_of(n, rows):
     """The listing of a tree, with the independent program's upper rows and order."""
-    order = law.order_of(n, law.square(n, law.tree_table(n, rows)), 1, n)
+    d = law.square(n, law.tree_table(n, rows))
+    order = law.order_of(n, d, 1, law.far_end(n, d))
     uppers = law.upper_rows_of([far for far, _ in rows])
     lines = [f"{far} {cost} {upper}" for (far, cost), upper in zip(rows, uppers)]
     return "\n".join([f"images {n} rows {len(rows)}", *lines, "order " + " ".join(map(str, order)), ""])
@@ -307,8 +308,8 @@ def listing_of(n, rows):
 
 def test_drawings(dice):
     """The listings that are kept, and trees of each shape, with small costs and with the largest."""
-    paths = sorted(glob.glob(os.path.join(ROOT, "tests/listing/*.stdout")))
-    listings = {os.path.basename(path): kept(path).decode() for path in paths}
+    paths = sorted(glob.glob(os.path.join(ROOT, "tests/listing*/*.stdout")))
+    listings = {os.path.relpath(path, ROOT): kept(path).decode() for path in paths}
     listings["nine.listing"] = kept("tests/drawing/nine.listing").decode()
     for n, most in ((4, 2), (11, 40), (30, 1_000), (64, 60_000)):
         for shape in ("star", "caterpillar", "uneven"):
@@ -329,7 +330,7 @@ def test_kept_drawing():
     listing, printed = kept("tests/drawing/nine.listing").decode(), kept("examples/expected.txt").decode()
     rows = [tuple(map(int, pair.split(":"))) for pair in re.search(r"image 1's tree\n(.*)", printed).group(1).split()]
     uppers = re.search(r"upper rows: (.*)", printed).group(1).split()
-    order = re.search(r"order from 1 to 9: (.*)", printed).group(1)
+    order = re.search(r"order from 1 to there: (.*)", printed).group(1)
     stored = law.stored_costs(9, law.tree_table(9, rows))
     check("the listing of the nine images", listing, law.listing(stored))
     check("their table as text", run("store.py", os.path.join(ROOT, "examples", "costs.csv")), (0, bytes(stored), ""))
@@ -342,7 +343,7 @@ def test_kept_drawing():
 
 NO_LISTING = "this is no listing, which is a line images N rows R, then R rows of three numbers, then a line order .."
 FOUR_LISTING = "images 4 rows 5\n2 2 5\n4 2 4\n8 2 4\n12 4 5\n14 2 0\norder 1 2 3 4\n"
-A_LISTING = "images 3 rows 3\n2 1 3\n4 1 3\n6 1 0\norder 1 2 3\n"
+A_LISTING = law.LISTING_A_LAST_N
 # What to put in the place of what in the listing of A, and what is said of the outcome.
 REFUSED_LISTINGS = (
     (A_LISTING, "", NO_LISTING),

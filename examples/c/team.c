@@ -150,12 +150,22 @@ static void use_tree(void) {
     numbers("upper rows:", upper.rows, out);
 }
 
+/* The far end, over which the ring of the listing closes: the other image with the greatest cost from image 1, the lowest on a tie. */
+static size_t far_end(const uint32_t *table) {
+    size_t last = 2;
+    for (size_t i = 3; i <= N; i++)
+        if (table[i - 1] > table[last - 1]) last = i;
+    return last;
+}
+
 /* What needs the cost table and no tree: the order around it, and how strongly the table supports a division. */
 static void use_table(void) {
     uint32_t out[N];
-    KemotuikiOrder order = kemotuiki_order(N, tables[0], N * N, 1, 9, out, N);
+    size_t last = far_end(tables[0]);
+    printf("farthest from image 1: image %zu\n", last);
+    KemotuikiOrder order = kemotuiki_order(N, tables[0], N * N, 1, last, out, N);
     NEED(order);
-    numbers("order from 1 to 9:", order.images, out);
+    numbers("order from 1 to there:", order.images, out);
     KemotuikiIndex index = kemotuiki_index(N, tables[0], N * N, 12);
     NEED(index);
     printf("index of 3 and 4 against the others: %zu\n", index.index);

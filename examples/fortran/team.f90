@@ -90,7 +90,7 @@ contains
 
     subroutine use_tree()
         integer(int64) :: fars(room)
-        integer :: costs(room), out(room), rows
+        integer :: costs(room), out(room), rows, last
         type(kemotuiki_rows_answer) :: tree, route, upper
         type(kemotuiki_path_answer) :: path
         type(kemotuiki_order_answer) :: order
@@ -111,9 +111,12 @@ contains
         call require(upper)
         print '(a, *(1x, i0))', 'upper rows:', out(:upper%rows)
 
-        order = kemotuiki_order(tables(:, :, 1), 1, 9, out)
+        ! The far end, over which the ring of the listing closes: of equals maxloc gives the lowest.
+        last = maxloc(tables(1, 2:, 1), dim=1) + 1
+        print '(a, i0)', 'farthest from image 1: image ', last
+        order = kemotuiki_order(tables(:, :, 1), 1, last, out)
         call require(order)
-        print '(a, *(1x, i0))', 'order from 1 to 9:', out(:order%images)
+        print '(a, *(1x, i0))', 'order from 1 to there:', out(:order%images)
         division = kemotuiki_index(tables(:, :, 1), 12)
         call require(division)
         print '(a, i0)', 'index of 3 and 4 against the others: ', division%index

@@ -1,5 +1,6 @@
 // The calls by number. Those whose cases begin with a cost table come first, then those with a link table, then those with stored
-// bytes and a position, the calls over several tables, the calls of the reader, the text of an answer, and the links that a team shares.
+// bytes and a position, the calls over several tables, the calls of the reader, the text of an answer, the links that a team shares, and
+// the listings.
 pub const INDEX: u32 = 1;
 
 pub const ORDER: u32 = 2;
@@ -39,3 +40,5 @@ pub const TWO_FIELDS: u32 = 18;
 pub const REFUSAL_TEXT: u32 = 19;
 
 pub const CONSENSUS: u32 = 20;
+
+pub const LISTING: u32 = 21;

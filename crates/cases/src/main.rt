@@ -6,6 +6,7 @@ mod calls;
 mod choice_cases;
 mod cost_cases;
 mod link_cases;
+mod listing_cases;
 mod reader_cases;
 mod team_cases;
 mod text_cases;
@@ -34,6 +35,9 @@ fn one_case(call: u32, text: &[u8], at: usize) -> usize {
     }
     if call == calls::CONSENSUS {
         return team_cases::team_case(text, at);
+    }
+    if call == calls::LISTING {
+        return listing_cases::listing_case(text, at);
     }
     reader_cases::reader_case(call, text, at)
 }
@@ -85,4 +89,5 @@ fn main() {
     run(calls::TWO_FIELDS, b"two_fields", b"two_fields.txt");
     run(calls::REFUSAL_TEXT, b"refusal_text", b"refusal_text.txt");
     run(calls::CONSENSUS, b"consensus", b"consensus.txt");
+    run(calls::LISTING, b"listing", b"listing.txt");
 }

@@ -1,9 +1,9 @@
-// Prints the listing of the stored cost table that standard input begins with. What was read counts as the input, also where a
-// read fails.
+// Prints the listing of the stored cost table that standard input begins with; its order ends at the far end. What was read counts as
+// the input, also where a read fails.
 use libc::STDIN_FILENO;
 use libc::STDOUT_FILENO;
 
-// No stored cost table is longer than this array, so nothing behind it can matter: `listing-ignores` in listing_text/specs/Promises.antt.
+// No stored cost table is longer than this array, so nothing behind it can matter: `listing-ignores` in listing_text/specs/Ignored.antt.
 fn main() {
     let mut input = [0u8; 5041];
     let count = io::read_full(STDIN_FILENO, &mut input);

@@ -6,6 +6,7 @@ use Rattle.ground.specs.Least.{leastOn}
 use Rattle.ground.specs.Lowest.{checkAll}
 use Rattle.theory.specs.Index.{shifted}
 use Rattle.theory.specs.Order.{grow, next}
+use Rattle.far_end.specs.FarEnd.{farthest}
 use Rattle.bits.specs.Bits.{bits, bitsOf, part, valueOf}
 use Rattle.bits.specs.Forms.{fieldValue}
 use Rattle.bits.specs.Listed.{listed}
@@ -16,18 +17,28 @@ use Rattle.text.specs.Decimal.{decimal, digits}
 use Rattle.text.specs.Fields.{field, fields}
 use Rattle.text.specs.Words.{bytesOf}
 use Rattle.listing_text.specs.Lines.{header, orderLine, refusedLine, rowLine, rowLines}
-use Rattle.listing_text.specs.Listing.{listingText, readingText}
+use Rattle.listing_text.specs.Listing.{listingText}
+use Rattle.listing_text.specs.TableText.{readingText}
+use Rattle.listing_text.specs.declared.Last.{Last}
+use Rattle.listing_text.specs.declared.Last.the-variants.{FarEnd, ImageN}
 
--- example A from its stored bytes: its rows, their upper rows, and the order
-pub example-A : listingText (0x06 ∷ 0x00 ∷ 0x00 ∷ 0x20 ∷ 0x00 ∷ 0x02 ∷ 0x00 ∷ 0x00 ∷ 0x20 ∷ [])
+-- example A from its stored bytes: its rows, their upper rows, and the order, whose last image is the lowest of two that cost the same
+pub example-A : listingText FarEnd (0x06 ∷ 0x00 ∷ 0x00 ∷ 0x20 ∷ 0x00 ∷ 0x02 ∷ 0x00 ∷ 0x00 ∷ 0x20 ∷ [])
+    ≡ bytesOf "images 3 rows 3\n2 1 3\n4 1 3\n6 1 0\norder 1 3 2\n"
+unfolding listingText bits bitsOf valueOf part fieldValue listed rowStart entryCost tableOf imagesOf entryOf fillOf checkAll treeCheck
+    leastOn ones onesIn shifted exactRows grow next farthest readingText header rowLines rowLine orderLine fields field decimal digits bytesOf
+example-A = refl
+
+-- and with last n
+pub example-A-last-n : listingText ImageN (0x06 ∷ 0x00 ∷ 0x00 ∷ 0x20 ∷ 0x00 ∷ 0x02 ∷ 0x00 ∷ 0x00 ∷ 0x20 ∷ [])
     ≡ bytesOf "images 3 rows 3\n2 1 3\n4 1 3\n6 1 0\norder 1 2 3\n"
 unfolding listingText bits bitsOf valueOf part fieldValue listed rowStart entryCost tableOf imagesOf entryOf fillOf checkAll treeCheck
     leastOn ones onesIn shifted exactRows grow next readingText header rowLines rowLine orderLine fields field decimal digits bytesOf
-example-A = refl
+example-A-last-n = refl
 
--- example C from its stored bytes
-pub example-C : listingText (0x06 ∷ 0x00 ∷ 0x00 ∷ 0x20 ∷ 0x00 ∷ 0x02 ∷ 0x00 ∷ 0x00 ∷ 0x60 ∷ [])
+-- example C from its stored bytes, whichever image would be last
+pub example-C : (which : Last) → listingText which (0x06 ∷ 0x00 ∷ 0x00 ∷ 0x20 ∷ 0x00 ∷ 0x02 ∷ 0x00 ∷ 0x00 ∷ 0x60 ∷ [])
     ≡ bytesOf "refused 7 1 1 2 3\n"
 unfolding listingText bits bitsOf valueOf part fieldValue listed rowStart entryCost tableOf imagesOf entryOf fillOf checkAll treeCheck
     refusedLine field decimal digits bytesOf
-example-C = refl
+example-C which = refl

@@ -1,8 +1,9 @@
-// The text of the listing program: the exact reading of one stored cost table, line by line. Every function that writes takes the
-// place where its text begins and answers the place behind it.
+// The text of the listing programs: the exact reading of one stored cost table, line by line. The two programs differ in the last image
+// of the order alone. Every function that writes takes the place where its text begins and answers the place behind it.
 use ground::Refusal;
 use ground::Written;
 use stored_costs::StoredCosts;
+ghost use mathlib.Core.Path.{_≡_};
 ghost use Prim.Native.Nat.{_≤_};
 ghost use lib.ListN.{length};
 ghost use Rattle.theory.specs.Routes.{uppers};
@@ -10,7 +11,10 @@ ghost use Rattle.theory.specs.Tables.{CostTable, limit};
 ghost use Rattle.links.specs.Links.{Links};
 ghost use Rattle.order.specs.Outcome.{images};
 ghost use Rattle.listing_text.specs.Lines.{header, orderLine, refusedLine, rowLine, rowLines};
-ghost use Rattle.listing_text.specs.Listing.{Listed, listingText, readingText, room, tableText};
+ghost use Rattle.listing_text.specs.LastImage.{Other, lastImage};
+ghost use Rattle.listing_text.specs.TableText.{readingText, tableText};
+ghost use Rattle.listing_text.specs.Listing.{Listed, listingText, room};
+ghost use Rattle.listing_text.specs.declared.Last.the-variants.{FarEnd, ImageN};
 ghost use Rattle.text.specs.Putting.{Fits, Put};
 
 // The first line: how many images, and how many rows.
@@ -94,41 +98,61 @@ fn put_reading(
     put_order(out, q, around)
 }
 
-// The listing of a link table and of the cost table that it reads, with its upper rows and the order from 1 with last n.
-fn write_links(out: &mut [u8], n: usize, t: &[u32], fars: &[u64], costs: &[u32]) -> usize
-    requires { ⌜ CostTable limit n (now t) × Links limit n (length (now fars)) (now fars) (now costs) × (room ≤ length (now out)) ⌝ }
-    ensures { λ r. ⌜ Put (readingText n (now (fars .entry)) (now (costs .entry)) (uppers (now (fars .entry))) (images n (now (t .entry)) 1 n)) 0
+// The listing of a link table and of the cost table that it reads, with its upper rows and the order from 1 with this last.
+fn write_links(out: &mut [u8], n: usize, t: &[u32], last: usize, fars: &[u64], costs: &[u32]) -> usize
+    requires { ⌜ CostTable limit n (now t) × Other n last × Links limit n (length (now fars)) (now fars) (now costs) × (room ≤ length (now out)) ⌝ }
+    ensures { λ r. ⌜ Put (readingText n (now (fars .entry)) (now (costs .entry)) (uppers (now (fars .entry))) (images n (now (t .entry)) 1 last)) 0
         (now (out .entry)) r (now (out .exit)) ⌝ }
 {
     let mut above = [0u32; 128];
     routes::upper_rows(n, fars.len(), fars, costs, &mut above);
     let mut around = [0u32; 64];
-    order::order(n, t, 1, n, &mut around);
+    order::order(n, t, 1, last, &mut around);
     put_reading(out, n, fars, costs, &above[..fars.len()], &around[..n])
 }
 
-// The listing of a cost table: its exact reading, or refusal 7.
-fn write_table(out: &mut [u8], n: usize, t: &[u32]) -> usize
-    requires { ⌜ CostTable limit n (now t) × (room ≤ length (now out)) ⌝ }
-    ensures { λ r. ⌜ Put (tableText n (now (t .entry))) 0 (now (out .entry)) r (now (out .exit)) ⌝ }
+// The listing of a cost table: its exact reading and the order from 1 with this last, or refusal 7.
+fn write_table(out: &mut [u8], n: usize, t: &[u32], last: usize) -> usize
+    requires { ⌜ CostTable limit n (now t) × Other n last × (room ≤ length (now out)) ⌝ }
+    ensures { λ r. ⌜ Put (tableText last n (now (t .entry))) 0 (now (out .entry)) r (now (out .exit)) ⌝ }
 {
     let mut fars = [0u64; 128];
     let mut costs = [0u32; 128];
     match tree::exact(n, t, &mut fars, &mut costs) {
         Written::Refused(q) => put_refusal(out, 0, q),
-        Written::Places(count) => write_links(out, n, t, &fars[..count], &costs[..count]),
+        Written::Places(count) => write_links(out, n, t, last, &fars[..count], &costs[..count]),
+    }
+}
+
+// The last image of an order: the far end, or image n.
+pub enum Last {
+    FarEnd,
+    ImageN,
+}
+
+// The last image that is asked for, counted from 1.
+fn last_image(which: Last, n: usize, t: &[u32]) -> usize
+    requires { ⌜ CostTable limit n (now t) ⌝ }
+    ensures { λ r. ⌜ r ≡ lastImage which n (now (t .entry)) ⌝ }
+{
+    match which {
+        Last::FarEnd => far_end::far_end(n, t) + 1,
+        Last::ImageN => n,
     }
 }
 
 // The listing of the stored cost table at the start of the bytes.
-fn write_stored(out: &mut [u8], bytes: &[u8]) -> usize
+fn write_stored(out: &mut [u8], which: Last, bytes: &[u8]) -> usize
     requires { ⌜ room ≤ length (now out) ⌝ }
-    ensures { λ r. ⌜ Put (listingText (now (bytes .entry))) 0 (now (out .entry)) r (now (out .exit)) ⌝ }
+    ensures { λ r. ⌜ Put (listingText which (now (bytes .entry))) 0 (now (out .entry)) r (now (out .exit)) ⌝ }
 {
     let mut t = [0u32; 4096];
     match stored_costs::read_costs(bytes, 0, &mut t) {
         StoredCosts::Refused(q) => put_refusal(out, 0, q),
-        StoredCosts::Table { n, used: _ } => write_table(out, n, &t[..n * n]),
+        StoredCosts::Table { n, used: _ } => {
+            let table = &t[..n * n];
+            write_table(out, n, table, last_image(which, n, table))
+        }
     }
 }
 
@@ -138,14 +162,29 @@ pub struct Text {
     pub bytes: [u8; 10240],
 }
 
-// The listing of the stored cost table at the start of the bytes, whatever follows it: the exact reading, or one line with the refusal.
-pub fn listing(bytes: &[u8]) -> Text
-    ensures { λ r. ⌜ Listed (now (bytes .entry)) (r .length) (r .bytes) ⌝ }
+// What both programs print: the exact reading of the stored cost table at the start of the bytes, whatever follows it, or one line with
+// the refusal.
+fn listing_with(which: Last, bytes: &[u8]) -> Text
+    ensures { λ r. ⌜ Listed which (now (bytes .entry)) (r .length) (r .bytes) ⌝ }
 {
     let mut text = [0u8; 10240];
-    let length = write_stored(&mut text, bytes);
+    let length = write_stored(&mut text, which, bytes);
     Text {
         length,
         bytes: text,
     }
+}
+
+// The listing whose order ends at the far end, so that the ring closes over the long link.
+pub fn listing(bytes: &[u8]) -> Text
+    ensures { λ r. ⌜ Listed FarEnd (now (bytes .entry)) (r .length) (r .bytes) ⌝ }
+{
+    listing_with(Last::FarEnd, bytes)
+}
+
+// The listing whose order ends with image n, on which the keeper's ring scripts were built.
+pub fn listing_last_n(bytes: &[u8]) -> Text
+    ensures { λ r. ⌜ Listed ImageN (now (bytes .entry)) (r .length) (r .bytes) ⌝ }
+{
+    listing_with(Last::ImageN, bytes)
 }

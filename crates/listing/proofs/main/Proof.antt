@@ -22,10 +22,10 @@ listing-requires : tie.Need-listing-requires
 listing-requires c κs = search needs
 
 array-share-prefix-bytes : tie.Need-array-share-prefix-bytes
-array-share-prefix-bytes c = listed-within _ (c .before .listing .ensures)
+array-share-prefix-bytes c = listed-within _ _ (c .before .listing .ensures)
 
 slice-aggregate-write-all : tie.Need-slice-aggregate-write-all
-slice-aggregate-write-all c = sym (length-take-le _ _ (listed-within _ (c .before .before .listing .ensures)))
+slice-aggregate-write-all c = sym (length-take-le _ _ (listed-within _ _ (c .before .before .listing .ensures)))
 
 write-all-requires : tie.Need-write-all-requires
 write-all-requires c κs = search needs

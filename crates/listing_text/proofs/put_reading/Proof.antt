@@ -3,7 +3,7 @@ use mathlib.Core.List.{_++_}
 use lib.ListN.{length}
 use borrow.Author.Needs.{needs}
 use Rattle.listing_text.specs.Lines.{header, orderLine, rowLines}
-use Rattle.listing_text.specs.Listing.{readingText}
+use Rattle.listing_text.specs.TableText.{readingText}
 use Rattle.text.specs.Putting.{Rest}
 use Rattle.text.specs.Laws.Putting.{last-fits, rest-begin, rest-fits, rest-last, rest-step}
 use Rattle.listing_text.proofs.put_reading.Statement.{statement}

@@ -30,23 +30,23 @@ upper-rows-are : (c : tie.After-upper-rows)
     (s .args .fars .now)
 upper-rows-are c =
     let s = c .before .before .before .before .before .before in
-    uppers-left (s .args .n) (s .args .fars .now) (s .args .costs .now) (replicate 128 0) _ _ (s .pre .1) (omega (arith, length-replicate {A = ℕ} 128 0))
+    uppers-left (s .args .n) (s .args .fars .now) (s .args .costs .now) (replicate 128 0) _ _ (s .pre .2) (omega (arith, length-replicate {A = ℕ} 128 0))
     (c .upper-rows .ensures)
 
 -- and the order
 order-is : (c : tie.After-order) → let s = c .before .before .before .before .before .before .before .before .before in
-    (take (s .args .n) (c .order .last .1 .1 .1 .1 .0) ≡ images (s .args .n) (s .args .t .now) 1 (s .args .n))
-    × (length (images (s .args .n) (s .args .t .now) 1 (s .args .n)) ≡ s .args .n)
+    (take (s .args .n) (c .order .last .1 .1 .1 .1 .0) ≡ images (s .args .n) (s .args .t .now) 1 (s .args .last))
+    × (length (images (s .args .n) (s .args .t .now) 1 (s .args .last)) ≡ s .args .n)
 order-is c =
     let s = c .before .before .before .before .before .before .before .before .before in
-    order-left (s .args .n) (s .args .t .now) (replicate 64 0) _ _ (s .pre .0) (omega (arith, length-replicate {A = ℕ} 64 0)) (c .order .ensures)
+    order-left (s .args .n) (s .args .t .now) (s .args .last) (replicate 64 0) _ _ (s .pre .0) (s .pre .1) (omega (arith, length-replicate {A = ℕ} 64 0)) (c .order .ensures)
 
 -- there are as many places as rows
 above-room : (c : tie.After-upper-rows)
     → length (c .before .before .before .before .before .before .args .fars .now) ≤ length (c .upper-rows .last .1 .1 .1 .1 .0)
 above-room c =
     let s = c .before .before .before .before .before .before in
-    omega (arith, links-few (s .args .n) (s .args .fars .now) (s .args .costs .now) (s .pre .1), c .upper-rows .kept .1 .1 .1 .1 .0)
+    omega (arith, links-few (s .args .n) (s .args .fars .now) (s .args .costs .now) (s .pre .2), c .upper-rows .kept .1 .1 .1 .1 .0)
 
 array-share-prefix-above : tie.Need-array-share-prefix-above
 array-share-prefix-above c = above-room (c .before .before .before .before .before)
@@ -68,7 +68,7 @@ put-reading-requires c κs =
     let a = s .args in
     let o = order-is (c .before .before .before .before) in
     let e : length (take (a .n) (c .before .before .before .before .order .last .1 .1 .1 .1 .0)) ≡ a .n = ap length (o .0) ∙ o .1 in (
-      omega (arith, s .pre .1 .costed),
+      omega (arith, s .pre .2 .costed),
       omega (
         arith,
         length-take-le (length (a .fars .now)) (c .before .before .before .before .before .before .before .upper-rows .last .1 .1 .1 .1 .0)
@@ -76,10 +76,10 @@ put-reading-requires c κs =
       ),
       omega (
         arith,
-        s .pre .2,
+        s .pre .3,
         reading-most (a .n) (a .fars .now) (a .costs .now)
             (take (length (a .fars .now)) (c .before .before .before .before .before .before .before .upper-rows .last .1 .1 .1 .1 .0))
-            (take (a .n) (c .before .before .before .before .order .last .1 .1 .1 .1 .0)) (links-few (a .n) (a .fars .now) (a .costs .now) (s .pre .1))
+            (take (a .n) (c .before .before .before .before .order .last .1 .1 .1 .1 .0)) (links-few (a .n) (a .fars .now) (a .costs .now) (s .pre .2))
             (omega (arith, e, s .pre .0 .few)),
       ),
     )

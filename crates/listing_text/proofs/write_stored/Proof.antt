@@ -1,11 +1,12 @@
 -- `listing_text::write_stored` meets its contract: the reader leaves a cost table, or its refusal. Assumes nothing.
 use mathlib.Core.Path.{sym, _≡_}
-use Prim.Native.Nat.{ℕ}
+use Prim.Native.Nat.{ℕ, _*_, _≤_}
 use native.Mathlib.Omega.{arith}
-use lib.ListN.{length-replicate, replicate}
+use lib.ListN.{length, length-replicate, replicate}
 use lib.Seq.{length-take-le}
 use borrow.Author.Needs.{needs}
 use Rattle.stored_costs.specs.Laws.Sizes.{square-le}
+use Rattle.listing_text.specs.Laws.LastImage.{last-other}
 use Rattle.listing_text.specs.Laws.Lengths.{refused-fits}
 use Rattle.listing_text.specs.Lines.{refusedLine}
 use Rattle.listing_text.specs.Listing.{listingText}
@@ -21,21 +22,22 @@ read-costs-requires : tie.Need-read-costs-requires
 read-costs-requires c κs = search needs
 
 -- refused with 9, 1, 11 or 4
-refused-is : (c : tie.After-q) → listingText (c .before .before .before .before .before .before .before .args .bytes .now) ≡ refusedLine (c .q .given .0 .0)
+refused-is : (c : tie.After-q) → let a = c .before .before .before .before .before .before .before .args in
+    listingText (a .which) (a .bytes .now) ≡ refusedLine (c .q .given .0 .0)
 refused-is c =
     let s = c .before .before .before .before .before .before .before in
     let e = c .before .before .before .read-costs in
-    stored-refused (s .args .bytes .now) (replicate 4096 0) (e .last .1 .1 .0) (omega (arith, length-replicate {A = ℕ} 4096 0)) _
+    stored-refused (s .args .which) (s .args .bytes .now) (replicate 4096 0) (e .last .1 .1 .0) (omega (arith, length-replicate {A = ℕ} 4096 0)) _
     (rw (c .q .given .1) at (e .ensures))
 
 -- read
-table-is : (c : tie.After-n)
-    → StoredTable (c .before .before .before .before .before .before .before .args .bytes .now) (replicate 4096 0)
-    (c .before .before .before .read-costs .last .1 .1 .0) (omega (arith, length-replicate {A = ℕ} 4096 0)) (c .n .given .0 .0)
+table-is : (c : tie.After-n) → let a = c .before .before .before .before .before .before .before .args in
+    StoredTable (a .which) (a .bytes .now) (replicate 4096 0) (c .before .before .before .read-costs .last .1 .1 .0)
+    (omega (arith, length-replicate {A = ℕ} 4096 0)) (c .n .given .0 .0)
 table-is c =
     let s = c .before .before .before .before .before .before .before in
     let e = c .before .before .before .read-costs in
-    stored-table (s .args .bytes .now) (replicate 4096 0) (e .last .1 .1 .0) (omega (arith, length-replicate {A = ℕ} 4096 0)) _ _
+    stored-table (s .args .which) (s .args .bytes .now) (replicate 4096 0) (e .last .1 .1 .0) (omega (arith, length-replicate {A = ℕ} 4096 0)) _ _
     (rw (c .n .given .1) at (e .ensures))
 
 enum-known-q : tie.Need-enum-known-q
@@ -50,20 +52,26 @@ enum-known-n : tie.Need-enum-known-n
 enum-known-n c = search needs
 
 mul-t : tie.Need-mul-t
-mul-t c = omega (arith, square-le (table-is (c .before .before) .few))
+mul-t c = omega (arith, square-le (table-is (c .before) .few))
+
+-- the table lies within the array
+within : (c : tie.After-n) → c .n .given .0 .0 * c .n .given .0 .0 ≤ length (c .before .before .before .read-costs .last .1 .1 .0)
+within c = omega (arith, square-le (table-is c .few), c .before .before .before .read-costs .kept .1 .1 .0)
 
 array-share-prefix-t : tie.Need-array-share-prefix-t
-array-share-prefix-t c = omega (arith, square-le (table-is (c .before .before) .few), c .before .before .before .before .before .read-costs .kept .1 .1 .0)
+array-share-prefix-t c = within (c .before)
 
-slice-aggregate-write-table : tie.Need-slice-aggregate-write-table
-slice-aggregate-write-table c =
-    sym
-    (length-take-le _ _
-    (omega (arith, square-le (table-is (c .before .before .before) .few), c .before .before .before .before .before .before .read-costs .kept .1 .1 .0)))
+slice-aggregate-table : tie.Need-slice-aggregate-table
+slice-aggregate-table c = sym (length-take-le _ _ (within (c .before .before)))
+
+last-image-requires : tie.Need-last-image-requires
+last-image-requires c κs = table-is (c .before .before .before) .table
 
 write-table-requires : tie.Need-write-table-requires
 write-table-requires c κs =
-    (table-is (c .before .before .before) .table, c .before .before .before .before .before .before .before .before .before .before .pre)
+    let a = c .before .before .before .before .before .before .before .before .before .before .before in
+    let t = table-is (c .before .before .before .before) in
+    (t .table, rw (c .last-image .ensures) (last-other (a .args .which) _ _ (t .table)), a .pre)
 
 same-length : tie.Need-same-length
 same-length c = search needs
@@ -75,7 +83,9 @@ same-length-2 : tie.Need-same-length-2
 same-length-2 c = search needs
 
 returns-2 : tie.Need-returns-2
-returns-2 c = put-same (sym (table-is (c .before .before .before .before .before .before) .text)) (c .before .before .write-table .ensures)
+returns-2 c =
+    put-same (sym (table-is (c .before .before .before .before .before .before .before) .text))
+    (rw (c .before .before .before .last-image .ensures) at (c .before .before .write-table .ensures))
 
 pub write-stored-spec : {M : Type 1} → statement M
 write-stored-spec =
@@ -88,7 +98,8 @@ write-stored-spec =
     enum-known-n
     mul-t
     array-share-prefix-t
-    slice-aggregate-write-table
+    slice-aggregate-table
+    last-image-requires
     write-table-requires
     same-length
     returns

@@ -7,7 +7,7 @@ use borrow.Author.Needs.{needs}
 use Rattle.listing_text.specs.Laws.Accepted.{RowsRead, table-read, table-refused}
 use Rattle.listing_text.specs.Laws.Lengths.{refused-fits}
 use Rattle.listing_text.specs.Lines.{refusedLine}
-use Rattle.listing_text.specs.Listing.{tableText}
+use Rattle.listing_text.specs.TableText.{tableText}
 use Rattle.text.specs.Laws.Pieces.{put-same}
 use Rattle.listing_text.proofs.write_table.Statement.{statement}
 use Rattle.listing_text.proofs.write_table.Tie as tie
@@ -23,25 +23,27 @@ exact-requires c κs = search needs
 
 -- refused with 7
 refused-is : (c : tie.After-q)
-    → tableText (c .before .before .before .before .before .before .before .before .before .args .n)
+    → tableText (c .before .before .before .before .before .before .before .before .before .args .last)
+    (c .before .before .before .before .before .before .before .before .before .args .n)
     (c .before .before .before .before .before .before .before .before .before .args .t .now) ≡ refusedLine (c .q .given .0 .0)
 refused-is c =
     let s = c .before .before .before .before .before .before .before .before .before in
     let e = c .before .before .before .before .exact in
     let z = length-replicate {A = ℕ} 128 0 in
-    table-refused (s .args .n) (s .args .t .now) (replicate 128 0) (replicate 128 0) (e .last .1 .1 .0) (e .last .1 .1 .1 .0) _ (s .pre .0)
+    table-refused (s .args .last) (s .args .n) (s .args .t .now) (replicate 128 0) (replicate 128 0) (e .last .1 .1 .0) (e .last .1 .1 .1 .0) _ (s .pre .0)
     (omega (arith, z)) (omega (arith, z)) (rw (c .q .given .1) at (e .ensures))
 
 -- accepted
 read-is : (c : tie.After-count)
-    → RowsRead (c .before .before .before .before .before .before .before .before .before .args .n)
+    → RowsRead (c .before .before .before .before .before .before .before .before .before .args .last)
+    (c .before .before .before .before .before .before .before .before .before .args .n)
     (c .before .before .before .before .before .before .before .before .before .args .t .now) (c .count .given .0 .0)
     (c .before .before .before .before .exact .last .1 .1 .0) (c .before .before .before .before .exact .last .1 .1 .1 .0)
 read-is c =
     let s = c .before .before .before .before .before .before .before .before .before in
     let e = c .before .before .before .before .exact in
     let z = length-replicate {A = ℕ} 128 0 in
-    table-read (s .args .n) (s .args .t .now) (replicate 128 0) (replicate 128 0) (e .last .1 .1 .0) (e .last .1 .1 .1 .0) _ (s .pre .0)
+    table-read (s .args .last) (s .args .n) (s .args .t .now) (replicate 128 0) (replicate 128 0) (e .last .1 .1 .0) (e .last .1 .1 .1 .0) _ (s .pre .0)
     (omega (arith, z)) (omega (arith, z)) (rw (c .count .given .1) at (e .ensures))
 
 enum-known-q : tie.Need-enum-known-q
@@ -51,7 +53,7 @@ put-refusal-requires : tie.Need-put-refusal-requires
 put-refusal-requires c κs =
     refused-fits (c .before .before .q .given .0 .0)
     (c .before .before .before .before .before .before .before .before .before .before .before .args .out .now)
-    (c .before .before .before .before .before .before .before .before .before .before .before .pre .1)
+    (c .before .before .before .before .before .before .before .before .before .before .before .pre .2)
 
 enum-known-count : tie.Need-enum-known-count
 enum-known-count c = search needs
@@ -72,7 +74,7 @@ slice-aggregate-write-links-2 c = sym (read-is (c .before .before .before .befor
 write-links-requires : tie.Need-write-links-requires
 write-links-requires c κs =
     let s = c .before .before .before .before .before .before .before .before .before .before .before .before .before in
-    (s .pre .0, read-is (c .before .before .before .before) .links, s .pre .1)
+    (s .pre .0, s .pre .1, read-is (c .before .before .before .before) .links, s .pre .2)
 
 same-length : tie.Need-same-length
 same-length c = search needs

@@ -29,7 +29,8 @@ use Rattle.tree.specs.Promises.{exact-answer}
 use Rattle.tree.specs.Readings.{exactCheck, exactOutcome, outcome}
 use Rattle.tree.specs.Laws.Exact.{exact-check, table-sized}
 use Rattle.listing_text.specs.Lines.{refusedLine}
-use Rattle.listing_text.specs.Listing.{readingText, tableText, textIf}
+use Rattle.listing_text.specs.LastImage.{Other}
+use Rattle.listing_text.specs.TableText.{readingText, tableText, textIf}
 
 -- ## Upper rows and order of a table that was read
 
@@ -46,23 +47,25 @@ uppers-left n l v o e r t h p =
     let k = upper-answer limit n (length l) l v o (record { table = t; spare = omega (arith, t .few) }) in
     ap (take (length l)) (p .left ∙ ap (λ (w : Outcome Written). w .places) k) ∙ take-at (uppers l) _ (length l) (uppers-length 1 l)
 
-pub order-asked : (n : ℕ) (t o : List ℕ) → CostTable limit n t → 64 ≤ length o → OrderAsked limit n t 1 n (length o)
-order-asked n t o c h = record {
+-- an order from 1 to another image may be asked for
+pub order-asked : (n : ℕ) (t : List ℕ) (last : ℕ) (o : List ℕ) → CostTable limit n t → Other n last → 64 ≤ length o
+    → OrderAsked limit n t 1 last (length o)
+order-asked n t last o c b h = record {
   table = c;
   space = omega (arith, c .few);
   first-low = omega arith;
   first-high = omega (arith, c .some);
-  last-low = omega (arith, c .some);
-  last-high = omega arith;
-  differ = λ e. omega (arith, c .some);
+  last-low = omega (arith, b .low);
+  last-high = b .high;
+  differ = λ e. omega (arith, b .low);
 }
 
 -- the order that was left
-pub order-left : (n : ℕ) (t o e : List ℕ) (r : Written) → CostTable limit n t → 64 ≤ length o → Left (orderOutcome limit n t 1 n o) r e
-    → (take n e ≡ images n t 1 n) × (length (images n t 1 n) ≡ n)
-order-left n t o e r c h p =
-    let a = order-accepted limit n t 1 n o r e p (order-asked n t o c h) in
-    let w = order-wrote limit n t 1 n o r e n p a .1 in
+pub order-left : (n : ℕ) (t : List ℕ) (last : ℕ) (o e : List ℕ) (r : Written) → CostTable limit n t → Other n last → 64 ≤ length o
+    → Left (orderOutcome limit n t 1 last o) r e → (take n e ≡ images n t 1 last) × (length (images n t 1 last) ≡ n)
+order-left n t last o e r c b h p =
+    let a = order-accepted limit n t 1 last o r e p (order-asked n t last o c b h) in
+    let w = order-wrote limit n t 1 last o r e n p a .1 in
     (w .wrote, sym (ap length (w .wrote)) ∙ length-take-le n e (omega (arith, w .size, c .few)))
 
 -- ## The exact reading of a cost table
@@ -72,25 +75,25 @@ only-tree : (n : ℕ) (t f v : List ℕ) → CostTable limit n t → 125 ≤ len
 only-tree n t f v c a b =
     exact-check limit n t (c .some) (c .few) (length f) (length v) (omega (arith, c .few)) (omega (arith, c .few)) ∙ table-sized limit n t (c .sized)
 
-pub table-refused : (n : ℕ) (t f v f′ v′ : List ℕ) (q : Refusal) → CostTable limit n t → 125 ≤ length f → 125 ≤ length v
-    → LeftRows (exactOutcome limit n t f v) (written.Refused q) f′ v′ → tableText n t ≡ refusedLine q
-table-refused n t f v f′ v′ q c a b l = go (treeCheck limit n t) _ (rw (only-tree n t f v c a b) at (l .answered))
+pub table-refused : (last n : ℕ) (t f v f′ v′ : List ℕ) (q : Refusal) → CostTable limit n t → 125 ≤ length f → 125 ≤ length v
+    → LeftRows (exactOutcome limit n t f v) (written.Refused q) f′ v′ → tableText last n t ≡ refusedLine q
+table-refused last n t f v f′ v′ q c a b l = go (treeCheck limit n t) _ (rw (only-tree n t f v c a b) at (l .answered))
   where
     go : (k : Check) (m : List ℕ) → written.Refused q ≡ outcome k (exactRows limit n t) f v .answer → textIf k m ≡ refusedLine q
     go Passed m e = absurd (let z : _≡_ {A = ℕ} 0 1 = cc in omega arith)
     go (Refused p) m e = let s : p ≡ q = cc in ap refusedLine s
 
 -- the rows r that were left in front: a link table, and the text of the table is theirs
-pub record RowsRead (n : ℕ) (t : List ℕ) (r : ℕ) (f v : List ℕ) : Type 0 where
+pub record RowsRead (last n : ℕ) (t : List ℕ) (r : ℕ) (f v : List ℕ) : Type 0 where
   pub few : r ≤ 125
   pub far-length : length (take r f) ≡ r
   pub cost-length : length (take r v) ≡ r
   pub links : Links limit n (length (take r f)) (take r f) (take r v)
-  pub text : tableText n t ≡ readingText n (take r f) (take r v) (uppers (take r f)) (images n t 1 n)
+  pub text : tableText last n t ≡ readingText n (take r f) (take r v) (uppers (take r f)) (images n t 1 last)
 
-pub table-read : (n : ℕ) (t f v f′ v′ : List ℕ) (r : ℕ) → CostTable limit n t → 125 ≤ length f → 125 ≤ length v
-    → LeftRows (exactOutcome limit n t f v) (Places r) f′ v′ → RowsRead n t r f′ v′
-table-read n t f v f′ v′ r c a b l =
+pub table-read : (last n : ℕ) (t f v f′ v′ : List ℕ) (r : ℕ) → CostTable limit n t → 125 ≤ length f → 125 ≤ length v
+    → LeftRows (exactOutcome limit n t f v) (Places r) f′ v′ → RowsRead last n t r f′ v′
+table-read last n t f v f′ v′ r c a b l =
     let T = exactRows limit n t in
     let g = go (treeCheck limit n t) _ (rw (only-tree n t f v c a b) at (l .answered)) (rw (only-tree n t f v c a b) at (l .far-sides))
     (rw (only-tree n t f v c a b) at (l .doubled)) in

@@ -26,7 +26,10 @@ use Rattle.stored_costs.specs.Reading.{bodyChecks, readAtChecks, readChecks, st
 use Rattle.stored_costs.specs.declared.StoredCosts.the-variants.{Table}
 use Rattle.stored_costs.specs.declared.StoredCosts.the-variants as stored
 use Rattle.listing_text.specs.Lines.{refusedLine}
-use Rattle.listing_text.specs.Listing.{listingText, storedChecks, tableText}
+use Rattle.listing_text.specs.LastImage.{lastImage}
+use Rattle.listing_text.specs.Listing.{listingText, storedChecks}
+use Rattle.listing_text.specs.TableText.{tableText}
+use Rattle.listing_text.specs.declared.Last.{Last}
 
 -- a check that passes wherever the one before it does can be left out
 without : (e i r b : Check) → (i ≡ Passed → r ≡ Passed) → ((e then i then r) then b) ≡ (e then i then b)
@@ -46,8 +49,8 @@ enough-room s places h =
 stored-checks : (s : List ℕ) (places : ℕ) → 4096 ≤ places → readAtChecks oldCosts s 0 places ≡ storedChecks s
 stored-checks s places h = rw (le-ltb (length s) 0 (omega arith)) (enough-room s places h)
 
-module _ (s o e : List ℕ) (h : 4096 ≤ length o) where
-  pub stored-refused : (q : Refusal) → Left (readOutcome oldCosts s 0 o) (stored.Refused q) e → listingText s ≡ refusedLine q
+module _ (which : Last) (s o e : List ℕ) (h : 4096 ≤ length o) where
+  pub stored-refused : (q : Refusal) → Left (readOutcome oldCosts s 0 o) (stored.Refused q) e → listingText which s ≡ refusedLine q
   unfolding listingText
   stored-refused q p =
       let k : storedChecks s ≡ Refused q = sym (stored-checks s (length o) h) ∙ judged-refused oldCosts s 0 (length o) q (sym (p .answered)) in
@@ -57,7 +60,7 @@ module _ (s o e : List ℕ) (h : 4096 ≤ length o) where
   pub record StoredTable (n : ℕ) : Type 0 where
     pub few : n ≤ 64
     pub table : CostTable limit n (take (n * n) e)
-    pub text : listingText s ≡ tableText n (take (n * n) e)
+    pub text : listingText which s ≡ tableText (lastImage which n (take (n * n) e)) n (take (n * n) e)
 
   pub stored-table : (n used : ℕ) → Left (readOutcome oldCosts s 0 o) (Table n used) e → StoredTable n
   unfolding listingText

@@ -1,8 +1,8 @@
--- `listing_text::listing` meets its contract: the text stands in front of an array of zeros. Assumes nothing.
+-- `listing_text::listing_with` meets its contract: the text stands in front of an array of zeros. Assumes nothing.
 use borrow.Author.Needs.{needs}
 use Rattle.text.specs.Laws.Putting.{put-front}
-use Rattle.listing_text.proofs.listing.Statement.{statement}
-use Rattle.listing_text.proofs.listing.Tie as tie
+use Rattle.listing_text.proofs.listing_with.Statement.{statement}
+use Rattle.listing_text.proofs.listing_with.Tie as tie
 
 slice-aggregate-write-stored : tie.Need-slice-aggregate-write-stored
 slice-aggregate-write-stored c = search needs
@@ -13,8 +13,8 @@ write-stored-requires c κs = search needs
 returns : tie.Need-returns
 returns c = let p = put-front (c .before .write-stored .ensures) in record { sized = p .0; listed = p .1 }
 
-pub listing-spec : {M : Type 1} → statement M
-listing-spec =
+pub listing-with-spec : {M : Type 1} → statement M
+listing-with-spec =
     tie.close
     (tie.spec
     slice-aggregate-write-stored

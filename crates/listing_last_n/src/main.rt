@@ -1,0 +1,14 @@
+// Prints the listing whose order ends with image n, for ring scripts that were built on it, of the stored cost table that standard input
+// begins with. What was read counts as the input, also where a read fails.
+use libc::STDIN_FILENO;
+use libc::STDOUT_FILENO;
+
+// No stored cost table is longer than this array, so nothing behind it can matter: `listing-ignores` in listing_text/specs/Ignored.antt.
+fn main() {
+    let mut input = [0u8; 5041];
+    let count = io::read_full(STDIN_FILENO, &mut input);
+    let text = listing_text::listing_last_n(&input[..count]);
+    let length = text.length;
+    let bytes = text.bytes;
+    io::write_all(STDOUT_FILENO, &bytes[..length]);
+}

@@ -1,0 +1,112 @@
+-- What the order line of a listing says: all images once, from 1 to the last image; which image that is; and that the two listings of one
+-- input differ in this line only. Images are 1 to n here, as in the listing. Assumes nothing.
+use mathlib.Core.List.{List, append-assoc, _++_}
+use mathlib.Core.Path.{ap, refl, sym, _∙_, _≡_}
+use Prim.Native.Nat.{ℕ, _-_, _≤_}
+use native.Mathlib.Omega.{arith}
+use lib.ListN.{getD, length, length-replicate, replicate}
+use lib.Seq.{getD-take}
+use Rattle.ground.specs.Members.{occurs}
+use Rattle.ground.specs.Outcomes.{Left}
+use Rattle.ground.specs.declared.Check.the-variants.{Passed, Refused}
+use Rattle.ground.specs.declared.Refusal.{Refusal}
+use Rattle.theory.specs.LinkTables.{costs, fars}
+use Rattle.theory.specs.Routes.{uppers}
+use Rattle.theory.specs.Tables.{CostTable, cost, limit}
+use Rattle.far_end.specs.FarEnd.{farEnd}
+use Rattle.far_end.specs.Laws.FarEnd.{far-end-is}
+use Rattle.order.specs.Outcome.{images, orderOutcome}
+use Rattle.order.specs.Promises.{order-accepted, order-wrote}
+use Rattle.tree.specs.Exact.{exactRows}
+use Rattle.listing_text.specs.LastImage.{Other, lastImage}
+use Rattle.listing_text.specs.Laws.Accepted.{order-asked, order-left}
+use Rattle.listing_text.specs.Laws.LastImage.{last-other}
+use Rattle.listing_text.specs.Lines.{header, orderLine, refusedLine, rowLines}
+use Rattle.listing_text.specs.Listing.{imagesSaid, listingText, tableSaid}
+use Rattle.listing_text.specs.Promises.{listing-accepted, listing-refused, listing-table, listingChecks, orderSaid}
+use Rattle.listing_text.specs.TableText.{readingText}
+use Rattle.listing_text.specs.declared.Last.{Last}
+use Rattle.listing_text.specs.declared.Last.the-variants.{FarEnd, ImageN}
+
+-- ## The last image
+
+-- last is the far end: an image of 2 to n; none of these costs more from image 1; of equals it is the lowest
+pub record LastIsFar (n : ℕ) (t : List ℕ) (last : ℕ) : Type 0 where
+  pub other : 2 ≤ last
+  pub image : last ≤ n
+  pub greatest : (i : ℕ) → 2 ≤ i → i ≤ n → cost t n 0 (i - 1) ≤ cost t n 0 (last - 1)
+  pub lowest : (i : ℕ) → 2 ≤ i → i ≤ n → cost t n 0 (i - 1) ≡ cost t n 0 (last - 1) → last ≤ i
+
+pub last-is-far : (n : ℕ) (t : List ℕ) → CostTable limit n t → LastIsFar n t (lastImage FarEnd n t)
+last-is-far n t c =
+    let f = far-end-is (cost t n) n (omega (arith, c .some)) in
+    let back : lastImage FarEnd n t - 1 ≡ farEnd (cost t n) n = omega arith in
+    record {
+      other = omega (arith, f .other);
+      image = omega (arith, f .image);
+      greatest = λ i l h. rw back (f .greatest (i - 1) (omega arith) (omega arith));
+      lowest = λ i l h e. omega (arith, f .lowest (i - 1) (omega arith) (omega arith) (rw back at e));
+    }
+
+-- and no other image is all that
+pub last-only : (n : ℕ) (t : List ℕ) (last : ℕ) → CostTable limit n t → LastIsFar n t last → last ≡ lastImage FarEnd n t
+last-only n t last c f =
+    let g = last-is-far n t c in
+    let a = lastImage FarEnd n t in
+    let e : cost t n 0 (last - 1) ≡ cost t n 0 (a - 1) =
+    omega (arith, f .greatest a (g .other) (g .image), g .greatest last (f .other) (f .image)) in
+    omega (arith, f .lowest a (g .other) (g .image) (omega arith), g .lowest last (f .other) (f .image) e)
+
+-- ## All images once
+
+-- o has each of n images once, image 1 in front and last at the end
+pub record FromOneTo (last n : ℕ) (o : List ℕ) : Type 0 where
+  pub size : length o ≡ n
+  pub once : (i : ℕ) → 1 ≤ i → i ≤ n → occurs i o ≡ 1
+  pub front : getD o 0 0 ≡ 1
+  pub back : getD o (n - 1) 0 ≡ last
+
+pub from-one : (n : ℕ) (t : List ℕ) (last : ℕ) → CostTable limit n t → Other n last → FromOneTo last n (images n t 1 last)
+from-one n t last c b =
+    let o : List ℕ = replicate 64 0 in
+    let q = orderOutcome limit n t 1 last o in
+    let p : Left q (q .answer) (q .places) = record { answered = refl; left = refl } in
+    let h : 64 ≤ length o = omega (arith, length-replicate {A = ℕ} 64 0) in
+    let a = order-accepted limit n t 1 last o (q .answer) (q .places) p (order-asked n t last o c b h) in
+    let w = order-wrote limit n t 1 last o (q .answer) (q .places) n p a .1 in
+    record {
+      size = order-left n t last o (q .places) (q .answer) c b h p .1;
+      once = λ i l g. rw (w .wrote) at (w .once i l g);
+      front = refl;
+      back =
+        ap (λ (z : List ℕ). getD z (n - 1) 0) (sym (w .wrote)) ∙ getD-take n (q .places) (n - 1) 0 (omega (arith, c .some)) ∙ w .to;
+    }
+
+-- ## Two listings of one input
+
+-- header and rows of the table that the bytes say
+abbrev pub rowsShown : List ℕ → List ℕ
+rowsShown s =
+    let l = fars (exactRows limit (imagesSaid s) (tableSaid s)) in
+    header (imagesSaid s) (length l) ++ rowLines l (costs (exactRows limit (imagesSaid s) (tableSaid s))) (uppers l)
+
+-- accepted, a listing is header and rows, which are the same whichever image is last, and its own order line
+pub order-line : (which : Last) (s : List ℕ) → listingChecks s ≡ Passed → listingText which s ≡ rowsShown s ++ orderLine (orderSaid which s)
+unfolding readingText
+order-line which s e =
+    let n = imagesSaid s in
+    let T = exactRows limit n (tableSaid s) in
+    listing-accepted which s e
+    ∙ sym (append-assoc (header n (length (fars T))) (rowLines (fars T) (costs T) (uppers (fars T))) (orderLine (orderSaid which s)))
+
+-- the listing and the one with last n differ in the order line only
+pub record OrderLineOnly (s : List ℕ) : Type 0 where
+  pub refused : (q : Refusal) → listingChecks s ≡ Refused q → (listingText FarEnd s ≡ refusedLine q) × (listingText ImageN s ≡ refusedLine q)
+  pub accepted : listingChecks s ≡ Passed
+      → (listingText FarEnd s ≡ rowsShown s ++ orderLine (orderSaid FarEnd s)) × (listingText ImageN s ≡ rowsShown s ++ orderLine (orderSaid ImageN s))
+
+pub order-line-only : (s : List ℕ) → OrderLineOnly s
+order-line-only s = record {
+  refused = λ q e. (listing-refused FarEnd s q e, listing-refused ImageN s q e);
+  accepted = λ e. (order-line FarEnd s e, order-line ImageN s e);
+}
