@@ -3,9 +3,10 @@ pub mod Lines
 pub mod LastImage
 pub mod TableText
 pub mod Listing
--- What the promises are worth, what the order line says, which bytes cannot matter, and examples that antt computes.
+-- What the promises are worth: what is printed, the order line, refusals in order, bytes that cannot matter; and examples, computed.
 pub mod Promises
 pub mod OrderLines
+pub mod InOrder
 pub mod Ignored
 pub mod Examples
 -- What is true of it.

@@ -4,7 +4,7 @@ use mathlib.Core.List.{List, append-assoc, _++_}
 use mathlib.Core.Path.{ap, refl, sym, _∙_, _≡_}
 use Prim.Native.Nat.{ℕ, _-_, _≤_}
 use native.Mathlib.Omega.{arith}
-use lib.ListN.{getD, length, length-replicate, replicate}
+use lib.ListN.{getD, length, length-replicate, replicate, take}
 use lib.Seq.{getD-take}
 use Rattle.ground.specs.Members.{occurs}
 use Rattle.ground.specs.Outcomes.{Left}
@@ -22,9 +22,9 @@ use Rattle.listing_text.specs.LastImage.{Other, lastImage}
 use Rattle.listing_text.specs.Laws.Accepted.{order-asked, order-left}
 use Rattle.listing_text.specs.Laws.LastImage.{last-other}
 use Rattle.listing_text.specs.Lines.{header, orderLine, refusedLine, rowLines}
-use Rattle.listing_text.specs.Listing.{imagesSaid, listingText, tableSaid}
-use Rattle.listing_text.specs.Promises.{listing-accepted, listing-refused, listing-table, listingChecks, orderSaid}
-use Rattle.listing_text.specs.TableText.{readingText}
+use Rattle.listing_text.specs.Listing.{Listed, imagesSaid, listingText, storedChecks, tableSaid}
+use Rattle.listing_text.specs.Promises.{listed-front, listing-accepted, listing-refused, listing-table, listingChecks, orderSaid}
+use Rattle.listing_text.specs.TableText.{readingText, tableText, textIf}
 use Rattle.listing_text.specs.declared.Last.{Last}
 use Rattle.listing_text.specs.declared.Last.the-variants.{FarEnd, ImageN}
 
@@ -82,31 +82,62 @@ from-one n t last c b =
         ap (λ (z : List ℕ). getD z (n - 1) 0) (sym (w .wrote)) ∙ getD-take n (q .places) (n - 1) 0 (omega (arith, c .some)) ∙ w .to;
     }
 
--- ## Two listings of one input
+-- ## What is printed
 
 -- header and rows of the table that the bytes say
 abbrev pub rowsShown : List ℕ → List ℕ
 rowsShown s =
-    let l = fars (exactRows limit (imagesSaid s) (tableSaid s)) in
-    header (imagesSaid s) (length l) ++ rowLines l (costs (exactRows limit (imagesSaid s) (tableSaid s))) (uppers l)
+    let T = exactRows limit (imagesSaid s) (tableSaid s) in header (imagesSaid s) (length (fars T)) ++ rowLines (fars T) (costs T) (uppers (fars T))
 
--- accepted, a listing is header and rows, which are the same whichever image is last, and its own order line
-pub order-line : (which : Last) (s : List ℕ) → listingChecks s ≡ Passed → listingText which s ≡ rowsShown s ++ orderLine (orderSaid which s)
-unfolding readingText
-order-line which s e =
-    let n = imagesSaid s in
-    let T = exactRows limit n (tableSaid s) in
-    listing-accepted which s e
-    ∙ sym (append-assoc (header n (length (fars T))) (rowLines (fars T) (costs T) (uppers (fars T))) (orderLine (orderSaid which s)))
+-- header and rows, which are the same whichever image is last, and an order line from 1 to the image last
+pub record Printed (s text : List ℕ) (last : ℕ) : Type 0 where
+  pub order : List ℕ
+  pub lines : text ≡ rowsShown s ++ orderLine order
+  pub ring : FromOneTo last (imagesSaid s) order
 
--- the listing and the one with last n differ in the order line only
-pub record OrderLineOnly (s : List ℕ) : Type 0 where
-  pub refused : (q : Refusal) → listingChecks s ≡ Refused q → (listingText FarEnd s ≡ refusedLine q) × (listingText ImageN s ≡ refusedLine q)
+module _ (s : List ℕ) (e : listingChecks s ≡ Passed) where
+  shown : (which : Last) → listingText which s ≡ rowsShown s ++ orderLine (orderSaid which s)
+  unfolding readingText
+  shown which =
+      let n = imagesSaid s in
+      let T = exactRows limit n (tableSaid s) in
+      listing-accepted which s e
+      ∙ sym (append-assoc (header n (length (fars T))) (rowLines (fars T) (costs T) (uppers (fars T))) (orderLine (orderSaid which s)))
+
+  printed : (which : Last) {size : ℕ} {text : List ℕ} → Listed which s size text
+      → Printed s (take size text) (lastImage which (imagesSaid s) (tableSaid s))
+  printed which p =
+      let c = listing-table s e in
+      record {
+        order = orderSaid which s;
+        lines = listed-front which s p ∙ shown which;
+        ring = from-one (imagesSaid s) (tableSaid s) _ c (last-other which (imagesSaid s) (tableSaid s) c);
+      }
+
+  -- the listing closes its ring over the long link
+  pub closes-far : {size : ℕ} {text : List ℕ} → Listed FarEnd s size text
+      → (last : ℕ) × Printed s (take size text) last × LastIsFar (imagesSaid s) (tableSaid s) last
+  closes-far p = (lastImage FarEnd (imagesSaid s) (tableSaid s), printed FarEnd p, last-is-far (imagesSaid s) (tableSaid s) (listing-table s e))
+
+  -- the second listing at image n
+  pub closes-at-n : {size : ℕ} {text : List ℕ} → Listed ImageN s size text → Printed s (take size text) (imagesSaid s)
+  closes-at-n p = printed ImageN p
+
+-- ## Two listings of one input
+
+-- x, the listing, and y, the one with last n, differ in the order line only, and where there is none in nothing
+pub record OrderLineOnly (s x y : List ℕ) : Type 0 where
+  pub refused : (q : Refusal) → listingChecks s ≡ Refused q → (x ≡ refusedLine q) × (y ≡ refusedLine q)
   pub accepted : listingChecks s ≡ Passed
-      → (listingText FarEnd s ≡ rowsShown s ++ orderLine (orderSaid FarEnd s)) × (listingText ImageN s ≡ rowsShown s ++ orderLine (orderSaid ImageN s))
+      → (x ≡ rowsShown s ++ orderLine (orderSaid FarEnd s)) × (y ≡ rowsShown s ++ orderLine (orderSaid ImageN s))
 
-pub order-line-only : (s : List ℕ) → OrderLineOnly s
-order-line-only s = record {
-  refused = λ q e. (listing-refused FarEnd s q e, listing-refused ImageN s q e);
-  accepted = λ e. (order-line FarEnd s e, order-line ImageN s e);
+pub order-line-only : (s : List ℕ) {a b : ℕ} {t u : List ℕ} → Listed FarEnd s a t → Listed ImageN s b u → OrderLineOnly s (take a t) (take b u)
+order-line-only s p q = record {
+  refused = λ r e. (listed-front FarEnd s p ∙ listing-refused FarEnd s r e, listed-front ImageN s q ∙ listing-refused ImageN s r e);
+  accepted = λ e. (listed-front FarEnd s p ∙ shown s e FarEnd, listed-front ImageN s q ∙ shown s e ImageN);
 }
+
+-- where the far end is image n they are the same
+pub same-listing : (s : List ℕ) → lastImage FarEnd (imagesSaid s) (tableSaid s) ≡ imagesSaid s → listingText FarEnd s ≡ listingText ImageN s
+unfolding listingText
+same-listing s e = ap (λ (l : ℕ). textIf (storedChecks s) (tableText l (imagesSaid s) (tableSaid s))) e

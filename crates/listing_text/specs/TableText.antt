@@ -2,8 +2,8 @@
 use mathlib.Core.List.{List, _++_}
 use Prim.Native.Nat.{ℕ}
 use lib.ListN.{length}
+use Rattle.ground.specs.Refusals.{ifPassed}
 use Rattle.ground.specs.declared.Check.{Check}
-use Rattle.ground.specs.declared.Check.the-variants.{Passed, Refused}
 use Rattle.theory.specs.LinkTables.{Row, costs, fars}
 use Rattle.theory.specs.Routes.{uppers}
 use Rattle.theory.specs.Tables.{limit}
@@ -13,8 +13,7 @@ use Rattle.listing_text.specs.Lines.{header, orderLine, refusedLine, row
 
 -- the text where the check passed; where it refused one line and no other
 abbrev pub textIf : Check → List ℕ → List ℕ
-textIf Passed m = m
-textIf (Refused q) m = refusedLine q
+textIf c m = ifPassed refusedLine c m
 
 -- the header, a line for each row with far side, doubled cost and upper row, and the order o
 unfoldable pub readingText : ℕ → List ℕ → List ℕ → List ℕ → List ℕ → List ℕ

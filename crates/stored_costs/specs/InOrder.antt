@@ -21,7 +21,7 @@ use Rattle.stored_costs.specs.Form.{costUsed, entryOf, fillOf, imagesOf}
 use Rattle.stored_costs.specs.Reading.{readAtChecks, readChecks, storedCheck}
 
 -- 4
-stored-order : (L : ℕ) (d : ℕ → ℕ → ℕ) (n : ℕ) → InOrder (4 by storedCheck L d n ∷ []) (storedCheck L d n)
+pub stored-order : (L : ℕ) (d : ℕ → ℕ → ℕ) (n : ℕ) → InOrder (4 by storedCheck L d n ∷ []) (storedCheck L d n)
 stored-order L d n =
     step-order 4 (storedCheck L d n) (omega arith)
     (all-only 4 (λ i. checkAll (entryCheck L d i) (i + 1) (n - (i + 1))) 0 n (λ i. all-only 4 (entryCheck L d i) (i + 1) (n - (i + 1)) (entry-only L d i)))
