@@ -1,8 +1,8 @@
 -- The listing of the stored cost table at the start of the bytes s, whatever follows it. Assumes nothing.
 use mathlib.Core.List.{List}
 use mathlib.Core.Path.{_≡_}
-use Prim.Native.Nat.{ℕ}
-use lib.ListN.{length, replicate}
+use Prim.Native.Nat.{ℕ, _≤_}
+use lib.ListN.{length, replicate, take}
 use Rattle.ground.specs.Buffers.{front}
 use Rattle.ground.specs.Refusals.{_then_}
 use Rattle.ground.specs.declared.Check.{Check}
@@ -46,3 +46,7 @@ listingText which s = textIf (storedChecks s) (textWith which (imagesSaid s) (ta
 pub record Listed (which : Last) (s : List ℕ) (size : ℕ) (text : List ℕ) : Type 0 where
   pub sized : size ≡ length (listingText which s)
   pub listed : text ≡ front (listingText which s) (replicate room 0)
+
+-- the first size places of a text are there; both parts are said so that a caller who takes them needs no proof
+abbrev pub Within : ℕ → List ℕ → Type 0
+Within size text = (size ≤ length text) × (size ≡ length (take size text))

@@ -13,7 +13,7 @@ ghost use Rattle.order.specs.Outcome.{images};
 ghost use Rattle.listing_text.specs.Lines.{header, orderLine, refusedLine, rowLine, rowLines};
 ghost use Rattle.listing_text.specs.LastImage.{Other, lastImage};
 ghost use Rattle.listing_text.specs.TableText.{readingText, tableText};
-ghost use Rattle.listing_text.specs.Listing.{Listed, listingText, room};
+ghost use Rattle.listing_text.specs.Listing.{Listed, Within, listingText, room};
 ghost use Rattle.listing_text.specs.declared.Last.the-variants.{FarEnd, ImageN};
 ghost use Rattle.text.specs.Putting.{Fits, Put};
 
@@ -165,7 +165,8 @@ pub struct Text {
 // What both programs print: the exact reading of the stored cost table at the start of the bytes, whatever follows it, or one line with
 // the refusal.
 fn listing_with(which: Last, bytes: &[u8]) -> Text
-    ensures { λ r. ⌜ Listed which (now (bytes .entry)) (r .length) (r .bytes) ⌝ }
+    ensures listed { λ r. ⌜ Listed which (now (bytes .entry)) (r .length) (r .bytes) ⌝ }
+    ensures within { λ r. ⌜ Within (r .length) (r .bytes) ⌝ }
 {
     let mut text = [0u8; 10240];
     let length = write_stored(&mut text, which, bytes);
@@ -177,14 +178,16 @@ fn listing_with(which: Last, bytes: &[u8]) -> Text
 
 // The listing whose order ends at the far end, so that the ring closes over the long link.
 pub fn listing(bytes: &[u8]) -> Text
-    ensures { λ r. ⌜ Listed FarEnd (now (bytes .entry)) (r .length) (r .bytes) ⌝ }
+    ensures listed { λ r. ⌜ Listed FarEnd (now (bytes .entry)) (r .length) (r .bytes) ⌝ }
+    ensures within { λ r. ⌜ Within (r .length) (r .bytes) ⌝ }
 {
     listing_with(Last::FarEnd, bytes)
 }
 
 // The listing whose order ends with image n, on which the keeper's ring scripts were built.
 pub fn listing_last_n(bytes: &[u8]) -> Text
-    ensures { λ r. ⌜ Listed ImageN (now (bytes .entry)) (r .length) (r .bytes) ⌝ }
+    ensures listed { λ r. ⌜ Listed ImageN (now (bytes .entry)) (r .length) (r .bytes) ⌝ }
+    ensures within { λ r. ⌜ Within (r .length) (r .bytes) ⌝ }
 {
     listing_with(Last::ImageN, bytes)
 }
