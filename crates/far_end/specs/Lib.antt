@@ -1,4 +1,5 @@
--- What the far end is.
+-- What the far end is, and examples that antt computes.
 pub mod FarEnd
+pub mod Examples
 -- What is true of it.
 pub mod Laws
