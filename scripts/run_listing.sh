@@ -4,6 +4,7 @@
 # error how far it is. It is x86-64 code: elsewhere it runs under an emulator. Status 0 if the program ran, 1 if it was not proved, 2
 # if the file, the kit or the emulator is missing.
 set -euo pipefail
+[ $# = 1 ] || [ $# = 2 ] || { echo "usage: run_listing.sh PROGRAM [FILE]" >&2; exit 2; }
 name=$1
 said_by=$name.sh
 table=${2:-/dev/stdin}

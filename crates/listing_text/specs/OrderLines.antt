@@ -79,7 +79,7 @@ from-one n t last c b =
       once = λ i l g. rw (w .wrote) at (w .once i l g);
       front = refl;
       back =
-        ap (λ (z : List ℕ). getD z (n - 1) 0) (sym (w .wrote)) ∙ getD-take n (q .places) (n - 1) 0 (omega (arith, c .some)) ∙ w .to;
+          ap (λ (z : List ℕ). getD z (n - 1) 0) (sym (w .wrote)) ∙ getD-take n (q .places) (n - 1) 0 (omega (arith, c .some)) ∙ w .to;
     }
 
 -- ## What is printed
@@ -89,11 +89,10 @@ abbrev pub rowsShown : List ℕ → List ℕ
 rowsShown s =
     let T = exactRows limit (imagesSaid s) (tableSaid s) in header (imagesSaid s) (length (fars T)) ++ rowLines (fars T) (costs T) (uppers (fars T))
 
--- header and rows, which are the same whichever image is last, and an order line from 1 to the image last
+-- the text is header and rows, which are the same whichever image is last, and the order from 1 to last, which has all images once
 pub record Printed (s text : List ℕ) (last : ℕ) : Type 0 where
-  pub order : List ℕ
-  pub lines : text ≡ rowsShown s ++ orderLine order
-  pub ring : FromOneTo last (imagesSaid s) order
+  pub lines : text ≡ rowsShown s ++ orderLine (images (imagesSaid s) (tableSaid s) 1 last)
+  pub ring : FromOneTo last (imagesSaid s) (images (imagesSaid s) (tableSaid s) 1 last)
 
 module _ (s : List ℕ) (e : listingChecks s ≡ Passed) where
   shown : (which : Last) → listingText which s ≡ rowsShown s ++ orderLine (orderSaid which s)
@@ -109,7 +108,6 @@ module _ (s : List ℕ) (e : listingChecks s ≡ Passed) where
   printed which p =
       let c = listing-table s e in
       record {
-        order = orderSaid which s;
         lines = listed-front which s p ∙ shown which;
         ring = from-one (imagesSaid s) (tableSaid s) _ c (last-other which (imagesSaid s) (tableSaid s) c);
       }

@@ -99,7 +99,14 @@ fn put_reading(
 }
 
 // The listing of a link table and of the cost table that it reads, with its upper rows and the order from 1 with this last.
-fn write_links(out: &mut [u8], n: usize, t: &[u32], last: usize, fars: &[u64], costs: &[u32]) -> usize
+fn write_links(
+    out: &mut [u8],
+    n: usize,
+    t: &[u32],
+    last: usize,
+    fars: &[u64],
+    costs: &[u32],
+) -> usize
     requires { ⌜ CostTable limit n (now t) × Other n last × Links limit n (length (now fars)) (now fars) (now costs) × (room ≤ length (now out)) ⌝ }
     ensures { λ r. ⌜ Put (readingText n (now (fars .entry)) (now (costs .entry)) (uppers (now (fars .entry))) (images n (now (t .entry)) 1 last)) 0
         (now (out .entry)) r (now (out .exit)) ⌝ }
