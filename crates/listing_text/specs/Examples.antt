@@ -16,9 +16,8 @@ use Rattle.tree.specs.Exact.{exactRows, treeCheck}
 use Rattle.text.specs.Decimal.{decimal, digits}
 use Rattle.text.specs.Fields.{field, fields}
 use Rattle.text.specs.Words.{bytesOf}
-use Rattle.listing_text.specs.Lines.{header, orderLine, refusedLine, rowLine, rowLines}
+use Rattle.listing_lines.specs.Lines.{header, orderLine, readingText, refusedLine, rowLine, rowLines}
 use Rattle.listing_text.specs.Listing.{listingText}
-use Rattle.listing_text.specs.TableText.{readingText}
 use Rattle.listing_text.specs.declared.Last.{Last}
 use Rattle.listing_text.specs.declared.Last.the-variants.{FarEnd, ImageN}
 

@@ -21,7 +21,7 @@ use Rattle.stored_costs.specs.Form.{costUsed, entryOf, fillOf, oldCosts}
 use Rattle.stored_costs.specs.InOrder.{stored-order}
 use Rattle.stored_costs.specs.Reading.{storedCheck}
 use Rattle.tree.specs.Exact.{treeCheck}
-use Rattle.listing_text.specs.Lines.{refusedLine}
+use Rattle.listing_lines.specs.Lines.{refusedLine}
 use Rattle.listing_text.specs.Listing.{imagesSaid, listingText, storedChecks, tableSaid}
 use Rattle.listing_text.specs.Promises.{acceptedText, listing-checks, listing-wiring, listingChecks}
 use Rattle.listing_text.specs.declared.Last.{Last}

@@ -1,5 +1,4 @@
 -- What a listing is.
-pub mod Lines
 pub mod LastImage
 pub mod TableText
 pub mod Listing

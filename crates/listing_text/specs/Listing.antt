@@ -13,13 +13,10 @@ use Rattle.bits.specs.Forms.{bytesFor}
 use Rattle.stored_costs.specs.Entries.{entryCost}
 use Rattle.stored_costs.specs.Form.{storedTable, entryOf, imagesOf, oldCosts}
 use Rattle.stored_costs.specs.Reading.{bodyChecks, storedCheck}
+use Rattle.listing_lines.specs.Lines.{room}
 use Rattle.listing_text.specs.declared.Last.{Last}
 use Rattle.listing_text.specs.LastImage.{lastImage}
 use Rattle.listing_text.specs.TableText.{tableText, textIf}
-
--- room for every listing
-abbrev pub room : ℕ
-room = 10240
 
 -- the images of the stored table that the bytes say, and the table
 abbrev pub imagesSaid : List ℕ → ℕ

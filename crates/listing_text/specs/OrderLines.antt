@@ -21,10 +21,10 @@ use Rattle.tree.specs.Exact.{exactRows}
 use Rattle.listing_text.specs.LastImage.{Other, lastImage}
 use Rattle.listing_text.specs.Laws.Accepted.{order-asked, order-left}
 use Rattle.listing_text.specs.Laws.LastImage.{last-other}
-use Rattle.listing_text.specs.Lines.{header, orderLine, refusedLine, rowLines}
+use Rattle.listing_lines.specs.Lines.{header, orderLine, readingText, refusedLine, rowLines}
 use Rattle.listing_text.specs.Listing.{Listed, imagesSaid, listingText, storedChecks, tableSaid}
 use Rattle.listing_text.specs.Promises.{listed-front, listing-accepted, listing-refused, listing-table, listingChecks, orderSaid}
-use Rattle.listing_text.specs.TableText.{readingText, tableText, textIf}
+use Rattle.listing_text.specs.TableText.{tableText, textIf}
 use Rattle.listing_text.specs.declared.Last.{Last}
 use Rattle.listing_text.specs.declared.Last.the-variants.{FarEnd, ImageN}
 

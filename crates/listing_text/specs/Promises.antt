@@ -26,8 +26,8 @@ use Rattle.stored_costs.specs.Laws.WriteBack.{read-table}
 use Rattle.stored_costs.specs.Stored.{Readable}
 use Rattle.listing_text.specs.Laws.Stored.{enough-room}
 use Rattle.listing_text.specs.LastImage.{lastImage}
-use Rattle.listing_text.specs.Lines.{refusedLine}
-use Rattle.listing_text.specs.Listing.{Listed, imagesSaid, listingText, room, storedChecks, tableSaid, textWith}
+use Rattle.listing_lines.specs.Lines.{refusedLine, room}
+use Rattle.listing_text.specs.Listing.{Listed, imagesSaid, listingText, storedChecks, tableSaid, textWith}
 use Rattle.listing_text.specs.TableText.{linksText, textIf}
 use Rattle.listing_text.specs.declared.Last.{Last}
 

@@ -1,7 +1,6 @@
 -- The text of one table: its exact reading, or the line of its refusal. Assumes nothing.
-use mathlib.Core.List.{List, _++_}
+use mathlib.Core.List.{List}
 use Prim.Native.Nat.{ℕ}
-use lib.ListN.{length}
 use Rattle.ground.specs.Refusals.{ifPassed}
 use Rattle.ground.specs.declared.Check.{Check}
 use Rattle.theory.specs.LinkTables.{Row, costs, fars}
@@ -9,17 +8,13 @@ use Rattle.theory.specs.Routes.{uppers}
 use Rattle.theory.specs.Tables.{limit}
 use Rattle.order.specs.Outcome.{images}
 use Rattle.tree.specs.Exact.{exactRows, treeCheck}
-use Rattle.listing_text.specs.Lines.{header, orderLine, refusedLine, rowLines}
+use Rattle.listing_lines.specs.Lines.{readingText, refusedLine}
 
 -- the text where the check passed; where it refused one line and no other
 abbrev pub textIf : Check → List ℕ → List ℕ
 textIf c m = ifPassed refusedLine c m
 
--- the header, a line for each row with far side, doubled cost and upper row, and the order o
-unfoldable pub readingText : ℕ → List ℕ → List ℕ → List ℕ → List ℕ → List ℕ
-readingText n l v u o = header n (length l) ++ (rowLines l v u ++ orderLine o)
-
--- that of the link table T
+-- header, rows and order line of the link table T
 abbrev pub linksText : ℕ → List Row → List ℕ → List ℕ
 linksText n T o = readingText n (fars T) (costs T) (uppers (fars T)) o
 

@@ -1,6 +1,5 @@
-// The text of the listing programs: the exact reading of one stored cost table, line by line. The two programs differ in the last image
-// of the order alone. Every function that writes takes the place where its text begins and answers the place behind it.
-use ground::Refusal;
+// The text of the listing programs: the exact reading of one stored cost table. The two programs differ in the last image of the order
+// alone. Every function that writes answers the place behind its text.
 use ground::Written;
 use stored_costs::StoredCosts;
 ghost use mathlib.Core.Path.{_≡_};
@@ -10,93 +9,12 @@ ghost use Rattle.theory.specs.Routes.{uppers};
 ghost use Rattle.theory.specs.Tables.{CostTable, limit};
 ghost use Rattle.links.specs.Links.{Links};
 ghost use Rattle.order.specs.Outcome.{images};
-ghost use Rattle.listing_text.specs.Lines.{header, orderLine, refusedLine, rowLine, rowLines};
+ghost use Rattle.listing_lines.specs.Lines.{readingText, room};
 ghost use Rattle.listing_text.specs.LastImage.{Other, lastImage};
-ghost use Rattle.listing_text.specs.TableText.{readingText, tableText};
-ghost use Rattle.listing_text.specs.Listing.{Listed, Within, listingText, room};
+ghost use Rattle.listing_text.specs.TableText.{tableText};
+ghost use Rattle.listing_text.specs.Listing.{Listed, Within, listingText};
 ghost use Rattle.listing_text.specs.declared.Last.the-variants.{FarEnd, ImageN};
-ghost use Rattle.text.specs.Putting.{Fits, Put};
-
-// The first line: how many images, and how many rows.
-fn put_header(out: &mut [u8], at: usize, n: usize, rows: usize) -> usize
-    requires { ⌜ Fits (header n rows) at (now out) ⌝ }
-    ensures { λ r. ⌜ Put (header n rows) at (now (out .entry)) r (now (out .exit)) ⌝ }
-{
-    let p = text::put_word(out, at, b"images");
-    let q = text::put_field(out, p, n as u64);
-    let w = text::put_word(out, q, b" rows");
-    let e = text::put_field(out, w, rows as u64);
-    text::put_byte(out, e, 10)
-}
-
-// The line of a row: far side, doubled cost, upper row.
-fn put_row(out: &mut [u8], at: usize, far: u64, cost: u32, upper: u32) -> usize
-    requires { ⌜ Fits (rowLine far cost upper) at (now out) ⌝ }
-    ensures { λ r. ⌜ Put (rowLine far cost upper) at (now (out .entry)) r (now (out .exit)) ⌝ }
-{
-    let p = text::put_number(out, at, far);
-    let q = text::put_field(out, p, cost as u64);
-    let e = text::put_field(out, q, upper as u64);
-    text::put_byte(out, e, 10)
-}
-
-// The lines of all rows.
-fn put_rows(out: &mut [u8], at: usize, fars: &[u64], costs: &[u32], above: &[u32]) -> usize
-    requires { ⌜ (length (now fars) ≤ length (now costs)) × (length (now fars) ≤ length (now above)) × Fits
-        (rowLines (now fars) (now costs) (now above)) at (now out) ⌝ }
-    ensures { λ r. ⌜ Put (rowLines (now (fars .entry)) (now (costs .entry)) (now (above .entry))) at (now (out .entry)) r (now (out .exit)) ⌝ }
-{
-    let mut place = at;
-    let mut i = 0;
-    while i < fars.len() {
-        place = put_row(out, place, fars[i], costs[i], above[i]);
-        i += 1;
-    }
-    place
-}
-
-// The last line: the images in their order.
-fn put_order(out: &mut [u8], at: usize, around: &[u32]) -> usize
-    requires { ⌜ Fits (orderLine (now around)) at (now out) ⌝ }
-    ensures { λ r. ⌜ Put (orderLine (now (around .entry))) at (now (out .entry)) r (now (out .exit)) ⌝ }
-{
-    let p = text::put_word(out, at, b"order");
-    let e = text::put_fields(out, p, around);
-    text::put_byte(out, e, 10)
-}
-
-// The line of a refusal: its number and its four places.
-fn put_refusal(out: &mut [u8], at: usize, q: Refusal) -> usize
-    requires { ⌜ Fits (refusedLine q) at (now out) ⌝ }
-    ensures { λ r. ⌜ Put (refusedLine q) at (now (out .entry)) r (now (out .exit)) ⌝ }
-{
-    let w = text::put_word(out, at, b"refused");
-    let number = text::put_field(out, w, q.number as u64);
-    let a = text::put_field(out, number, q.a as u64);
-    let b = text::put_field(out, a, q.b as u64);
-    let c = text::put_field(out, b, q.c as u64);
-    let d = text::put_field(out, c, q.d as u64);
-    text::put_byte(out, d, 10)
-}
-
-// Header, rows and order.
-fn put_reading(
-    out: &mut [u8],
-    n: usize,
-    fars: &[u64],
-    costs: &[u32],
-    above: &[u32],
-    around: &[u32],
-) -> usize
-    requires { ⌜ (length (now fars) ≤ length (now costs)) × (length (now fars) ≤ length (now above)) × Fits
-        (readingText n (now fars) (now costs) (now above) (now around)) 0 (now out) ⌝ }
-    ensures { λ r. ⌜ Put (readingText n (now (fars .entry)) (now (costs .entry)) (now (above .entry)) (now (around .entry))) 0 (now (out .entry)) r
-        (now (out .exit)) ⌝ }
-{
-    let p = put_header(out, 0, n, fars.len());
-    let q = put_rows(out, p, fars, costs, above);
-    put_order(out, q, around)
-}
+ghost use Rattle.text.specs.Putting.{Put};
 
 // The listing of a link table and of the cost table that it reads, with its upper rows and the order from 1 with this last.
 fn write_links(
@@ -115,7 +33,7 @@ fn write_links(
     routes::upper_rows(n, fars.len(), fars, costs, &mut above);
     let mut around = [0u32; 64];
     order::order(n, t, 1, last, &mut around);
-    put_reading(out, n, fars, costs, &above[..fars.len()], &around[..n])
+    listing_lines::put_reading(out, n, fars, costs, &above[..fars.len()], &around[..n])
 }
 
 // The listing of a cost table: its exact reading and the order from 1 with this last, or refusal 7.
@@ -126,7 +44,7 @@ fn write_table(out: &mut [u8], n: usize, t: &[u32], last: usize) -> usize
     let mut fars = [0u64; 128];
     let mut costs = [0u32; 128];
     match tree::exact(n, t, &mut fars, &mut costs) {
-        Written::Refused(q) => put_refusal(out, 0, q),
+        Written::Refused(q) => listing_lines::put_refusal(out, 0, q),
         Written::Places(count) => write_links(out, n, t, last, &fars[..count], &costs[..count]),
     }
 }
@@ -155,7 +73,7 @@ fn write_stored(out: &mut [u8], which: Last, bytes: &[u8]) -> usize
 {
     let mut t = [0u32; 4096];
     match stored_costs::read_costs(bytes, 0, &mut t) {
-        StoredCosts::Refused(q) => put_refusal(out, 0, q),
+        StoredCosts::Refused(q) => listing_lines::put_refusal(out, 0, q),
         StoredCosts::Table { n, used: _ } => {
             let table = &t[..n * n];
             write_table(out, n, table, last_image(which, n, table))

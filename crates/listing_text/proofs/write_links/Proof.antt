@@ -8,7 +8,7 @@ use borrow.Author.Needs.{needs}
 use Rattle.theory.specs.Routes.{uppers}
 use Rattle.order.specs.Outcome.{images}
 use Rattle.listing_text.specs.Laws.Accepted.{links-few, order-left, uppers-left}
-use Rattle.listing_text.specs.Laws.Lengths.{reading-most}
+use Rattle.listing_lines.specs.Laws.Lengths.{reading-most}
 use Rattle.listing_text.proofs.write_links.Statement.{statement}
 use Rattle.listing_text.proofs.write_links.Tie as tie
 

@@ -7,8 +7,8 @@ use lib.Seq.{length-take-le}
 use borrow.Author.Needs.{needs}
 use Rattle.stored_costs.specs.Laws.Sizes.{square-le}
 use Rattle.listing_text.specs.Laws.LastImage.{last-other}
-use Rattle.listing_text.specs.Laws.Lengths.{refused-fits}
-use Rattle.listing_text.specs.Lines.{refusedLine}
+use Rattle.listing_lines.specs.Laws.Lengths.{refused-fits}
+use Rattle.listing_lines.specs.Lines.{refusedLine}
 use Rattle.listing_text.specs.Listing.{listingText}
 use Rattle.text.specs.Laws.Pieces.{put-same}
 use Rattle.listing_text.specs.Laws.Stored.{StoredTable, stored-refused, stored-table}

@@ -5,8 +5,8 @@ use native.Mathlib.Omega.{arith}
 use lib.ListN.{length-replicate, replicate}
 use borrow.Author.Needs.{needs}
 use Rattle.listing_text.specs.Laws.Accepted.{RowsRead, table-read, table-refused}
-use Rattle.listing_text.specs.Laws.Lengths.{refused-fits}
-use Rattle.listing_text.specs.Lines.{refusedLine}
+use Rattle.listing_lines.specs.Laws.Lengths.{refused-fits}
+use Rattle.listing_lines.specs.Lines.{refusedLine}
 use Rattle.listing_text.specs.TableText.{tableText}
 use Rattle.text.specs.Laws.Pieces.{put-same}
 use Rattle.listing_text.proofs.write_table.Statement.{statement}

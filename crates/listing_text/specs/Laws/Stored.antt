@@ -25,7 +25,7 @@ use Rattle.stored_costs.specs.Outcomes.{readOutcome}
 use Rattle.stored_costs.specs.Reading.{bodyChecks, readAtChecks, readChecks, storedCheck}
 use Rattle.stored_costs.specs.declared.StoredCosts.the-variants.{Table}
 use Rattle.stored_costs.specs.declared.StoredCosts.the-variants as stored
-use Rattle.listing_text.specs.Lines.{refusedLine}
+use Rattle.listing_lines.specs.Lines.{refusedLine}
 use Rattle.listing_text.specs.LastImage.{lastImage}
 use Rattle.listing_text.specs.Listing.{listingText, storedChecks}
 use Rattle.listing_text.specs.TableText.{tableText}

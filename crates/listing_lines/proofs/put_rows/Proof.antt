@@ -1,14 +1,14 @@
--- `listing_text::put_rows` meets its contract: what is left to write loses its first line in each turn. Assumes nothing.
+-- `listing_lines::put_rows` meets its contract: what is left to write loses its first line in each turn. Assumes nothing.
 use Prim.Native.Nat.{_-_, _≤_}
 use lib.ListN.{drop, length}
 use borrow.Author.Needs.{needs}
-use Rattle.listing_text.specs.Lines.{rowLine, rowLines}
-use Rattle.listing_text.specs.Laws.Rows.{rows-end, rows-turn}
+use Rattle.listing_lines.specs.Lines.{rowLine, rowLines}
+use Rattle.listing_lines.specs.Laws.Rows.{rows-end, rows-turn}
 use Rattle.text.specs.Laws.Pieces.{rest-same}
 use Rattle.text.specs.Putting.{Rest}
 use Rattle.text.specs.Laws.Putting.{rest-begin, rest-end, rest-fits, rest-step}
-use Rattle.listing_text.proofs.put_rows.Statement.{statement}
-use Rattle.listing_text.proofs.put_rows.Tie as tie
+use Rattle.listing_lines.proofs.put_rows.Statement.{statement}
+use Rattle.listing_lines.proofs.put_rows.Tie as tie
 
 abbrev Inv-loop : tie.InvT-loop
 Inv-loop out₀ at fars costs above place₀ i₀ out place i =

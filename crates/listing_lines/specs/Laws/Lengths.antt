@@ -4,9 +4,7 @@ use Prim.Native.Nat.{ℕ, _*_, _+_, _≤_}
 use native.Mathlib.Omega.{arith}
 use lib.ListN.{length, length-append}
 use Rattle.ground.specs.declared.Refusal.{Refusal}
-use Rattle.listing_text.specs.Lines.{header, orderLine, refusedLine, rowLine, rowLines}
-use Rattle.listing_text.specs.Listing.{room}
-use Rattle.listing_text.specs.TableText.{readingText}
+use Rattle.listing_lines.specs.Lines.{header, orderLine, readingText, refusedLine, room, rowLine, rowLines}
 use Rattle.text.specs.Putting.{Fits}
 use Rattle.text.specs.Laws.Lengths.{field-most, fields-most}
 use Rattle.text.specs.Laws.Numbers.{decimal-most}

@@ -1,6 +1,7 @@
 -- The lines of a listing, as bytes: fields stand one blank apart, and every line ends in a newline. Assumes nothing.
 use mathlib.Core.List.{List, [], _++_, _∷_}
 use Prim.Native.Nat.{ℕ}
+use lib.ListN.{length}
 use Rattle.ground.specs.declared.Refusal.{Refusal}
 use Rattle.text.specs.Decimal.{decimal}
 use Rattle.text.specs.Fields.{field, fields}
@@ -32,3 +33,13 @@ orderLine o = bytesOf "order" ++ (fields o ++ newline)
 -- refused, the number and the four places
 unfoldable pub refusedLine : Refusal → List ℕ
 refusedLine q = bytesOf "refused" ++ (field (q .number) ++ (field (q .a) ++ (field (q .b) ++ (field (q .c) ++ (field (q .d) ++ newline)))))
+
+-- ## Several lines
+
+-- room for every listing
+abbrev pub room : ℕ
+room = 10240
+
+-- the header, a line for each row with far side, doubled cost and upper row, and the order o
+unfoldable pub readingText : ℕ → List ℕ → List ℕ → List ℕ → List ℕ → List ℕ
+readingText n l v u o = header n (length l) ++ (rowLines l v u ++ orderLine o)

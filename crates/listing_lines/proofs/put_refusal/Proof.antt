@@ -1,15 +1,15 @@
--- `listing_text::put_refusal` meets its contract: a word, five numbers, and the end of the line. Assumes nothing.
+-- `listing_lines::put_refusal` meets its contract: a word, five numbers, and the end of the line. Assumes nothing.
 use mathlib.Core.List.{List, [], _++_, _∷_}
 use Prim.Native.Nat.{ℕ}
 use borrow.Author.Needs.{needs}
 use Rattle.ground.specs.declared.Refusal.{Refusal}
 use Rattle.text.specs.Fields.{field}
-use Rattle.listing_text.specs.Lines.{refusedLine}
+use Rattle.listing_lines.specs.Lines.{refusedLine}
 use Rattle.text.specs.Putting.{Rest}
 use Rattle.text.specs.Laws.Putting.{byte-last-fits, rest-begin, rest-fits, rest-last, rest-step}
 use Rattle.text.specs.Words.{bytesOf}
-use Rattle.listing_text.proofs.put_refusal.Statement.{statement}
-use Rattle.listing_text.proofs.put_refusal.Tie as tie
+use Rattle.listing_lines.proofs.put_refusal.Statement.{statement}
+use Rattle.listing_lines.proofs.put_refusal.Tie as tie
 
 -- what is left of the line behind the word, and behind each number
 abbrev from-d : Refusal → List ℕ

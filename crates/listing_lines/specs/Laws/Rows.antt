@@ -7,7 +7,7 @@ use native.Mathlib.Omega.{arith}
 use lib.ListN.{drop, getD, length}
 use lib.Seq.{drop-cons}
 use Rattle.text.specs.Laws.Pieces.{drop-none}
-use Rattle.listing_text.specs.Lines.{rowLine, rowLines}
+use Rattle.listing_lines.specs.Lines.{rowLine, rowLines}
 
 -- the next row's line, and those behind it
 pub rows-turn : (l v u : List ℕ) (i : ℕ) → i < length l → length l ≤ length v → length l ≤ length u
