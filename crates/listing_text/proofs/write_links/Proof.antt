@@ -1,4 +1,5 @@
 -- `listing_text::write_links` meets its contract: both calls accept, so that upper rows and order stand in the local arrays. Assumes nothing.
+use mathlib.Core.List.{List}
 use mathlib.Core.Path.{ap, sym, _∙_, _≡_}
 use Prim.Native.Nat.{ℕ, _≤_}
 use native.Mathlib.Omega.{arith}
@@ -24,29 +25,41 @@ slice-aggregate-order c = search needs
 order-requires : tie.Need-order-requires
 order-requires c κs = search needs
 
+-- where the call began, as seen from behind the upper rows, and from behind the order; and the two arrays
+abbrev s1 : tie.After-upper-rows → tie.Start
+s1 c = c .before .before .before .before .before .before
+
+abbrev s2 : tie.After-order → tie.Start
+s2 c = s1 (c .before .before .before)
+
+abbrev above-places : tie.After-upper-rows → List ℕ
+above-places c = c .upper-rows .last .1 .1 .1 .1 .0
+
+abbrev around-places : tie.After-order → List ℕ
+around-places c = c .order .last .1 .1 .1 .1 .0
+
 -- the upper rows stand in front
-upper-rows-are : (c : tie.After-upper-rows)
-    → let s = c .before .before .before .before .before .before in take (length (s .args .fars .now)) (c .upper-rows .last .1 .1 .1 .1 .0) ≡ uppers
-    (s .args .fars .now)
+upper-rows-are : (c : tie.After-upper-rows) → let l = s1 c .args .fars .now in take (length l) (above-places c) ≡ uppers l
 upper-rows-are c =
-    let s = c .before .before .before .before .before .before in
+    let s = s1 c in
     uppers-left (s .args .n) (s .args .fars .now) (s .args .costs .now) (replicate 128 0) _ _ (s .pre .2) (omega (arith, length-replicate {A = ℕ} 128 0))
     (c .upper-rows .ensures)
 
 -- and the order
-order-is : (c : tie.After-order) → let s = c .before .before .before .before .before .before .before .before .before in
-    (take (s .args .n) (c .order .last .1 .1 .1 .1 .0) ≡ images (s .args .n) (s .args .t .now) 1 (s .args .last))
-    × (length (images (s .args .n) (s .args .t .now) 1 (s .args .last)) ≡ s .args .n)
+order-is : (c : tie.After-order) → let a = s2 c .args in
+    (take (a .n) (around-places c) ≡ images (a .n) (a .t .now) 1 (a .last)) × (length (images (a .n) (a .t .now) 1 (a .last)) ≡ a .n)
 order-is c =
-    let s = c .before .before .before .before .before .before .before .before .before in
-    order-left (s .args .n) (s .args .t .now) (s .args .last) (replicate 64 0) _ _ (s .pre .0) (s .pre .1) (omega (arith, length-replicate {A = ℕ} 64 0)) (c .order .ensures)
+    let s = s2 c in
+    order-left (s .args .n) (s .args .t .now) (s .args .last) (replicate 64 0) _ _ (s .pre .0) (s .pre .1) (omega (arith, length-replicate {A = ℕ} 64 0))
+    (c .order .ensures)
 
--- there are as many places as rows
-above-room : (c : tie.After-upper-rows)
-    → length (c .before .before .before .before .before .before .args .fars .now) ≤ length (c .upper-rows .last .1 .1 .1 .1 .0)
+-- there are as many places as rows, and as images
+above-room : (c : tie.After-upper-rows) → length (s1 c .args .fars .now) ≤ length (above-places c)
 above-room c =
-    let s = c .before .before .before .before .before .before in
-    omega (arith, links-few (s .args .n) (s .args .fars .now) (s .args .costs .now) (s .pre .2), c .upper-rows .kept .1 .1 .1 .1 .0)
+    let s = s1 c in omega (arith, links-few (s .args .n) (s .args .fars .now) (s .args .costs .now) (s .pre .2), c .upper-rows .kept .1 .1 .1 .1 .0)
+
+around-length : (c : tie.After-order) → length (take (s2 c .args .n) (around-places c)) ≡ s2 c .args .n
+around-length c = let o = order-is c in ap length (o .0) ∙ o .1
 
 array-share-prefix-above : tie.Need-array-share-prefix-above
 array-share-prefix-above c = above-room (c .before .before .before .before .before)
@@ -58,29 +71,22 @@ array-share-prefix-around : tie.Need-array-share-prefix-around
 array-share-prefix-around c = search needs
 
 slice-aggregate-put-reading-2 : tie.Need-slice-aggregate-put-reading-2
-slice-aggregate-put-reading-2 c =
-    let o = order-is (c .before .before .before .before) in
-    sym (ap length (o .0) ∙ o .1)
+slice-aggregate-put-reading-2 c = sym (around-length (c .before .before .before .before))
 
 put-reading-requires : tie.Need-put-reading-requires
 put-reading-requires c κs =
-    let s = c .before .before .before .before .before .before .before .before .before .before .before .before .before in
+    let o = c .before .before .before .before in
+    let u = o .before .before .before in
+    let s = s2 o in
     let a = s .args in
-    let o = order-is (c .before .before .before .before) in
-    let e : length (take (a .n) (c .before .before .before .before .order .last .1 .1 .1 .1 .0)) ≡ a .n = ap length (o .0) ∙ o .1 in (
+    let l = a .fars .now in (
       omega (arith, s .pre .2 .costed),
-      omega (
-        arith,
-        length-take-le (length (a .fars .now)) (c .before .before .before .before .before .before .before .upper-rows .last .1 .1 .1 .1 .0)
-            (above-room (c .before .before .before .before .before .before .before)),
-      ),
+      omega (arith, length-take-le (length l) (above-places u) (above-room u)),
       omega (
         arith,
         s .pre .3,
-        reading-most (a .n) (a .fars .now) (a .costs .now)
-            (take (length (a .fars .now)) (c .before .before .before .before .before .before .before .upper-rows .last .1 .1 .1 .1 .0))
-            (take (a .n) (c .before .before .before .before .order .last .1 .1 .1 .1 .0)) (links-few (a .n) (a .fars .now) (a .costs .now) (s .pre .2))
-            (omega (arith, e, s .pre .0 .few)),
+        reading-most (a .n) l (a .costs .now) (take (length l) (above-places u)) (take (a .n) (around-places o))
+            (links-few (a .n) l (a .costs .now) (s .pre .2)) (omega (arith, around-length o, s .pre .0 .few)),
       ),
     )
 
@@ -89,11 +95,8 @@ same-length c = search needs
 
 returns : tie.Need-returns
 returns c =
-    rw (
-      upper-rows-are (c .before .before .before .before .before .before .before .before .before .before),
-      order-is
-          (c .before .before .before .before .before .before .before) .0,
-    ) at (c .before .before .put-reading .ensures)
+    let o = c .before .before .before .before .before .before .before in
+    rw (upper-rows-are (o .before .before .before), order-is o .0) at (c .before .before .put-reading .ensures)
 
 pub write-links-spec : {M : Type 1} → statement M
 write-links-spec =

@@ -1,4 +1,5 @@
 -- `listing_text::write_stored` meets its contract: the reader leaves a cost table, or its refusal. Assumes nothing.
+use mathlib.Core.List.{List}
 use mathlib.Core.Path.{sym, _≡_}
 use Prim.Native.Nat.{ℕ, _*_, _≤_}
 use native.Mathlib.Omega.{arith}
@@ -21,21 +22,29 @@ slice-aggregate-read-costs c = search needs
 read-costs-requires : tie.Need-read-costs-requires
 read-costs-requires c κs = search needs
 
+-- where the call began, as seen from either arm; and the array with what was read
+abbrev start-q : tie.After-q → tie.Start
+start-q c = c .before .before .before .before .before .before .before
+
+abbrev start : tie.After-n → tie.Start
+start c = c .before .before .before .before .before .before .before
+
+abbrev places : tie.After-n → List ℕ
+places c = c .before .before .before .read-costs .last .1 .1 .0
+
 -- refused with 9, 1, 11 or 4
-refused-is : (c : tie.After-q) → let a = c .before .before .before .before .before .before .before .args in
-    listingText (a .which) (a .bytes .now) ≡ refusedLine (c .q .given .0 .0)
+refused-is : (c : tie.After-q) → let a = start-q c .args in listingText (a .which) (a .bytes .now) ≡ refusedLine (c .q .given .0 .0)
 refused-is c =
-    let s = c .before .before .before .before .before .before .before in
+    let s = start-q c in
     let e = c .before .before .before .read-costs in
     stored-refused (s .args .which) (s .args .bytes .now) (replicate 4096 0) (e .last .1 .1 .0) (omega (arith, length-replicate {A = ℕ} 4096 0)) _
     (rw (c .q .given .1) at (e .ensures))
 
 -- read
-table-is : (c : tie.After-n) → let a = c .before .before .before .before .before .before .before .args in
-    StoredTable (a .which) (a .bytes .now) (replicate 4096 0) (c .before .before .before .read-costs .last .1 .1 .0)
-    (omega (arith, length-replicate {A = ℕ} 4096 0)) (c .n .given .0 .0)
+table-is : (c : tie.After-n) → let a = start c .args in
+    StoredTable (a .which) (a .bytes .now) (replicate 4096 0) (places c) (omega (arith, length-replicate {A = ℕ} 4096 0)) (c .n .given .0 .0)
 table-is c =
-    let s = c .before .before .before .before .before .before .before in
+    let s = start c in
     let e = c .before .before .before .read-costs in
     stored-table (s .args .which) (s .args .bytes .now) (replicate 4096 0) (e .last .1 .1 .0) (omega (arith, length-replicate {A = ℕ} 4096 0)) _ _
     (rw (c .n .given .1) at (e .ensures))
@@ -44,9 +53,7 @@ enum-known-q : tie.Need-enum-known-q
 enum-known-q c = search needs
 
 put-refusal-requires : tie.Need-put-refusal-requires
-put-refusal-requires c κs =
-    refused-fits (c .before .before .q .given .0 .0) (c .before .before .before .before .before .before .before .before .before .args .out .now)
-    (c .before .before .before .before .before .before .before .before .before .pre)
+put-refusal-requires c κs = let d = c .before .before in refused-fits (d .q .given .0 .0) (start-q d .args .out .now) (start-q d .pre)
 
 enum-known-n : tie.Need-enum-known-n
 enum-known-n c = search needs
@@ -55,7 +62,7 @@ mul-t : tie.Need-mul-t
 mul-t c = omega (arith, square-le (table-is (c .before) .few))
 
 -- the table lies within the array
-within : (c : tie.After-n) → c .n .given .0 .0 * c .n .given .0 .0 ≤ length (c .before .before .before .read-costs .last .1 .1 .0)
+within : (c : tie.After-n) → c .n .given .0 .0 * c .n .given .0 .0 ≤ length (places c)
 within c = omega (arith, square-le (table-is c .few), c .before .before .before .read-costs .kept .1 .1 .0)
 
 array-share-prefix-t : tie.Need-array-share-prefix-t
@@ -69,9 +76,8 @@ last-image-requires c κs = table-is (c .before .before .before) .table
 
 write-table-requires : tie.Need-write-table-requires
 write-table-requires c κs =
-    let a = c .before .before .before .before .before .before .before .before .before .before .before in
-    let t = table-is (c .before .before .before .before) in
-    (t .table, rw (c .last-image .ensures) (last-other (a .args .which) _ _ (t .table)), a .pre)
+    let d = c .before .before .before .before in
+    let t = table-is d in (t .table, rw (c .last-image .ensures) (last-other (start d .args .which) _ _ (t .table)), start d .pre)
 
 same-length : tie.Need-same-length
 same-length c = search needs
