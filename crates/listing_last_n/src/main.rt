@@ -2,10 +2,10 @@
 // begins with. What was read counts as the input, also where a read fails.
 use libc::STDIN_FILENO;
 use libc::STDOUT_FILENO;
+use listing_text::LONGEST_TABLE;
 
-// No stored cost table is longer than this array, so nothing behind it can matter: `listing-ignores` in listing_text/specs/Ignored.antt.
 fn main() {
-    let mut input = [0u8; 5041];
+    let mut input = [0u8; LONGEST_TABLE];
     let count = io::read_full(STDIN_FILENO, &mut input);
     let text = listing_text::listing_last_n(&input[..count]);
     let length = text.length;

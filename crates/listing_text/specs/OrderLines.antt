@@ -1,5 +1,5 @@
--- What the order line of a listing says: all images once, from 1 to the last image; which image that is; and that the two listings of one
--- input differ in this line only. Images are 1 to n here, as in the listing. Assumes nothing.
+-- What the order line of a listing says: all images once, from 1 to the last image; and which image that is. Images are 1 to n here, as in
+-- the listing. Assumes nothing.
 use mathlib.Core.List.{List, append-assoc, _++_}
 use mathlib.Core.Path.{ap, refl, sym, _∙_, _≡_}
 use Prim.Native.Nat.{ℕ, _-_, _≤_}
@@ -8,8 +8,7 @@ use lib.ListN.{getD, length, length-replicate, replicate, take}
 use lib.Seq.{getD-take}
 use Rattle.ground.specs.Members.{occurs}
 use Rattle.ground.specs.Outcomes.{Left}
-use Rattle.ground.specs.declared.Check.the-variants.{Passed, Refused}
-use Rattle.ground.specs.declared.Refusal.{Refusal}
+use Rattle.ground.specs.declared.Check.the-variants.{Passed}
 use Rattle.theory.specs.LinkTables.{costs, fars}
 use Rattle.theory.specs.Routes.{uppers}
 use Rattle.theory.specs.Tables.{CostTable, cost, limit}
@@ -21,10 +20,9 @@ use Rattle.tree.specs.Exact.{exactRows}
 use Rattle.listing_text.specs.LastImage.{Other, lastImage}
 use Rattle.listing_text.specs.Laws.Accepted.{order-asked, order-left}
 use Rattle.listing_text.specs.Laws.LastImage.{last-other}
-use Rattle.listing_lines.specs.Lines.{header, orderLine, readingText, refusedLine, rowLines}
-use Rattle.listing_text.specs.Listing.{Listed, imagesSaid, listingText, storedChecks, tableSaid}
-use Rattle.listing_text.specs.Promises.{listed-front, listing-accepted, listing-refused, listing-table, listingChecks, orderSaid}
-use Rattle.listing_text.specs.TableText.{tableText, textIf}
+use Rattle.listing_lines.specs.Lines.{header, orderLine, readingText, rowLines}
+use Rattle.listing_text.specs.Listing.{Listed, imagesSaid, listingText, tableSaid}
+use Rattle.listing_text.specs.Promises.{listed-front, listing-accepted, listing-table, listingChecks, orderSaid}
 use Rattle.listing_text.specs.declared.Last.{Last}
 use Rattle.listing_text.specs.declared.Last.the-variants.{FarEnd, ImageN}
 
@@ -95,7 +93,8 @@ pub record Printed (s text : List ℕ) (last : ℕ) : Type 0 where
   pub ring : FromOneTo last (imagesSaid s) (images (imagesSaid s) (tableSaid s) 1 last)
 
 module _ (s : List ℕ) (e : listingChecks s ≡ Passed) where
-  shown : (which : Last) → listingText which s ≡ rowsShown s ++ orderLine (orderSaid which s)
+  -- whichever image is last, the lines before the order line are the same
+  pub shown : (which : Last) → listingText which s ≡ rowsShown s ++ orderLine (orderSaid which s)
   unfolding readingText
   shown which =
       let n = imagesSaid s in
@@ -120,22 +119,3 @@ module _ (s : List ℕ) (e : listingChecks s ≡ Passed) where
   -- the second listing at image n
   pub closes-at-n : {size : ℕ} {text : List ℕ} → Listed ImageN s size text → Printed s (take size text) (imagesSaid s)
   closes-at-n p = printed ImageN p
-
--- ## Two listings of one input
-
--- x, the listing, and y, the one with last n, differ in the order line only, and where there is none in nothing
-pub record OrderLineOnly (s x y : List ℕ) : Type 0 where
-  pub refused : (q : Refusal) → listingChecks s ≡ Refused q → (x ≡ refusedLine q) × (y ≡ refusedLine q)
-  pub accepted : listingChecks s ≡ Passed
-      → (x ≡ rowsShown s ++ orderLine (orderSaid FarEnd s)) × (y ≡ rowsShown s ++ orderLine (orderSaid ImageN s))
-
-pub order-line-only : (s : List ℕ) {a b : ℕ} {t u : List ℕ} → Listed FarEnd s a t → Listed ImageN s b u → OrderLineOnly s (take a t) (take b u)
-order-line-only s p q = record {
-  refused = λ r e. (listed-front FarEnd s p ∙ listing-refused FarEnd s r e, listed-front ImageN s q ∙ listing-refused ImageN s r e);
-  accepted = λ e. (listed-front FarEnd s p ∙ shown s e FarEnd, listed-front ImageN s q ∙ shown s e ImageN);
-}
-
--- where the far end is image n they are the same
-pub same-listing : (s : List ℕ) → lastImage FarEnd (imagesSaid s) (tableSaid s) ≡ imagesSaid s → listingText FarEnd s ≡ listingText ImageN s
-unfolding listingText
-same-listing s e = ap (λ (l : ℕ). textIf (storedChecks s) (tableText l (imagesSaid s) (tableSaid s))) e

@@ -81,6 +81,9 @@ fn write_stored(out: &mut [u8], which: Last, bytes: &[u8]) -> usize
     }
 }
 
+// How many bytes the longest stored cost table has. Nothing behind them can matter to a listing: `listing-ignores` in specs/Ignored.antt.
+pub const LONGEST_TABLE: usize = 5041;
+
 // A text: how long it is, and its bytes in front of an array with room for every listing.
 pub struct Text {
     pub length: usize,
