@@ -16,7 +16,7 @@ pub record IsFarEnd (d : ℕ → ℕ → ℕ) (n x : ℕ) : Type 0 where
 abbrev pub fartherOf : (ℕ → ℕ → ℕ) → ℕ → ℕ → ℕ
 fartherOf d w x = cond (ltb (d 0 x) (d 0 w)) w x
 
--- the farthest of image 1 and the m images behind it, from the lowest on
+-- the farthest of image 1 and the m images after it: a later one only where it costs more
 unfoldable pub farthest : (ℕ → ℕ → ℕ) → ℕ → ℕ
 farthest d zero = 1
 farthest d (suc m) = fartherOf d (m + 2) (farthest d m)
