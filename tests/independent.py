@@ -1,6 +1,6 @@
 #!/usr/bin/env python3
-"""Every public call of document 01, and the links that a team shares of document
-02, written from their definitions.
+"""Every public call of document 01, and of document 02 the links that a team shares
+and the far end of the listing, written from their definitions.
 
 Nothing here is taken from the crates: the words, the orders of checks and the
 numbers are the documents', and where they leave a point open, the decision noted
@@ -18,7 +18,8 @@ writes into. A refused call alters no list.
     python3 tests/independent.py --self-test
 
 runs the settled examples of document 01, checks of demands 2 and 3 on tables drawn
-from a fixed seed, and what document 02 says of the links that a team shares.
+from a fixed seed, and what document 02 says of the links that a team shares and of
+the far end.
 """
 
 import functools
@@ -1085,7 +1086,8 @@ def test_listing():
 
 
 def test_far_end(dice):
-    """The last image of each listing, and that nothing else differs; on a star of equal links it is 2."""
+    """The last image of each listing, and that nothing but the order line differs. On a star of
+    equal links the far end is 2."""
     for n in (3, 4, 9, 33, 64):
         even = table_from(n, [2] * (n * n))
         assert far_end(n, square(n, even)) == 2
