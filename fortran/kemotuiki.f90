@@ -25,7 +25,7 @@ module kemotuiki
 
     ! The version, as the file VERSION has it.
     character(*), parameter, public :: kemotuiki_version = '1.2.0'
-    integer, parameter, public :: kemotuiki_version_major = 1, kemotuiki_version_minor = 1, kemotuiki_version_patch = 0
+    integer, parameter, public :: kemotuiki_version_major = 1, kemotuiki_version_minor = 2, kemotuiki_version_patch = 0
 
     ! Room that is enough for every n: images, rows of a tree, bytes of the stored forms; the tables of a team; and bytes of a
     ! refusal's text.
