@@ -1,5 +1,5 @@
 -- The checks of a listing by their numbers: its text is the line of the first refusal, or the accepted one. Assumes nothing.
-use mathlib.Core.List.{List, _++_, _∷_, []}
+use mathlib.Core.List.{List, _∷_}
 use mathlib.Core.Path.{refl, _≡_}
 use Prim.Native.Nat.{ℕ}
 use Rattle.ground.specs.InOrder.{Decides, InOrder}

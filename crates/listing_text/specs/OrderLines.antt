@@ -2,7 +2,7 @@
 -- the listing. Assumes nothing.
 use mathlib.Core.List.{List, append-assoc, _++_}
 use mathlib.Core.Path.{ap, refl, sym, _∙_, _≡_}
-use Prim.Native.Nat.{ℕ, _-_, _≤_}
+use Prim.Native.Nat.{suc, ℕ, _-_, _≤_}
 use native.Mathlib.Omega.{arith}
 use lib.ListN.{getD, length, length-replicate, replicate, take}
 use lib.Seq.{getD-take}
@@ -12,8 +12,8 @@ use Rattle.ground.specs.declared.Check.the-variants.{Passed}
 use Rattle.theory.specs.LinkTables.{costs, fars}
 use Rattle.theory.specs.Routes.{uppers}
 use Rattle.theory.specs.Tables.{CostTable, cost, limit}
-use Rattle.far_end.specs.FarEnd.{farEnd}
-use Rattle.far_end.specs.Laws.FarEnd.{far-end-is}
+use Rattle.far_end.specs.FarEnd.{IsFarEnd, farEnd}
+use Rattle.far_end.specs.Laws.FarEnd.{far-end-is, far-end-only}
 use Rattle.order.specs.Outcome.{images, orderOutcome}
 use Rattle.order.specs.Promises.{order-accepted, order-wrote}
 use Rattle.tree.specs.Exact.{exactRows}
@@ -49,11 +49,14 @@ last-is-far n t c =
 -- and no other image is all that
 pub last-only : (n : ℕ) (t : List ℕ) (last : ℕ) → CostTable limit n t → LastIsFar n t last → last ≡ lastImage FarEnd n t
 last-only n t last c f =
-    let g = last-is-far n t c in
-    let a = lastImage FarEnd n t in
-    let e : cost t n 0 (last - 1) ≡ cost t n 0 (a - 1) =
-    omega (arith, f .greatest a (g .other) (g .image), g .greatest last (f .other) (f .image)) in
-    omega (arith, f .lowest a (g .other) (g .image) (omega arith), g .lowest last (f .other) (f .image) e)
+    let back : (w : ℕ) → suc w - 1 ≡ w = λ w. omega arith in
+    let g : IsFarEnd (cost t n) n (last - 1) = record {
+      other = omega (arith, f .other);
+      image = omega (arith, f .other, f .image);
+      greatest = λ w l h. rw (back w) at (f .greatest (suc w) (omega arith) (omega arith));
+      lowest = λ w l h e. omega (arith, f .lowest (suc w) (omega arith) (omega arith) (rw (back w) e));
+    } in
+    omega (arith, f .other, far-end-only (cost t n) n (last - 1) (omega (arith, c .some)) g)
 
 -- ## All images once
 
