@@ -30,8 +30,8 @@ static void ours_index(void) { sink = kemotuiki_index(n, tree, n * n, inner_side
 static void c_index(void) { size_t v = 0; plain_index(n, tree, n * n, inner_side, &v); sink = v; }
 static void ours_order(void) { sink = kemotuiki_order(n, tree, n * n, 1, n, out, 64).images + out[1]; }
 static void c_order(void) { plain_order(n, tree, n * n, 1, n, plain_out, 64); sink = n + plain_out[1]; }
-static void ours_compare(void) { KemotuikiComparison r = kemotuiki_compare(n, tree, n * n, other, n * n); sink = r.inner_first + 1000 * r.count; }
-static void c_compare(void) { size_t v[5] = {0}; plain_compare(n, tree, n * n, other, n * n, v); sink = v[0] + 1000 * v[3]; }
+static void ours_compare(void) { KemotuikiComparison r = kemotuiki_compare(n, tree, n * n, other, n * n); sink = r.inner_first + 1000 * r.count + 1000000 * r.over; }
+static void c_compare(void) { size_t v[5] = {0}; plain_compare(n, tree, n * n, other, n * n, v); sink = v[0] + 1000 * v[3] + 1000000 * v[4]; }
 static void ours_consensus(void) { sink = kemotuiki_consensus(n, 16, team, 16 * n * n, shared_fars, 125, shared_costs, 125).rows; }
 static void c_consensus(void) { plain_consensus(n, 16, team, 16 * n * n, plain_fars, plain_costs, 125, &plain_rows); sink = plain_rows; }
 static void ours_write_costs(void) { sink = kemotuiki_write_costs(n, tree, n * n, cost_bytes, sizeof cost_bytes).used; }

@@ -24,8 +24,8 @@ module kemotuiki
     private
 
     ! The version, as the file VERSION has it.
-    character(*), parameter, public :: kemotuiki_version = '1.2.0'
-    integer, parameter, public :: kemotuiki_version_major = 1, kemotuiki_version_minor = 2, kemotuiki_version_patch = 0
+    character(*), parameter, public :: kemotuiki_version = '1.3.0'
+    integer, parameter, public :: kemotuiki_version_major = 1, kemotuiki_version_minor = 3, kemotuiki_version_patch = 0
 
     ! Room that is enough for every n: images, rows of a tree, bytes of the stored forms; the tables of a team; and bytes of a
     ! refusal's text.
@@ -329,7 +329,9 @@ contains
         call place_by_rows(r, t)
     end function
 
-    ! Two tables compared by their exact readings. A second table of another shape may have as many entries as the first: then C is
+    ! Two tables compared by their exact readings. The disagreement is r%count over r%over, the inner rows of both trees (1 when there
+    ! are none), not reduced and never above 1: it is 0 exactly when the trees have the same inner far sides, and 1 exactly when they
+    ! have none in common and at least one exists. A second table of another shape may have as many entries as the first: then C is
     ! lent none of them, and refuses its length when its turn comes.
     function kemotuiki_compare(first, second) result(r)
         integer(int32), intent(in), contiguous :: first(:, :), second(:, :)

@@ -25,9 +25,9 @@
 #include <stdint.h>
 
 /* The version, as the file VERSION has it. */
-#define KEMOTUIKI_VERSION "1.2.0"
+#define KEMOTUIKI_VERSION "1.3.0"
 #define KEMOTUIKI_VERSION_MAJOR 1
-#define KEMOTUIKI_VERSION_MINOR 2
+#define KEMOTUIKI_VERSION_MINOR 3
 #define KEMOTUIKI_VERSION_PATCH 0
 
 /*
@@ -114,7 +114,7 @@ typedef struct KemotuikiPath {
 
 /*
  * Two trees compared: the inner rows of each, the inner far sides common to both, the Robinson-Foulds count, which is how many
- * inner far sides are in exactly one, and what that count stands over: 2n-6, and 1 when n = 3.
+ * inner far sides are in exactly one, and what that count stands over: inner_first + inner_second, and 1 when both are 0.
  */
 typedef struct KemotuikiComparison {
     size_t number, table, a, b, c, d;
@@ -210,7 +210,9 @@ KemotuikiRows kemotuiki_route(size_t n, size_t count, const uint64_t *fars, size
                               uint32_t *KEMOTUIKI_RESTRICT out, size_t out_count);
 
 /*
- * Two cost tables compared by their exact readings. Their trees have the same inner far sides exactly when count is 0.
+ * Two cost tables compared by their exact readings. The disagreement is count over over, not reduced and never above 1: it is 0
+ * exactly when the trees have the same inner far sides, and 1 exactly when they have none in common and at least one exists. The
+ * count is a distance between trees; the fraction is none.
  * Refusals 1 with table 0, then 2, 4, 5, 6, 7 of the first table and then of the second, with the table's number.
  */
 KemotuikiComparison kemotuiki_compare(size_t n, const uint32_t *first, size_t first_count,

@@ -367,6 +367,26 @@ def related_rows(dice, n):
     return one, tree_rows(dice, n, law.random_shape(dice), 20)
 
 
+def disagreeing(dice, n):
+    """Rows of two trees, by their disagreement: 0 over 1 without inner ones; 1 where one
+    tree alone has some, and where none is common; between, and 0 over all of both."""
+    star = tree_rows(dice, n, "star", 1)
+    yield star, tree_rows(dice, n, "star", 2)
+    if n == 3:
+        return
+    one = tree_rows(dice, n, "caterpillar", 1)
+    inner = {far for far, _ in one if is_inner(n, far)}
+    yield star, one
+    yield one, star
+    two = one
+    while inner & {far for far, _ in two}:
+        two = tree_rows(dice, n, dice.one_of(["caterpillar", "uneven"]), 1)
+    yield one, two
+    last = max(inner)
+    yield one, [(far, 2 * cost) for far, cost in one if far != last]
+    yield one, [(far, 2 * cost) for far, cost in one]
+
+
 def even_rows(rows):
     return [(far, 2 * cost) for far, cost in rows]
 
@@ -406,6 +426,9 @@ def compare_cases(dice):
         one = tree_rows(dice, n, "uneven", most)
         two = fewer_inner(dice, n, one) if n == 64 else tree_rows(dice, n, "caterpillar", 1)
         yield n, tree_table(n, even_rows(one)), tree_table(n, even_rows(two))
+    for n in (3, 4, 9, 33, 64):
+        for one, two in disagreeing(dice, n):
+            yield n, tree_table(n, one), tree_table(n, two)
 
 
 def write_costs_cases(dice):

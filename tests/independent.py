@@ -558,7 +558,7 @@ def compare(n, first, second):
     numbered(0, check_n, n)
     one = numbered(1, inner_far_sides, n, first)
     two = numbered(2, inner_far_sides, n, second)
-    over = 1 if n == 3 else 2 * n - 6
+    over = len(one) + len(two) if one or two else 1
     return 0, len(one), len(two), len(one & two), len(one ^ two), over
 
 
@@ -1017,8 +1017,9 @@ def test_settled_examples():
         assert rows_by_definition(n, t) == MEASURED[name], name
     n, e = example("E")
     _, g = example("G")
-    assert compare(n, e, g) == (0, 1, 0, 0, 1, 2)
-    assert compare(n, g, g) == (0, 0, 0, 0, 0, 2)
+    assert compare(n, e, g) == (0, 1, 0, 0, 1, 1)
+    assert compare(n, e, e) == (0, 1, 1, 1, 0, 2)
+    assert compare(n, g, g) == (0, 0, 0, 0, 0, 1)
     assert compare(3, example("A")[1], example("D")[1]) == (0, 0, 0, 0, 0, 1)
     n, h = example("H")
     out = [9] * 8
@@ -1209,7 +1210,8 @@ def test_demand_3(dice):
 
 def test_comparison(dice):
     """The count is the inner far sides in exactly one table, and not always 2n-6
-    less twice the common ones."""
+    less twice the common ones. Over the inner far sides of both it is never above 1,
+    and 1 where none is common and one exists."""
     for n in (3, 4, 5, 6, 9):
         for _ in range(20):
             one = tree_rows(dice, n, random_shape(dice))
@@ -1218,8 +1220,12 @@ def test_comparison(dice):
             inner2 = [far for far, _ in two if is_inner(n, far)]
             common = [far for far in inner1 if far in inner2]
             count = len(inner1) + len(inner2) - 2 * len(common)
+            over = max(len(inner1) + len(inner2), 1)
             assert compare(n, tree_table(n, one), tree_table(n, two)) == (
-                0, len(inner1), len(inner2), len(common), count, max(2 * n - 6, 1))
+                0, len(inner1), len(inner2), len(common), count, over)
+            assert count <= over
+            assert (count == over) == (not common and bool(inner1 or inner2))
+            assert (count == 0) == (inner1 == inner2)
 
 
 def test_consensus_examples():

@@ -4,9 +4,9 @@ use mathlib.Core.List.{List, List·Memᴰ}
 use mathlib.Core.Logic.{_↔_}
 use mathlib.Core.Path.{ap, ap₂, refl, subst, sym, _∙_, _≡_}
 use Prim.Native.Nat.{ℕ, _*_, _+_, _^_, _≤_}
+use native.Mathlib.Nat.{add-comm}
 use native.Mathlib.Omega.{arith}
 use lib.ListN.{length}
-use borrow.Author.Tests.{eq-eqb, ne-eqb}
 use Rattle.ground.specs.Ascending.{Between}
 use Rattle.ground.specs.Laws.Ascending.{between-filter, between-mem}
 use Rattle.ground.specs.Filters.{Each, filter}
@@ -25,7 +25,7 @@ use Rattle.tree.specs.Exact.{Wired, exactRows, exactSides}
 use Rattle.tree.specs.Laws.Exact.{exact-rows, exact-tree}
 use Rattle.counts.specs.Differ.{differ, overOf}
 use Rattle.counts.specs.Laws.Distance.{differing-exactly, differing-over, differing-sym, differing-zero}
-use Rattle.counts.specs.Laws.Formula.{formula}
+use Rattle.counts.specs.Laws.Formula.{formula, same-numbers}
 use Rattle.counts.specs.Laws.InnerRows.{inner-most}
 use Rattle.counts.specs.declared.Difference.{Difference}
 use Rattle.compare.specs.Call.{comparison}
@@ -51,10 +51,8 @@ pub record TreesDiffer (n : ℕ) (T U : List Row) (x : Difference) : Type 0 wher
   pub adds-up : x .count + 2 * x .common ≡ x .first + x .second
   -- 2 n - 6 less twice the common ones is the count exactly when both trees have n - 3 inner rows: every switch has three links
   pub three-links : (x .count + 2 * x .common + 6 ≡ 2 * n) ↔ ((x .first + 3 ≡ n) × (x .second + 3 ≡ n))
-  -- it never exceeds 2 n - 6, over which it is set; of three images it is 0 over 1
+  -- it never exceeds 2 n - 6
   pub most : x .count + 6 ≤ 2 * n
-  pub over : 4 ≤ n → x .over + 6 ≡ 2 * n
-  pub three : n ≡ 3 → (x .count ≡ 0) × (x .over ≡ 1)
 
 tree-sides : (L n : ℕ) (T : List Row) → LinkTable L n T → Each (innerRows n T) (λ S. List·Memᴰ S (sides n))
 tree-sides L n T t S m =
@@ -66,7 +64,7 @@ tree-sides L n T t S m =
 tree-ascends : (L n : ℕ) (T : List Row) → LinkTable L n T → Between 1 (innerRows n T) (2 ^ n)
 tree-ascends L n T t = between-filter (inner n) 1 (2 ^ n) (fars T) (t .ascending)
 
-trees-differ : (L n : ℕ) (T U : List Row) → 3 ≤ n → LinkTable L n T → LinkTable L n U → TreesDiffer n T U (differ n (fars T) (fars U))
+pub trees-differ : (L n : ℕ) (T U : List Row) → 3 ≤ n → LinkTable L n T → LinkTable L n U → TreesDiffer n T U (differ n (fars T) (fars U))
 trees-differ L n T U h t u =
     let a = tree-ascends L n T t in
     let b = tree-ascends L n U u in
@@ -82,8 +80,6 @@ trees-differ L n T U h t u =
       adds-up = f;
       three-links = (λ e. (omega (arith, f, i, j), omega (arith, f, i, j)), λ e. omega (arith, f));
       most = omega (arith, f, i, j);
-      over = λ l. rw (ne-eqb n 3 (λ e. omega arith)) (omega arith);
-      three = λ e. (omega (arith, f, i, j), rw (eq-eqb n 3 e));
     }
 
 -- the answer for the tables in the other order
@@ -93,14 +89,21 @@ turned x = record { first = x .second; second = x .first; common = x .common; co
 module _ (L n : ℕ) where
   -- ## An accepted answer speaks of the two exact readings
 
-  pub compare-says : (t u : List ℕ) (x : Difference) → comparison L n t u ≡ Compared x → (T U : List Row) → Exact L (cost t n) n T → Exact L (cost u n) n U
-      → TreesDiffer n T U x
-  compare-says t u x e T U p q =
+  -- what holds of the difference of every two link tables holds of it
+  pub of-trees : (P : List Row → List Row → Difference → Type 0)
+      → ((T U : List Row) → 3 ≤ n → LinkTable L n T → LinkTable L n U → P T U (differ n (fars T) (fars U)))
+      → (t u : List ℕ) (x : Difference) → comparison L n t u ≡ Compared x → (T U : List Row) → Exact L (cost t n) n T → Exact L (cost u n) n U
+      → P T U x
+  of-trees P h t u x e T U p q =
       let a = compare-accepted L n t u x e in
       let v = exact-rows L n t (a .first) T .0 p in
       let w = exact-rows L n u (a .second) U .0 q in
       let s : x ≡ differ n (fars T) (fars U) = a .answer ∙ ap₂ (λ (A B : List Row). differ n (fars A) (fars B)) (sym v) (sym w) in
-      subst (TreesDiffer n T U) (sym s) (trees-differ L n T U (a .first .table .some) (p .tree) (q .tree))
+      subst (P T U) (sym s) (h T U (a .first .table .some) (p .tree) (q .tree))
+
+  pub compare-says : (t u : List ℕ) (x : Difference) → comparison L n t u ≡ Compared x → (T U : List Row) → Exact L (cost t n) n T → Exact L (cost u n) n U
+      → TreesDiffer n T U x
+  compare-says = of-trees (TreesDiffer n) (trees-differ L n)
 
   -- ## The count is a distance
 
@@ -114,8 +117,8 @@ module _ (L n : ℕ) where
       let l = inners n (exactSides L n t) in
       let r = inners n (exactSides L n u) in
       compare-accepts L n u t (a .second) (a .first)
-      ∙ ap₂ (λ (c d : ℕ). Compared (record { first = length r; second = length l; common = c; count = d; over = overOf n }))
-      (ap length (common-same 1 (2 ^ n) r l (ascends u (a .second)) (ascends t (a .first)))) (differing-sym r l)
+      ∙ ap Compared (same-numbers refl refl
+      (ap length (common-same 1 (2 ^ n) r l (ascends u (a .second)) (ascends t (a .first)))) (differing-sym r l) (ap overOf (add-comm (length r) (length l))))
       ∙ ap (λ (d : Difference). Compared (turned d)) (sym (a .answer))
 
   -- never longer over a third, which is accepted with both

@@ -1,15 +1,15 @@
--- How far two lists of far sides differ, in document 01's words.
+-- How far two lists of far sides differ, in document 01's words; the divisor is document 02's.
 use mathlib.Core.Bool.{cond}
 use mathlib.Core.List.{List}
-use Prim.Native.Nat.{ℕ, _*_, _-_}
+use Prim.Native.Nat.{ℕ, _+_}
 use lib.Dec.{eqb}
 use lib.ListN.{length}
 use Rattle.theory.specs.Comparison.{common, differing, inners}
 use Rattle.counts.specs.declared.Difference.{Difference}
 
--- the count is set over 2 n - 6, and over 1 when n = 3
+-- what the count is set over: the m inner far sides of the first and of the second, and 1 where m is 0
 abbrev pub overOf : ℕ → ℕ
-overOf n = cond (eqb n 3) 1 (2 * n - 6)
+overOf m = cond (eqb m 0) 1 m
 
 -- inner far sides of the first, of the second, common ones, and those in exactly one
 abbrev pub differ : ℕ → List ℕ → List ℕ → Difference
@@ -18,5 +18,5 @@ differ n l r = record {
   second = length (inners n r);
   common = length (common (inners n l) (inners n r));
   count = differing (inners n l) (inners n r);
-  over = overOf n;
+  over = overOf (length (inners n l) + length (inners n r));
 }

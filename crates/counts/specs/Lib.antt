@@ -2,5 +2,7 @@
 pub mod Differ
 pub mod Tally
 pub mod Merge
+-- When two lists disagree wholly.
+pub mod Disagreement
 -- What is true of it.
 pub mod Laws

@@ -67,28 +67,28 @@ fn common_rows(n: usize, first: &[u64], second: &[u64]) -> usize
     count
 }
 
-// What the count is set over: 2 n - 6, and 1 where n is 3.
-fn over_of(n: usize) -> usize
-    requires { ⌜ (3 ≤ n) × (n ≤ 64) ⌝ }
-    ensures { λ r. ⌜ r ≡ overOf n ⌝ }
+// What the count is set over: the inner far sides of both lists, and 1 where there are none.
+fn over_of(inner: usize) -> usize
+    ensures { λ r. ⌜ r ≡ overOf inner ⌝ }
 {
-    if n == 3 { 1 } else { 2 * n - 6 }
+    if inner == 0 { 1 } else { inner }
 }
 
 // The whole difference of two lists; those in exactly one are counted from the three numbers before.
 pub fn differ(n: usize, first: &[u64], second: &[u64]) -> Difference
-    requires { ⌜ (3 ≤ n) × (n ≤ 64) × Between 1 (now first) (2 ^ n) × Between 1 (now second) (2 ^ n) × (length (now first) ≤ 128)
+    requires { ⌜ Between 1 (now first) (2 ^ n) × Between 1 (now second) (2 ^ n) × (length (now first) ≤ 128)
         × (length (now second) ≤ 128) ⌝ }
     ensures { λ r. ⌜ r ≡ differ n (now (first .entry)) (now (second .entry)) ⌝ }
 {
     let a = inner_rows(n, first);
     let b = inner_rows(n, second);
     let both = common_rows(n, first, second);
+    let inner = a + b;
     Difference {
         first: a,
         second: b,
         common: both,
-        count: a + b - 2 * both,
-        over: over_of(n),
+        count: inner - 2 * both,
+        over: over_of(inner),
     }
 }

@@ -12,18 +12,18 @@ use Rattle.ground.specs.Lowest.{checkAll}
 use Rattle.ground.specs.Refusals.{refusal, _then_}
 use Rattle.ground.specs.declared.Check.{Check}
 use Rattle.ground.specs.declared.Check.the-variants.{Passed, Refused}
-use Rattle.theory.specs.Comparison.{differing}
 use Rattle.theory.specs.Demands.{exact-reading}
 use Rattle.theory.specs.FourPoint.{failing}
 use Rattle.theory.specs.Index.{shifted}
-use Rattle.theory.specs.LinkTables.{Row}
+use Rattle.theory.specs.LinkTables.{Row, fars}
 use Rattle.theory.specs.Order.{closed, grow, next}
 use Rattle.theory.specs.Readings.{Exact}
 use Rattle.theory.specs.Tables.{CostTable, limit}
 use Rattle.tables.specs.Checks.{costsCheck, sizeCheck}
 use Rattle.tables.specs.Laws.Formed.{cost-table}
+use Rattle.counts.specs.Differ.{differ}
 use Rattle.settled.specs.Examples.{exampleA, exampleB, exampleC, exampleD, exampleE, exampleEG, exampleF, exampleG, exampleH, orderH, settled}
-use Rattle.settled.specs.Settled.{Holds, Settled, compared, ordered, reads, refused, around, innerSides, rowsRead}
+use Rattle.settled.specs.Settled.{Holds, Settled, compared, ordered, reads, refused, around, rowsRead}
 use Rattle.settled.specs.Triangles.{square, table}
 use Rattle.wiring.specs.Check.{wiringCheck}
 
@@ -51,13 +51,13 @@ Computed (refused n t i j k l T) =
     (checks n t ≡ Passed) × (wiringCheck (table n t) n ≡ Refused (refusal 7 i j k l)) × (rowsRead n t ≡ T)
 Computed (ordered n t first last l s) =
     (checks n t ≡ Passed) × (map suc (around n t first last) ≡ l) × (closed (table n t) (around n t first last) ≡ s)
-Computed (compared n t u c) = Accepted n t × Accepted n u × (differing (innerSides n t) (innerSides n u) ≡ c)
+Computed (compared n t u x) = Accepted n t × Accepted n u × (differ n (fars (rowsRead n t)) (fars (rowsRead n u)) ≡ x)
 
 computed : (x : Settled) → Computed x → Holds x
 computed (reads n t T) p = (is-table n t (p .0 .0), is-exact n t T (p .0 .0) (p .0 .1) (p .1), p .1)
 computed (refused n t i j k l T) p = (is-table n t (p .0), p .1, p .2)
 computed (ordered n t first last l s) p = (is-table n t (p .0), p .1, p .2)
-computed (compared n t u c) p = (is-exact n t _ (p .0 .0) (p .0 .1) refl, is-exact n u _ (p .1 .0) (p .1 .1) refl, p .2)
+computed (compared n t u x) p = (is-exact n t _ (p .0 .0) (p .0 .1) refl, is-exact n u _ (p .1 .0) (p .1 .1) refl, p .2)
 
 pub claim : Each settled Holds
 unfolding checkAll shifted leastOn ones onesIn next grow

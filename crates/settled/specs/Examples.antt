@@ -1,4 +1,5 @@
--- The settled examples of document 01, A to H, upper triangles in stored order. A row is a far side and its doubled cost.
+-- The settled examples of document 01, A to H, upper triangles in stored order. A row is a far side and its doubled cost. What the count of
+-- E against G is set over is document 02's.
 use mathlib.Core.List.{List, [], _∷_}
 use Prim.Native.Nat.{ℕ}
 use Rattle.settled.specs.Settled.{Settled, compared, ordered, reads, refused}
@@ -34,7 +35,7 @@ abbrev pub exampleG : Settled
 exampleG = reads 4 triangleG ((2, 2) ∷ (4, 2) ∷ (8, 2) ∷ (14, 2) ∷ [])
 
 abbrev pub exampleEG : Settled
-exampleEG = compared 4 triangleE triangleG 1
+exampleEG = compared 4 triangleE triangleG (record { first = 1; second = 0; common = 0; count = 1; over = 1 })
 
 abbrev pub exampleH : Settled
 exampleH =

@@ -4,11 +4,12 @@ use mathlib.Core.Path.{_≡_}
 use Prim.Native.Nat.{suc, ℕ, _-_}
 use Rattle.ground.specs.Refusals.{refusal}
 use Rattle.ground.specs.declared.Check.the-variants.{Refused}
-use Rattle.theory.specs.Comparison.{differing, inners}
 use Rattle.theory.specs.LinkTables.{Row, fars}
 use Rattle.theory.specs.Order.{closed, order}
 use Rattle.theory.specs.Readings.{Exact, measured}
 use Rattle.theory.specs.Tables.{CostTable, limit}
+use Rattle.counts.specs.Differ.{differ}
+use Rattle.counts.specs.declared.Difference.{Difference}
 use Rattle.settled.specs.Triangles.{square, table}
 use Rattle.wiring.specs.Check.{wiringCheck}
 
@@ -16,12 +17,9 @@ use Rattle.wiring.specs.Check.{wiringCheck}
 abbrev pub around : ℕ → List ℕ → ℕ → ℕ → List ℕ
 around n t first last = order (table n t) n (first - 1) (last - 1)
 
--- the rows of the measured reading, and their inner far sides
+-- the rows of the measured reading
 abbrev pub rowsRead : ℕ → List ℕ → List Row
 rowsRead n t = measured limit (table n t) n
-
-abbrev pub innerSides : ℕ → List ℕ → List ℕ
-innerSides n t = inners n (fars (rowsRead n t))
 
 -- an example: n, an upper triangle, and what is settled of them
 pub data Settled : Type 0 where
@@ -31,8 +29,8 @@ pub data Settled : Type 0 where
   refused : (n : ℕ) (t : List ℕ) (i j k l : ℕ) (T : List Row) → Settled
   -- the order from first with last is l, its closed sum s
   ordered : (n : ℕ) (t : List ℕ) (first last : ℕ) (l : List ℕ) (s : ℕ) → Settled
-  -- t against u has the Robinson-Foulds count c
-  compared : (n : ℕ) (t u : List ℕ) (c : ℕ) → Settled
+  -- t against u has the difference x, the count and what it is set over
+  compared : (n : ℕ) (t u : List ℕ) (x : Difference) → Settled
 
 -- what it says is so
 abbrev pub Holds : Settled → Type 0
@@ -42,5 +40,5 @@ Holds (refused n t i j k l T) =
     CostTable limit n (square n t) × (wiringCheck (table n t) n ≡ Refused (refusal 7 i j k l)) × (rowsRead n t ≡ T)
 Holds (ordered n t first last l s) =
     CostTable limit n (square n t) × (map suc (around n t first last) ≡ l) × (closed (table n t) (around n t first last) ≡ s)
-Holds (compared n t u c) =
-    Exact limit (table n t) n (rowsRead n t) × Exact limit (table n u) n (rowsRead n u) × (differing (innerSides n t) (innerSides n u) ≡ c)
+Holds (compared n t u x) =
+    Exact limit (table n t) n (rowsRead n t) × Exact limit (table n u) n (rowsRead n u) × (differ n (fars (rowsRead n t)) (fars (rowsRead n u)) ≡ x)

@@ -50,7 +50,7 @@ differ-requires c κs =
     let m = c .before .before in
     let p = begun m .pre in
     let q = stand m in
-    (p .0, p .1, p .2, q .ascending, p .3, omega (arith, q .counted, q .few, p .1))
+    (p .2, q .ascending, p .3, omega (arith, q .counted, q .few, p .1))
 
 returns : tie.Need-returns
 returns c =

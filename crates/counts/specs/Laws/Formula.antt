@@ -1,7 +1,7 @@
 -- The Robinson-Foulds count from the three numbers before it. Assumes nothing.
 use mathlib.Core.Bool.{Bool}
 use mathlib.Core.List.{List, [], _∷_}
-use mathlib.Core.Path.{_≡_}
+use mathlib.Core.Path.{ap₂, _∙_, _≡_}
 use Prim.Native.Nat.{ℕ, _*_, _+_, _-_, _≤_}
 use native.Mathlib.Omega.{arith}
 use lib.ListN.{length}
@@ -22,6 +22,12 @@ filter-le p (x ∷ l) = let ih = filter-le p l in cases (p x) (λ e. rw e (omega
 pub inners-le : (n : ℕ) (l : List ℕ) → length (inners n l) ≤ length l
 inners-le n l = filter-le (inner n) l
 
+-- the same five numbers are the same difference
+pub same-numbers : {a b c d e a' b' c' d' e' : ℕ} → a ≡ a' → b ≡ b' → c ≡ c' → d ≡ d' → e ≡ e'
+    → _≡_ {A = Difference} (record { first = a; second = b; common = c; count = d; over = e })
+    (record { first = a'; second = b'; common = c'; count = d'; over = e' })
+same-numbers p q r s t = rw (p, q, r, s, t)
+
 module _ (n k : ℕ) (l r : List ℕ) (a : Between 1 l k) (b : Between 1 r k) where
   -- the count, and twice the common inner far sides, are the inner far sides of both
   pub formula : differing (inners n l) (inners n r) + 2 * length (common (inners n l) (inners n r)) ≡ length (inners n l) + length (inners n r)
@@ -29,9 +35,6 @@ module _ (n k : ℕ) (l r : List ℕ) (a : Between 1 l k) (b : Between 1 r k) wh
 
   -- as the code has it
   pub difference-is : {x y z v : ℕ} → x ≡ length (inners n l) → y ≡ length (inners n r) → z ≡ length (common (inners n l) (inners n r))
-      → v ≡ overOf n
+      → v ≡ overOf (x + y)
       → _≡_ {A = Difference} (record { first = x; second = y; common = z; count = x + y - 2 * z; over = v }) (differ n l r)
-  difference-is e f g h =
-      let q : length (inners n l) + length (inners n r) - 2 * length (common (inners n l) (inners n r)) ≡ differing (inners n l) (inners n r) = omega
-      (arith, formula) in
-      rw (e, f, g, h, q)
+  difference-is e f g h = same-numbers e f g (omega (arith, e, f, g, formula)) (h ∙ ap₂ (λ (a b : ℕ). overOf (a + b)) e f)
