@@ -329,10 +329,10 @@ contains
         call place_by_rows(r, t)
     end function
 
-    ! Two tables compared by their exact readings. The disagreement is r%count over r%over, the inner rows of both trees (1 when there
-    ! are none), not reduced and never above 1: it is 0 exactly when the trees have the same inner far sides, and 1 exactly when they
-    ! have none in common and at least one exists. A second table of another shape may have as many entries as the first: then C is
-    ! lent none of them, and refuses its length when its turn comes.
+    ! Two tables compared by their exact readings. The disagreement, count / over, is not reduced and never above 1: it is 0 exactly
+    ! when the trees have the same inner far sides, and 1 exactly when they have none in common and at least one exists; over is the
+    ! inner rows of both trees, and 1 when there are none. A second table of another shape may have as many entries as the first:
+    ! then C is lent none of them, and refuses its length when its turn comes.
     function kemotuiki_compare(first, second) result(r)
         integer(int32), intent(in), contiguous :: first(:, :), second(:, :)
         type(kemotuiki_comparison_answer) :: r

@@ -17,7 +17,7 @@ use Rattle.ground.specs.Members.{isIn}
 use Rattle.theory.specs.Comparison.{common, inners}
 use Rattle.counts.specs.Differ.{differ, overOf}
 use Rattle.counts.specs.Disagreement.{NoneCommon, OneExists}
-use Rattle.counts.specs.Laws.Formula.{formula}
+use Rattle.counts.specs.Laws.Formula.{formula, length-zero}
 
 -- ## The divisor
 
@@ -31,7 +31,7 @@ over-some m h = rw (ne-eqb m 0 (λ e. omega arith))
 pub over-positive : (m : ℕ) → 0 < overOf m
 over-positive m = cases (eqb m 0) (λ e. rw e (omega arith)) (λ e. rw e (omega (arith, eqb-false m 0 e)))
 
--- ## The disagreement in numbers: c of m inner far sides are common ones
+-- ## The disagreement in numbers: m inner far sides in the two lists, c of them in both
 
 module _ (count c m : ℕ) (f : count + 2 * c ≡ m) where
   never-above : count ≤ overOf m
@@ -41,7 +41,7 @@ module _ (count c m : ℕ) (f : count + 2 * c ≡ m) where
       over-least = cases (eqb m 0) (λ e. rw e (omega (arith, eqb-true m 0 e))) (λ e. rw e (omega arith))
 
   wholly : (count ≡ overOf m) ↔ ((c ≡ 0) × (0 < m))
-  wholly = (λ e. cases (eqb m 0) (λ z. absurd (none e z)) (λ z. some e (eqb-false m 0 z)), λ p. omega (arith, f, p .0, over-some m (p .1)))
+  wholly = (λ e. cases (eqb m 0) (λ z. absurd (none e z)) (λ z. some e (eqb-false m 0 z)), λ p. omega (arith, f, p, over-some m (p .1)))
     where
       none : count ≡ overOf m → eqb m 0 ≡ true → ⊥
       none e z = let i = eqb-true m 0 z in omega (arith, f, e, i, over-none m i)
@@ -53,13 +53,9 @@ module _ (count c m : ℕ) (f : count + 2 * c ≡ m) where
 
 none-common : (l r : List ℕ) → (length (common l r) ≡ 0) ↔ NoneCommon l r
 none-common l r = (
-  λ e S m t. false≢true (sym (none-in (λ x. isIn x r) l (empty (common l r) e) S m) ∙ mem-isIn S r t),
+  λ e S m t. false≢true (sym (none-in (λ x. isIn x r) l (length-zero (common l r) e) S m) ∙ mem-isIn S r t),
   λ h. ap length (filter-none (λ x. isIn x r) l (λ S m. cases (isIn S r) (λ e. absurd (h S m (isIn-mem S r e))) (λ e. e))),
 )
-  where
-    empty : (l : List ℕ) → length l ≡ 0 → l ≡ []
-    empty [] e = refl
-    empty (x ∷ l) e = absurd (omega arith)
 
 one-exists : (l r : List ℕ) → (0 < length l + length r) ↔ OneExists l r
 one-exists l r = (to l r, λ p. back (p .0) (p .1))

@@ -18,6 +18,7 @@ use Rattle.ground.specs.Tests.{one-of}
 use Rattle.ground.specs.Laws.Tests.{and-l, and-r}
 use Rattle.theory.specs.Comparison.{alone, differing}
 use Rattle.theory.specs.Laws.Comparison.{common-same}
+use Rattle.counts.specs.Laws.Formula.{length-zero}
 
 filter-split : (p q : ℕ → Bool) (l : List ℕ) → length (filter q l) ≤ length (filter (λ x. not (p x)) l) + length (filter q (filter p l))
 filter-split p q [] = omega arith
@@ -39,10 +40,6 @@ filter-both-le p q (x ∷ l) =
 alone-none : (l r : List ℕ) → length (alone l r) ≡ 0 → Each l (λ x. List·Memᴰ x r)
 alone-none l r e x m =
     isIn-mem x r (not-false (isIn x r) (none-in (λ x. not (isIn x r)) l (length-zero (alone l r) e) x m))
-  where
-    length-zero : (l : List ℕ) → length l ≡ 0 → l ≡ []
-    length-zero [] e = refl
-    length-zero (x ∷ l) e = absurd (omega arith)
 
 alone-self : (l : List ℕ) → alone l l ≡ []
 alone-self l = filter-none (λ x. not (isIn x l)) l (λ x m. rw (mem-isIn x l m))

@@ -1,7 +1,7 @@
 -- The Robinson-Foulds count from the three numbers before it. Assumes nothing.
 use mathlib.Core.Bool.{Bool}
 use mathlib.Core.List.{List, [], _∷_}
-use mathlib.Core.Path.{ap₂, _∙_, _≡_}
+use mathlib.Core.Path.{ap₂, refl, _∙_, _≡_}
 use Prim.Native.Nat.{ℕ, _*_, _+_, _-_, _≤_}
 use native.Mathlib.Omega.{arith}
 use lib.ListN.{length}
@@ -18,6 +18,10 @@ use Rattle.counts.specs.declared.Difference.{Difference}
 pub filter-le : {A : Type 0} (p : A → Bool) (l : List A) → length (filter p l) ≤ length l
 filter-le p [] = omega arith
 filter-le p (x ∷ l) = let ih = filter-le p l in cases (p x) (λ e. rw e (omega arith)) (λ e. rw e (omega arith))
+
+pub length-zero : (l : List ℕ) → length l ≡ 0 → l ≡ []
+length-zero [] e = refl
+length-zero (x ∷ l) e = absurd (omega arith)
 
 pub inners-le : (n : ℕ) (l : List ℕ) → length (inners n l) ≤ length l
 inners-le n l = filter-le (inner n) l
