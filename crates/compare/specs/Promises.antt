@@ -116,9 +116,10 @@ module _ (L n : ℕ) where
       let a = compare-accepted L n t u x e in
       let l = inners n (exactSides L n t) in
       let r = inners n (exactSides L n u) in
+      let c = ap length (common-same 1 (2 ^ n) r l (ascends u (a .second)) (ascends t (a .first))) in
+      let v = ap overOf (add-comm (length r) (length l)) in
       compare-accepts L n u t (a .second) (a .first)
-      ∙ ap Compared (same-numbers refl refl
-      (ap length (common-same 1 (2 ^ n) r l (ascends u (a .second)) (ascends t (a .first)))) (differing-sym r l) (ap overOf (add-comm (length r) (length l))))
+      ∙ ap Compared (same-numbers refl refl c (differing-sym r l) v)
       ∙ ap (λ (d : Difference). Compared (turned d)) (sym (a .answer))
 
   -- never longer over a third, which is accepted with both

@@ -3,7 +3,6 @@ use mathlib.Core.List.{List, [], _∷_}
 use mathlib.Core.Path.{ap, refl, _∙_, _≡_}
 use Prim.Native.Nat.{ℕ, _+_, _<_, _≤_}
 use native.Mathlib.Numerals.{add-one}
-use native.Mathlib.Omega.{arith}
 use lib.ListN.{getD, length, length-append, take}
 use lib.Seq.{take-all, take-suc}
 use borrow.Table.Steps.{cases}
