@@ -212,7 +212,7 @@ KemotuikiRows kemotuiki_route(size_t n, size_t count, const uint64_t *fars, size
 /*
  * Two cost tables compared by their exact readings. The disagreement, count / over, is not reduced and never above 1: it is 0
  * exactly when the trees have the same inner far sides, and 1 exactly when they have none in common and at least one exists. The
- * count is a distance between trees, and the disagreement is not.
+ * count is a distance between trees, their costs apart, and the disagreement is not.
  * Refusals 1 with table 0, then 2, 4, 5, 6, 7 of the first table and then of the second, with the table's number.
  */
 KemotuikiComparison kemotuiki_compare(size_t n, const uint32_t *first, size_t first_count,
