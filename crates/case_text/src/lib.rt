@@ -1,5 +1,7 @@
 // The text of the cases: unsigned decimal numbers one blank apart, a slice as its length and then its elements. What is read and
 // printed is not promised; it is held to the independent program's text.
+pub mod calls;
+
 use ground::Answer;
 use ground::Refusal;
 use ground::Written;

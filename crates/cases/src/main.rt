@@ -1,17 +1,17 @@
 // Runs the cases of data/: for each call its name, and then a line for each case with the answer and what the call left in each
 // lent output. The independent program's text is the file stdout.
-mod batch_cases;
-mod byte_cases;
-mod calls;
-mod choice_cases;
-mod cost_cases;
-mod link_cases;
 mod listing_cases;
-mod reader_cases;
-mod team_cases;
 mod text_cases;
 
+use case_text::calls;
 use libc::STDOUT_FILENO;
+use stored_cases::batch_cases;
+use stored_cases::byte_cases;
+use stored_cases::choice_cases;
+use stored_cases::reader_cases;
+use tree_cases::cost_cases;
+use tree_cases::link_cases;
+use tree_cases::team_cases;
 
 // Runs the case at a place of the text, and gives the place of the next one.
 fn one_case(call: u32, text: &[u8], at: usize) -> usize {
@@ -68,7 +68,8 @@ fn run(call: u32, name: &[u8], file: &[u8]) {
     every_case(call, &buffer[..length]);
 }
 
-fn main() {
+// The calls over cost tables and link tables.
+fn run_trees() {
     run(calls::INDEX, b"index", b"index.txt");
     run(calls::ORDER, b"order", b"order.txt");
     run(calls::MEASURED, b"measured", b"measured.txt");
@@ -77,16 +78,30 @@ fn main() {
     run(calls::UPPER_ROWS, b"upper_rows", b"upper_rows.txt");
     run(calls::ROUTE, b"route", b"route.txt");
     run(calls::COMPARE, b"compare", b"compare.txt");
+}
+
+// The calls that write, read and choose stored tables.
+fn run_stored() {
     run(calls::WRITE_COSTS, b"write_costs", b"write_costs.txt");
     run(calls::READ_COSTS, b"read_costs", b"read_costs.txt");
     run(calls::WRITE_LINKS, b"write_links", b"write_links.txt");
     run(calls::READ_LINKS, b"read_links", b"read_links.txt");
     run(calls::WRITE_BATCH, b"write_batch", b"write_batch.txt");
     run(calls::CHOICE, b"choice", b"choice.txt");
+}
+
+// The calls of the reader that is held.
+fn run_reader() {
     run(calls::FIRST_TWO, b"first_two", b"first_two.txt");
     run(calls::FIRST_LINKS, b"first_links", b"first_links.txt");
     run(calls::TWO_COSTS, b"two_costs", b"two_costs.txt");
     run(calls::TWO_FIELDS, b"two_fields", b"two_fields.txt");
+}
+
+fn main() {
+    run_trees();
+    run_stored();
+    run_reader();
     run(calls::REFUSAL_TEXT, b"refusal_text", b"refusal_text.txt");
     run(calls::CONSENSUS, b"consensus", b"consensus.txt");
     run(calls::LISTING, b"listing", b"listing.txt");

@@ -1,8 +1,8 @@
 // Cases that begin with n, a row count and a link table. Each function reads the other arguments, makes its call, prints what the
 // call answers and leaves, and gives the place behind the case.
-use crate::calls::PATH;
-use crate::calls::ROUTE;
-use crate::calls::UPPER_ROWS;
+use case_text::calls::PATH;
+use case_text::calls::ROUTE;
+use case_text::calls::UPPER_ROWS;
 use case_text::number_at;
 use case_text::show_answer;
 use case_text::show_written;

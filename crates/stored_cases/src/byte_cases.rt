@@ -1,6 +1,6 @@
 // Cases that begin with stored bytes and a position. Each function reads the outputs, makes its call, prints what the call answers
 // and leaves, and gives the place behind the case.
-use crate::calls::READ_COSTS;
+use case_text::calls::READ_COSTS;
 use case_text::number_at;
 use case_text::show_first;
 use case_text::show_next;

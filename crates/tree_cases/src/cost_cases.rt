@@ -1,10 +1,10 @@
 // Cases that begin with n and a cost table. Each function reads the other arguments, makes its call, prints what the call answers
 // and leaves, and gives the place behind the case.
-use crate::calls::COMPARE;
-use crate::calls::EXACT;
-use crate::calls::INDEX;
-use crate::calls::MEASURED;
-use crate::calls::ORDER;
+use case_text::calls::COMPARE;
+use case_text::calls::EXACT;
+use case_text::calls::INDEX;
+use case_text::calls::MEASURED;
+use case_text::calls::ORDER;
 use case_text::number_at;
 use case_text::show_answer;
 use case_text::show_first;

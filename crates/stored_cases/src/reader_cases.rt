@@ -3,9 +3,9 @@
 // behind the case.
 use crate::byte_cases::show_stored_costs;
 use crate::byte_cases::show_stored_links;
-use crate::calls::FIRST_LINKS;
-use crate::calls::FIRST_TWO;
-use crate::calls::TWO_COSTS;
+use case_text::calls::FIRST_LINKS;
+use case_text::calls::FIRST_TWO;
+use case_text::calls::TWO_COSTS;
 use case_text::number_at;
 use case_text::show_first;
 use case_text::show_next;
