@@ -4,5 +4,7 @@ pub mod Tally
 pub mod Merge
 -- When two lists disagree wholly.
 pub mod Disagreement
+-- Small differences, computed.
+pub mod Examples
 -- What is true of it.
 pub mod Laws
