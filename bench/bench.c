@@ -12,12 +12,17 @@
 #include "shapes.h"
 #include "tables.h"
 
+enum { BATCH = 3 }; /* tables of a batch */
+
 static size_t n, rows, plain_rows, stored_costs, stored_links, stored_fewer;
 static uint32_t tree[4096], other[4096], noisy[4096], back[4096], costs[125], plain_costs[125], out[64], plain_out[64];
 static uint64_t fars[125], plain_fars[125], inner_side;
 static uint32_t team[16 * 4096], shared_costs[125];
 static uint64_t shared_fars[125];
 static uint8_t cost_bytes[KEMOTUIKI_COST_BYTES], link_bytes[KEMOTUIKI_LINK_BYTES], fewer_bytes[KEMOTUIKI_LINK_BYTES], bytes[KEMOTUIKI_COST_BYTES];
+static uint32_t batch_ns[BATCH], batch_counts[BATCH], batch_costs[BATCH * 125];
+static uint64_t batch_fars[BATCH * 125];
+static uint8_t batch_bytes[BATCH * KEMOTUIKI_LINK_BYTES], plain_batch_bytes[BATCH * KEMOTUIKI_LINK_BYTES];
 static volatile size_t sink;
 static int printing;
 
@@ -40,6 +45,14 @@ static void ours_read_costs(void) { sink = kemotuiki_read_costs(cost_bytes, stor
 static void c_read_costs(void) { size_t m = 0, u = 0; plain_read_costs(cost_bytes, stored_costs, 0, back, 4096, &m, &u); sink = u; }
 static void ours_write_links(void) { sink = kemotuiki_write_links(n, rows, fars, rows, costs, rows, link_bytes, sizeof link_bytes).used; }
 static void c_write_links(void) { size_t u = 0; plain_write_links(n, rows, fars, costs, bytes, sizeof bytes, &u); sink = u; }
+static void ours_write_batch(void) {
+    sink = kemotuiki_write_batch(batch_ns, BATCH, batch_counts, BATCH, batch_fars, BATCH * rows, batch_costs, BATCH * rows, batch_bytes, sizeof batch_bytes).used;
+}
+static void c_write_batch(void) {
+    size_t u = 0;
+    plain_write_batch(batch_ns, batch_counts, BATCH, batch_fars, BATCH * rows, batch_costs, BATCH * rows, plain_batch_bytes, sizeof plain_batch_bytes, &u);
+    sink = u;
+}
 static void ours_read_links(void) { sink = kemotuiki_read_links(link_bytes, stored_links, 0, plain_fars, 125, plain_costs, 125).used; }
 static void c_read_links(void) { size_t m = 0, k = 0, u = 0; plain_read_links(link_bytes, stored_links, 0, plain_fars, plain_costs, 125, &m, &k, &u); sink = u; }
 
@@ -50,6 +63,14 @@ static void c_choice(void) { size_t k = 0, u = 0; plain_choice(fewer_bytes, stor
 static void fill_team(void) {
     for (size_t k = 0; k < 16; k++)
         for (size_t i = 0; i < n * n; i++) team[k * n * n + i] = tree[i] * (1 + (k + 2) % 3);
+}
+
+/* The rows of one tree, once for each table of a batch. */
+static void fill_batch(void) {
+    for (size_t k = 0; k < BATCH; k++) {
+        batch_ns[k] = (uint32_t)n, batch_counts[k] = (uint32_t)rows;
+        memcpy(batch_fars + k * rows, fars, rows * 8), memcpy(batch_costs + k * rows, costs, rows * 4);
+    }
 }
 
 /* The same tree with every second inner link left out, stored: what the whole tree is chosen against. */
@@ -109,6 +130,9 @@ static int all_calls(void) {
         race_both("write_links", ours_write_links, c_write_links);
         stored_links = sink;
         if (memcmp(link_bytes, bytes, stored_links)) return 1;
+        fill_batch();
+        race_both("write_batch of 3 tables", ours_write_batch, c_write_batch);
+        if (memcmp(batch_bytes, plain_batch_bytes, sink)) return 1;
         race_both("read_links", ours_read_links, c_read_links);
         store_fewer();
         race_both("choice", ours_choice, c_choice);

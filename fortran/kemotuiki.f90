@@ -24,8 +24,8 @@ module kemotuiki
     private
 
     ! The version, as the file VERSION has it.
-    character(*), parameter, public :: kemotuiki_version = '1.3.0'
-    integer, parameter, public :: kemotuiki_version_major = 1, kemotuiki_version_minor = 3, kemotuiki_version_patch = 0
+    character(*), parameter, public :: kemotuiki_version = '1.3.1'
+    integer, parameter, public :: kemotuiki_version_major = 1, kemotuiki_version_minor = 3, kemotuiki_version_patch = 1
 
     ! Room that is enough for every n: images, rows of a tree, bytes of the stored forms; the tables of a team; and bytes of a
     ! refusal's text.

@@ -25,10 +25,10 @@
 #include <stdint.h>
 
 /* The version, as the file VERSION has it. */
-#define KEMOTUIKI_VERSION "1.3.0"
+#define KEMOTUIKI_VERSION "1.3.1"
 #define KEMOTUIKI_VERSION_MAJOR 1
 #define KEMOTUIKI_VERSION_MINOR 3
-#define KEMOTUIKI_VERSION_PATCH 0
+#define KEMOTUIKI_VERSION_PATCH 1
 
 /*
  * Room that is enough for every n: images, rows of a tree, bytes of the stored forms; the most tables of a team; and bytes of a
@@ -230,7 +230,8 @@ KemotuikiRows kemotuiki_consensus(size_t n, size_t number, const uint32_t *table
 
 /*
  * The stored form of a cost table.
- * Answers the bytes written to out. Room: those bytes, (7 + 10*n*(n-1) + 7) / 8. Refusals 1, 2, 4, 5, 6, 3.
+ * Answers the bytes written to out, each by one store; none is loaded. Room: those bytes, (7 + 10*n*(n-1) + 7) / 8. Refusals 1,
+ * 2, 4, 5, 6, 3.
  */
 KemotuikiBytes kemotuiki_write_costs(size_t n, const uint32_t *t, size_t t_count,
                                      uint8_t *KEMOTUIKI_RESTRICT out, size_t out_count);
@@ -245,7 +246,8 @@ KemotuikiCosts kemotuiki_read_costs(const uint8_t *bytes, size_t bytes_count, si
 
 /*
  * The stored form of the link table of count rows.
- * Answers the bytes written to out. Room: those bytes, (14 + count*(n+20) + 7) / 8. Refusals 1, 10, 2, 12, 13, 3.
+ * Answers the bytes written to out, each by one store; none is loaded. Room: those bytes, (14 + count*(n+20) + 7) / 8. Refusals
+ * 1, 10, 2, 12, 13, 3.
  */
 KemotuikiBytes kemotuiki_write_links(size_t n, size_t count, const uint64_t *fars, size_t fars_count,
                                      const uint32_t *costs, size_t costs_count,
@@ -263,9 +265,9 @@ KemotuikiLinks kemotuiki_read_links(const uint8_t *bytes, size_t bytes_count, si
 /*
  * Link tables stored one after another. ns and counts say, table by table, the number of images and the row count; fars and
  * costs are the rows of all tables joined.
- * Answers the bytes written to out. Room: the bytes of all tables. Refusals 2 with table 0 where ns and counts differ in
- * length; then table by table, with its number, those of kemotuiki_write_links, 2 where either joined slice runs out; 2 with
- * the last table's number, 0 in an empty batch, where rows are left over.
+ * Answers the bytes written to out, each by one store; none is loaded. Room: the bytes of all tables. Refusals 2 with table 0
+ * where ns and counts differ in length; then table by table, with its number, those of kemotuiki_write_links, 2 where either
+ * joined slice runs out; 2 with the last table's number, 0 in an empty batch, where rows are left over.
  */
 KemotuikiBytes kemotuiki_write_batch(const uint32_t *ns, size_t ns_count, const uint32_t *counts, size_t counts_count,
                                      const uint64_t *fars, size_t fars_count, const uint32_t *costs, size_t costs_count,

@@ -3,7 +3,7 @@ ghost use mathlib.Core.Path.{_≡_};
 ghost use Prim.Native.Nat.{_*_, _+_, _/_, _%_, _^_, _<_, _≤_};
 ghost use lib.ListN.{length};
 ghost use Rattle.bits.specs.Kinds.{misplaced};
-ghost use Rattle.bits.specs.Bits.{bits, bitsOf, FieldWithin, numberAt, overAt, part, Turn, valueOf};
+ghost use Rattle.bits.specs.Bits.{bits, FieldWithin, numberAt, part, Turn, valueOf};
 
 // How a kind of table is stored: so many bits in front with the mark's value, so many bits for a number, and the limit on an entry.
 pub struct Form {
@@ -51,18 +51,6 @@ fn turn_width(offset: usize, left: usize) -> usize
     ensures { λ r. ⌜ Turn offset left r ⌝ }
 {
     if left <= 8 - offset { left } else { 8 - offset }
-}
-
-// The byte b, with the s bits at the offset written over by those of v: what stands above them, v, and what stands below.
-fn byte_with(b: u8, offset: usize, s: usize, v: u64) -> u8
-    requires { ⌜ (offset + s ≤ 8) × (v < 2 ^ s) ⌝ }
-    ensures { λ r. ⌜ bitsOf 8 r ≡ overAt (bitsOf 8 b) offset (bitsOf s v) ⌝ }
-{
-    let j = 8 - offset - s;
-    let k = s + j;
-    let x = wide_byte(b);
-    let y = raised(x >> k, k) + (raised(v, j) + low_bits(x, j));
-    y as u8
 }
 
 // The number x with the byte behind it.
@@ -139,25 +127,6 @@ pub fn get(bytes: &[u8], position: usize, width: usize) -> u64
     }
     let upper = width - 32;
     raised(get_narrow(bytes, position, upper), 32) + get_narrow(bytes, position + upper, 32)
-}
-
-// The width bits at the position become the low bits of value, byte by byte; no other bit changes.
-pub fn put(bytes: &mut [u8], position: usize, width: usize, value: u64)
-    requires { ⌜ FieldWithin (length (now bytes)) position width ⌝ }
-    ensures { λ r. ⌜ bits (now (bytes .exit)) ≡ overAt (bits (now (bytes .entry))) position (bitsOf width value) ⌝ }
-{
-    let mut done = 0;
-    while done < width {
-        let p = position + done;
-        let offset = p % 8;
-        let q = p / 8;
-        let left = width - done;
-        let s = turn_width(offset, left);
-        let v = bits_above(value, left - s, s);
-        let b = bytes[q];
-        bytes[q] = byte_with(b, offset, s, v);
-        done += s;
-    }
 }
 
 // Whether the position is past the end of so many bytes, or not at the start of a byte.

@@ -2,58 +2,57 @@
 use bits::Form;
 use ground::Check;
 use ground::Written;
+use packer::Gathered;
 ghost use mathlib.Core.Path.{_≡_};
-ghost use Prim.Native.Nat.{_+_, _-_, _<_, _≤_};
+ghost use Prim.Native.Nat.{_*_, _+_, _-_, _<_, _≤_};
 ghost use lib.ListN.{length};
 ghost use Rattle.ground.specs.Buffers.{front};
 ghost use Rattle.ground.specs.Outcomes.{Left};
 ghost use Rattle.theory.specs.Tables.{cost, CostTable, limit};
-ghost use Rattle.bits.specs.Bits.{bits, overAt};
 ghost use Rattle.bits.specs.Forms.{fieldsOf, fieldBits};
+ghost use Rattle.packer.specs.Gathering.{Put, Room};
 ghost use Rattle.stored_costs.specs.Entries.{entries, entryCount, rowEntries};
 ghost use Rattle.stored_costs.specs.Form.{costBytes, costUsed, oldCosts};
-ghost use Rattle.stored_costs.specs.Sizes.{Small, Span};
+ghost use Rattle.stored_costs.specs.Sizes.{Small};
 ghost use Rattle.cost_writer.specs.Writing.{writeChecks, writeOutcome};
 
-// The entries of row i right of the diagonal, from the position on.
-fn put_row(position: usize, w: usize, n: usize, t: &[u32], i: usize, out: &mut [u8])
-    requires { ⌜ CostTable limit n (now t) × (i < n) × Span position w (n - (i + 1)) (length (now out)) ⌝ }
-    ensures { λ r. ⌜ bits (now (out .exit)) ≡ overAt (bits (now (out .entry))) position (fieldBits (fieldsOf w (rowEntries (cost (now (t .entry)) n) n i))) ⌝ }
+// The entries of row i right of the diagonal, behind what was put.
+fn put_row(g: Gathered, w: usize, n: usize, t: &[u32], i: usize, out: &mut [u8]) -> Gathered
+    requires { ⌜ CostTable limit n (now t) × (i < n) × (w ≤ 32) × Room (length (now out)) g (w * (n - (i + 1))) ⌝ }
+    ensures { λ r. ⌜ Put (fieldBits (fieldsOf w (rowEntries (cost (now (t .entry)) n) n i))) (now (out .entry)) (now (out .exit)) g r ⌝ }
 {
     let count = n - (i + 1);
-    let mut p = position;
+    let mut p = g;
     let mut k = 0;
     while k < count {
-        bits::put(out, p, w, tables::entry(t, n, i, i + 1 + k) as u64);
-        p += w;
+        p = packer::put(out, p, w, tables::entry(t, n, i, i + 1 + k) as u64);
         k += 1;
     }
+    p
 }
 
-// All entries, row by row, from the position on.
-fn put_entries(position: usize, w: usize, n: usize, t: &[u32], out: &mut [u8])
-    requires { ⌜ CostTable limit n (now t) × Span position w (entryCount n) (length (now out)) ⌝ }
-    ensures { λ r. ⌜ bits (now (out .exit)) ≡ overAt (bits (now (out .entry))) position (fieldBits (fieldsOf w (entries (cost (now (t .entry)) n) n))) ⌝ }
+// All entries, row by row, behind what was put.
+fn put_entries(g: Gathered, w: usize, n: usize, t: &[u32], out: &mut [u8]) -> Gathered
+    requires { ⌜ CostTable limit n (now t) × (w ≤ 32) × Room (length (now out)) g (w * entryCount n) ⌝ }
+    ensures { λ r. ⌜ Put (fieldBits (fieldsOf w (entries (cost (now (t .entry)) n) n))) (now (out .entry)) (now (out .exit)) g r ⌝ }
 {
-    let mut p = position;
+    let mut p = g;
     let mut i = 0;
     while i < n {
-        put_row(p, w, n, t, i, out);
-        p += w * (n - (i + 1));
+        p = put_row(p, w, n, t, i, out);
         i += 1;
     }
+    p
 }
 
-// The whole form at the front of the lent bytes, the fill bits last.
-fn put_form(form: Form, n: usize, t: &[u32], out: &mut [u8])
+// The whole form at the front of the lent bytes, the fill bits last; the answer is the bytes used.
+fn put_form(form: Form, n: usize, t: &[u32], out: &mut [u8]) -> usize
     requires { ⌜ CostTable limit n (now t) × Small form n × (costUsed form n ≤ length (now out)) ⌝ }
-    ensures { λ r. ⌜ now (out .exit) ≡ front (costBytes form n (cost (now (t .entry)) n)) (now (out .entry)) ⌝ }
+    ensures { λ r. ⌜ (r ≡ costUsed form n) × (now (out .exit) ≡ front (costBytes form n (cost (now (t .entry)) n)) (now (out .entry))) ⌝ }
 {
-    let end = stored_costs::row_at(form, n, n);
-    bits::put(out, 0, form.head, form.mark);
-    bits::put(out, form.head, 7, n as u64);
-    put_entries(form.head + 7, form.width, n, t, out);
-    bits::put(out, end, 8 * ((end + 7) / 8) - end, 0);
+    let begun = packer::start(out, form, n);
+    let entered = put_entries(begun, form.width, n, t, out);
+    packer::finish(out, entered)
 }
 
 // Refusals 1, 2, 4, 5, 6 and 3.
@@ -79,9 +78,6 @@ pub fn write_costs(n: usize, t: &[u32], out: &mut [u8]) -> Written
     let form = stored_costs::old_form();
     match check_write(form, n, t, out.len()) {
         Check::Refused(r) => Written::Refused(r),
-        Check::Passed => {
-            put_form(form, n, t, out);
-            Written::Places((stored_costs::row_at(form, n, n) + 7) / 8)
-        }
+        Check::Passed => Written::Places(put_form(form, n, t, out)),
     }
 }

@@ -2,53 +2,60 @@
 use bits::Form;
 use ground::Check;
 use ground::Written;
+use packer::Gathered;
 ghost use mathlib.Core.Path.{_≡_};
-ghost use Prim.Native.Nat.{_*_, _+_, _≤_};
+ghost use Prim.Native.Nat.{_*_, _≤_};
 ghost use lib.ListN.{getD, length};
 ghost use Rattle.ground.specs.Buffers.{front};
 ghost use Rattle.ground.specs.Outcomes.{Left};
-ghost use Rattle.theory.specs.Tables.{limit};
-ghost use Rattle.bits.specs.Bits.{bits, overAt};
 ghost use Rattle.bits.specs.Forms.{fieldBits};
+ghost use Rattle.packer.specs.Gathering.{Put, Room};
 ghost use Rattle.stored_links.specs.Form.{linkBytes, linkUsed, oldLinks, rowFields, rowWidth, rowsTo};
-ghost use Rattle.stored_links.specs.Sizes.{Held, Small, lastRowEnd};
+ghost use Rattle.stored_links.specs.Sizes.{Small};
 ghost use Rattle.link_writer.specs.Writing.{RoomFor, fitChecks, writeChecks, writeOutcome};
 
-// One row from the position on: images n down to 2 are half the far side, and the cost stands behind them.
-fn put_row(position: usize, w: usize, n: usize, s: u64, c: u32, out: &mut [u8])
-    requires { ⌜ (1 ≤ n) × (n ≤ 64) × (w ≤ 32) × (position + rowWidth w n ≤ 8 * length (now out)) × (position + rowWidth w n ≤ lastRowEnd) ⌝ }
-    ensures { λ r. ⌜ bits (now (out .exit)) ≡ overAt (bits (now (out .entry))) position (fieldBits (rowFields w n s c)) ⌝ }
+// One row behind what was put: images n down to 2 are half the far side, and the cost stands behind them.
+fn put_row(g: Gathered, w: usize, n: usize, s: u64, c: u32, out: &mut [u8]) -> Gathered
+    requires { ⌜ (1 ≤ n) × (n ≤ 64) × (w ≤ 32) × Room (length (now out)) g (rowWidth w n) ⌝ }
+    ensures { λ r. ⌜ Put (fieldBits (rowFields w n s c)) (now (out .entry)) (now (out .exit)) g r ⌝ }
 {
-    bits::put(out, position, n - 1, s / 2);
-    bits::put(out, position + (n - 1), w, c as u64);
+    let sided = packer::put(out, g, n - 1, s / 2);
+    packer::put(out, sided, w, c as u64)
 }
 
-// All rows, one behind the other.
-fn put_rows(form: Form, n: usize, fars: &[u64], costs: &[u32], out: &mut [u8])
-    requires { ⌜ Held form n (length (now fars)) (length (now out)) × (length (now costs) ≡ length (now fars)) ⌝ }
-    ensures { λ r. ⌜ bits (now (out .exit)) ≡ overAt (bits (now (out .entry))) (form .head + 14)
-        (fieldBits (rowsTo (form .width) n (λ k. getD (now (fars .entry)) k 0) (λ k. getD (now (costs .entry)) k 0) (length (now (fars .entry))))) ⌝ }
+// All rows, one behind the other, behind what was put.
+fn put_rows(
+    g: Gathered,
+    w: usize,
+    n: usize,
+    fars: &[u64],
+    costs: &[u32],
+    out: &mut [u8],
+) -> Gathered
+    requires { ⌜ (1 ≤ n) × (n ≤ 64) × (w ≤ 32) × Room (length (now out)) g (rowWidth w n * length (now fars))
+        × (length (now costs) ≡ length (now fars)) ⌝ }
+    ensures { λ r. ⌜ Put (fieldBits (rowsTo w n (λ k. getD (now (fars .entry)) k 0) (λ k. getD (now (costs .entry)) k 0) (length (now (fars .entry)))))
+        (now (out .entry)) (now (out .exit)) g r ⌝ }
 {
+    let mut p = g;
     let mut k = 0;
     while k < fars.len() {
-        let p = stored_links::row_at(form, n, k);
-        put_row(p, form.width, n, fars[k], costs[k], out);
+        p = put_row(p, w, n, fars[k], costs[k], out);
         k += 1;
     }
+    p
 }
 
-// The whole form at the front of the lent bytes, the fill bits last.
-fn put_form(form: Form, n: usize, fars: &[u64], costs: &[u32], out: &mut [u8])
+// The whole form at the front of the lent bytes, the fill bits last; the answer is the bytes used.
+fn put_form(form: Form, n: usize, fars: &[u64], costs: &[u32], out: &mut [u8]) -> usize
     requires { ⌜ RoomFor form n (length (now fars)) (length (now out)) × (length (now costs) ≡ length (now fars)) ⌝ }
-    ensures { λ r. ⌜ now (out .exit) ≡ front (linkBytes form n (now (fars .entry)) (now (costs .entry))) (now (out .entry)) ⌝ }
+    ensures { λ r. ⌜ (r ≡ linkUsed form n (length (now (fars .entry))))
+        × (now (out .exit) ≡ front (linkBytes form n (now (fars .entry)) (now (costs .entry))) (now (out .entry))) ⌝ }
 {
-    let count = fars.len();
-    let end = stored_links::row_at(form, n, count);
-    bits::put(out, 0, form.head, form.mark);
-    bits::put(out, form.head, 7, n as u64);
-    bits::put(out, form.head + 7, 7, count as u64);
-    put_rows(form, n, fars, costs, out);
-    bits::put(out, end, 8 * ((end + 7) / 8) - end, 0);
+    let begun = packer::start(out, form, n);
+    let counted = packer::put(out, begun, 7, fars.len() as u64);
+    let rowed = put_rows(counted, form.width, n, fars, costs, out);
+    packer::finish(out, rowed)
 }
 
 // The bytes that so many rows over n images use.
@@ -65,8 +72,7 @@ pub fn put_links(n: usize, fars: &[u64], costs: &[u32], out: &mut [u8]) -> usize
     ensures { λ r. ⌜ (r ≡ linkUsed oldLinks n (length (now (fars .entry))))
         × (now (out .exit) ≡ front (linkBytes oldLinks n (now (fars .entry)) (now (costs .entry))) (now (out .entry))) ⌝ }
 {
-    put_form(stored_links::old_form(), n, fars, costs, out);
-    links_used(n, fars.len())
+    put_form(stored_links::old_form(), n, fars, costs, out)
 }
 
 // Refusals 12, 13 and 3 of rows as many as counted.

@@ -6,12 +6,11 @@ use native.Mathlib.Nat.{add-zero, mul-le-mul-left, mul-suc, mul-zero}
 use native.Mathlib.Numerals.{add-one}
 use native.Mathlib.Omega.{arith}
 use lib.ListN.{getD, length, length-append}
-use Rattle.bits.specs.Bits.{AllBits, bitsOf, overAt, part, valueOf}
+use Rattle.bits.specs.Bits.{AllBits, bitsOf, part, valueOf}
 use Rattle.bits.specs.Forms.{fieldValue, fieldsOf, fieldBits}
 use Rattle.bits.specs.Laws.Numbers.{all-bits-part, bits-value, length-bitsOf, value-bits}
-use Rattle.bits.specs.Laws.Parts.{length-part, over-at-none, over-at-twice, part-cut, part-more}
+use Rattle.bits.specs.Laws.Parts.{length-part, part-cut, part-more}
 use Rattle.bits.specs.Listed.{listed}
-use Rattle.bits.specs.Laws.Listed.{length-listed, listed-more}
 
 -- bits read as a number are the bits of that number
 pub part-again : (l : List ℕ) (position w : ℕ) → AllBits l → position + w ≤ length l → bitsOf w (valueOf (part l position w)) ≡ part l position w
@@ -57,30 +56,6 @@ unfolding fieldBits
 fields-append w [] us = refl
 fields-append w (v ∷ vs) us =
     ap (λ (l : List ℕ). bitsOf w v ++ l) (fields-append w vs us) ∙ sym (append-assoc (bitsOf w v) (fieldBits (fieldsOf w vs)) (fieldBits (fieldsOf w us)))
-
--- no field yet, and one field more, written over directly behind those before it
-pub over-at-fields-none : (l : List ℕ) (position w : ℕ) → l ≡ overAt l position (fieldBits (fieldsOf w []))
-unfolding fieldBits
-over-at-fields-none l position w = sym (over-at-none l position)
-
-pub over-at-fields : (l : List ℕ) (position w p v : ℕ) (vs : List ℕ) → p ≡ position + w * length vs → p + w ≤ length l
-    → overAt (overAt l position (fieldBits (fieldsOf w vs))) p (bitsOf w v) ≡ overAt l position (fieldBits (fieldsOf w (vs ++ (v ∷ []))))
-over-at-fields l position w p v vs e h =
-    over-at-twice l position (fieldBits (fieldsOf w vs)) (bitsOf w v) p (omega (arith, length-fields w vs)) (omega (arith, length-bitsOf w v))
-    ∙ ap (overAt l position) (sym (fields-more w vs v))
-
-pub over-at-append : (l : List ℕ) (position w p : ℕ) (vs us : List ℕ) → p ≡ position + w * length vs → p + w * length us ≤ length l
-    → overAt (overAt l position (fieldBits (fieldsOf w vs))) p (fieldBits (fieldsOf w us)) ≡ overAt l position (fieldBits (fieldsOf w (vs ++ us)))
-over-at-append l position w p vs us e h =
-    over-at-twice l position (fieldBits (fieldsOf w vs)) (fieldBits (fieldsOf w us)) p (omega (arith, length-fields w vs)) (omega (arith, length-fields w us))
-    ∙ ap (overAt l position) (sym (fields-append w vs us))
-
-pub over-at-listed : (l : List ℕ) (position w k p v : ℕ) (f : ℕ → ℕ) → p ≡ position + w * k → p + w ≤ length l → v ≡ f k
-    → overAt (overAt l position (fieldBits (fieldsOf w (listed f k)))) p (bitsOf w v) ≡ overAt l position (fieldBits (fieldsOf w (listed f (k + 1))))
-over-at-listed l position w k p v f e h q =
-    ap (λ (x : ℕ). overAt (overAt l position (fieldBits (fieldsOf w (listed f k)))) p (bitsOf w x)) q
-    ∙ over-at-fields l position w p (f k) (listed f k) (e ∙ ap (λ (x : ℕ). position + w * x) (sym (length-listed f k))) h
-    ∙ ap (λ (vs : List ℕ). overAt l position (fieldBits (fieldsOf w vs))) (sym (listed-more f k))
 
 -- field k read is the bits it stands in
 field-part : (l : List ℕ) (position w k : ℕ) → AllBits l → position + w * k + w ≤ length l → bitsOf w (fieldValue l position w k) ≡ part l (position + w * k) w

@@ -75,15 +75,3 @@ part-inside t x r n o s e h =
     ap (λ (l : List ℕ). part l n s)
     (ap (λ (l : List ℕ). t ++ (l ++ r)) (part-around x o s) ∙ regroup t a m b r)
     ∙ part-cut (t ++ a) m (b ++ r) n s (omega (arith, length-append t a, length-take-le o x (omega arith))) (length-part x o s h)
-
-pub over-at-inside : (t x r : List ℕ) (n o : ℕ) (k : List ℕ) → n ≡ length t + o → o + length k ≤ length x
-    → overAt (t ++ (x ++ r)) n k ≡ t ++ (overAt x o k ++ r)
-unfolding overAt
-over-at-inside t x r n o k e h =
-    let a = take o x in
-    let m = part x o (length k) in
-    let b = drop (o + length k) x in
-    ap (λ (l : List ℕ). overAt l n k)
-    (ap (λ (l : List ℕ). t ++ (l ++ r)) (part-around x o (length k)) ∙ regroup t a m b r)
-    ∙ over-at-cut (t ++ a) m (b ++ r) n k (omega (arith, length-append t a, length-take-le o x (omega arith))) (length-part x o (length k) h)
-    ∙ sym (regroup t a k b r)

@@ -8,7 +8,6 @@ use Rattle.stored_costs.specs.Form.{costUsed, oldCosts}
 use Rattle.stored_costs.specs.Sizes.{Small}
 use Rattle.cost_writer.specs.Laws.Accepted.{write-passed}
 use Rattle.cost_writer.specs.Writing.{writeChecks}
-use Rattle.stored_costs.specs.Laws.Sizes.{end-le}
 use borrow.Author.Needs.{needs}
 use Rattle.ground.specs.Laws.Outcomes.{front-goes, front-stops}
 use Rattle.ground.specs.Laws.Refusals.{if-goes, if-stops}
@@ -50,16 +49,6 @@ put-form-requires c κs =
     let d = c .before in
     rw (d .before .before .before .old-form .ensures) (told d .0, small d, told d .1)
 
-row-at-requires : tie.Need-row-at-requires
-row-at-requires c κs =
-    let d = c .before .before .before .before in
-    rw (d .before .before .before .old-form .ensures) (small d, omega arith)
-
-add-t13 : tie.Need-add-t13
-add-t13 c =
-    let d = c .before .before .before .before .before in
-    rw (c .row-at .ensures, d .before .before .before .old-form .ensures) (omega (arith, end-le oldCosts (begun d .args .n) (small d)))
-
 returns : tie.Need-returns
 returns c =
     let k = c .before .before .before in
@@ -73,12 +62,13 @@ same-length c = search needs
 
 returns-2 : tie.Need-returns-2
 returns-2 c =
-    let d = c .before .before .before .before .before in
+    let p = c .before .before in
+    let d = p .before .before in
     let k = d .before .before in
+    let put = rw (k .before .old-form .ensures) at (p .put-form .ensures) in
     record {
-      answered = if-goes written.Refused _ _ (d .enum-told .given .1) (checked k) (ap Places (rw (c .row-at .ensures, k .before .old-form .ensures)));
-      left =
-          front-goes _ _ _ _ (sym (checked k) ∙ d .enum-told .given .1) (rw (k .before .old-form .ensures) at (c .before .before .before .put-form .ensures));
+      answered = if-goes written.Refused _ _ (d .enum-told .given .1) (checked k) (ap Places (put .0));
+      left = front-goes _ _ _ _ (sym (checked k) ∙ d .enum-told .given .1) (put .1);
     }
 
 pub write-costs-spec : {M : Type 1} → statement M
@@ -90,8 +80,6 @@ write-costs-spec =
     enum-known-r
     enum-told
     put-form-requires
-    row-at-requires
-    add-t13
     returns
     same-length
     returns-2)

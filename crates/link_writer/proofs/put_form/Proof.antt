@@ -1,86 +1,63 @@
--- `link_writer::put_form` meets its contract: five writes, one behind the other, make the form. Assumes nothing.
-use Prim.Native.Nat.{_+_, _/_, _≤_}
+-- `link_writer::put_form` meets its contract: the mark and n, the row count, the rows and the fill bits, one behind the other, make the form.
+-- Assumes nothing.
+use Prim.Native.Nat.{_*_, _+_}
 use native.Mathlib.Omega.{arith}
-use lib.ListN.{length}
-use mathlib.Core.Path.{_≡_}
-use Rattle.stored_links.specs.Laws.Form.{written-links}
-use Rattle.stored_links.specs.Laws.Sizes.{end-le}
+use lib.ListN.{getD, length}
+use Rattle.bits.specs.Laws.Numbers.{length-bitsOf}
+use Rattle.packer.specs.Gathering.{Room}
+use Rattle.packer.specs.Laws.Putting.{room-begun, room-then}
+use Rattle.stored_links.specs.Form.{rowWidth}
+use Rattle.stored_links.specs.Laws.Rows.{length-rows}
+use Rattle.link_writer.specs.Laws.Putting.{form-put}
 use borrow.Author.Needs.{needs}
 use Rattle.link_writer.proofs.put_form.Statement.{statement}
-use Rattle.stored_links.specs.Sizes.{lastRowEnd}
 use Rattle.link_writer.proofs.put_form.Tie as tie
 
--- the places of the writes before the rows are put, and where the end was found
-abbrev third : tie.After-put-rows-arg → tie.After-put3
-third c = c .before .before .before
+abbrev begun : tie.After-start → tie.Start
+begun c = c .before .before .before .before .before
 
-abbrev second : tie.After-put-rows-arg → tie.After-put2
-second c = third c .before .before .before .before .before
+abbrev first : tie.After-put → tie.After-start
+first c = c .before .before .before .before
 
-abbrev first : tie.After-put-rows-arg → tie.After-put
-first c = second c .before .before .before .before
+-- room for the row count and the rows behind the mark and n, and then for the rows
+room : (c : tie.After-start)
+    → Room (length (c .start .last .0)) (c .start .result) (7 + rowWidth (begun c .args .form .width) (begun c .args .n) * length (begun c .args .fars .now))
+room c =
+    let s = begun c in
+    let a = s .args in
+    room-begun (a .form) (a .n) (7 + rowWidth (a .form .width) (a .n) * length (a .fars .now)) (omega (arith, s .pre .0 .fits, c .start .kept .0))
+    (c .start .ensures)
 
-abbrev ended : tie.After-put-rows-arg → tie.After-row-at
-ended c = first c .before .before
+rows-room : (c : tie.After-put)
+    → Room (length (c .put .last .0)) (c .put .result)
+    (rowWidth (begun (first c) .args .form .width) (begun (first c) .args .n) * length (begun (first c) .args .fars .now))
+rows-room c =
+    let a = begun (first c) .args in
+    rw (c .put .kept .0)
+    (room-then (rowWidth (a .form .width) (a .n) * length (a .fars .now)) (room (first c)) (c .put .ensures)
+    (omega (arith, length-bitsOf 7 (length (a .fars .now)))))
 
-abbrev begun : tie.After-row-at → tie.Start
-begun c = c .before .before .before .before
-
-end-small : (c : tie.After-row-at) → c .row-at .result ≤ lastRowEnd
-end-small c = let a = begun c in omega (arith, c .row-at .ensures, end-le (a .args .form) (a .args .n) (length (a .args .fars .now)) (a .pre .0 .small))
-
-room : (c : tie.After-row-at) → (c .row-at .result + 7) / 8 ≤ length (begun c .args .out .now)
-room c = omega (arith, c .row-at .ensures, begun c .pre .0 .fits)
-
--- no write changes how many bytes there are
-same : (c : tie.After-put-rows-arg) → length (third c .put3 .last .0) ≡ length (begun (ended c) .args .out .now)
-same c = omega (arith, third c .put3 .kept .0, second c .put2 .kept .0, first c .put .kept .0)
-
-row-at-requires : tie.Need-row-at-requires
-row-at-requires c κs = search needs
+start-requires : tie.Need-start-requires
+start-requires c κs = let s = c .before .before .before .before in (omega (arith, s .pre .0 .small .short), omega (arith, s .pre .0 .fits))
 
 put-requires : tie.Need-put-requires
-put-requires c κs =
-    let h = begun (c .before) .pre .0 in
-    record { width = omega (arith, h .small .short); within = omega (arith, h .fits); counted = omega (arith, h .small .short) }
-
-put-requires-2 : tie.Need-put-requires-2
-put-requires-2 c κs =
-    let p = c .before .before .before in
-    let h = begun (p .before .before) .pre .0 in
-    record { width = omega arith; within = omega (arith, h .fits, p .put .kept .0); counted = omega (arith, h .small .short) }
-
-add-put : tie.Need-add-put
-add-put c = search needs
-
-put-requires-3 : tie.Need-put-requires-3
-put-requires-3 c κs =
-    let q = c .before .before .before .before in
-    let p = q .before .before .before .before in
-    let h = begun (p .before .before) .pre .0 in
-    record { width = omega arith; within = omega (arith, h .fits, p .put .kept .0, q .put2 .kept .0); counted = omega (arith, h .small .short) }
+put-requires c κs = let r = room (c .before .before .before) in (omega arith, record { part = r .part; within = omega (arith, r .within) })
 
 put-rows-requires : tie.Need-put-rows-requires
 put-rows-requires c κs =
-    let a = begun (ended c) in
-    (record { small = a .pre .0 .small; within = omega (arith, a .pre .0 .fits, same c) }, a .pre .1)
+    let d = c .before .before .before in
+    let s = begun (first d) in
+    let h = s .pre .0 .small in
+    (omega (arith, h .some), h .few, h .narrow, rows-room d, s .pre .1)
 
-add-put-2 : tie.Need-add-put-2
-add-put-2 c = omega (arith, end-small (ended (c .before .before .before .before)))
-
-mul-put : tie.Need-mul-put
-mul-put c = omega (arith, end-small (ended (c .before .before .before .before)))
-
-sub-put : tie.Need-sub-put
-sub-put c = search needs
-
-put-requires-4 : tie.Need-put-requires-4
-put-requires-4 c κs =
-    let u = c .before .before .before in
-    let d = u .before in
-    let z = end-small (ended d) in
-    let r = room (ended d) in
-    record { width = omega arith; within = omega (arith, u .put-rows .kept .1 .1 .1 .1 .0, same d); counted = omega arith }
+finish-requires : tie.Need-finish-requires
+finish-requires c κs =
+    let u = c .before .before .before .put-rows in
+    let d = c .before .before .before .before .before .before .before in
+    let a = begun (first d) .args in
+    let r = room-then 0 (rows-room d) (u .ensures)
+    (omega (arith, length-rows (a .form .width) (a .n) (λ k. getD (a .fars .now) k 0) (λ k. getD (a .costs .now) k 0) (length (a .fars .now)))) in
+    (r .part, omega (arith, r .within, u .kept .1 .1 .1 .1 .1 .0))
 
 same-length : tie.Need-same-length
 same-length c = search needs
@@ -89,27 +66,10 @@ returns : tie.Need-returns
 returns c =
     let f = c .before .before in
     let u = f .before .before .before .before in
-    let d = u .before in
-    let e = ended d in
-    let a = begun e in
-    written-links (a .args .form) (a .args .n) (a .args .fars .now) (a .args .costs .now) (a .args .out .now)
-    (first d .put .last .0) (second d .put2 .last .0) (third d .put3 .last .0) (u .put-rows .last .1 .1 .1 .1 .0) _
-    (λ i. e .before .slice-known .given i .fits) (λ i. c .slice-known6 .given i .fits) (a .pre .0 .fits)
-    (first d .put .ensures) (second d .put2 .ensures) (third d .put3 .ensures) (u .put-rows .ensures) (rw (e .row-at .ensures) at (f .put4 .ensures))
+    let d = u .before .before .before .before in
+    let a = begun (first d) .args in
+    form-put (a .form) (a .n) (a .fars .now) (a .costs .now) (λ i. c .slice-known5 .given i .fits) (first d .start .ensures) (d .put .ensures)
+    (u .put-rows .ensures) (f .finish .ensures)
 
 pub put-form-spec : {M : Type 1} → statement M
-put-form-spec =
-    tie.close
-    (tie.spec
-    row-at-requires
-    put-requires
-    put-requires-2
-    add-put
-    put-requires-3
-    put-rows-requires
-    add-put-2
-    mul-put
-    sub-put
-    put-requires-4
-    same-length
-    returns)
+put-form-spec = tie.close (tie.spec start-requires put-requires put-rows-requires finish-requires same-length returns)

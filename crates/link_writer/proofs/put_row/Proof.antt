@@ -1,8 +1,9 @@
--- `link_writer::put_row` meets its contract: two writes, one behind the other, make a row. Assumes nothing.
+-- `link_writer::put_row` meets its contract: two fields, one behind the other, make a row. Assumes nothing.
+use Prim.Native.Nat.{_-_, _/_}
 use native.Mathlib.Omega.{arith}
-use Rattle.bits.specs.Bits.{bits}
-use Rattle.bits.specs.Laws.Bytes.{length-bits}
-use Rattle.stored_links.specs.Laws.Rows.{row-over}
+use Rattle.bits.specs.Laws.Numbers.{length-bitsOf}
+use Rattle.packer.specs.Laws.Putting.{room-then}
+use Rattle.link_writer.specs.Laws.Putting.{row-put}
 use borrow.Author.Needs.{needs}
 use Rattle.link_writer.proofs.put_row.Statement.{statement}
 use Rattle.link_writer.proofs.put_row.Tie as tie
@@ -13,14 +14,12 @@ sub-put c = search needs
 put-requires : tie.Need-put-requires
 put-requires c κs = search needs
 
-sub-put-2 : tie.Need-sub-put-2
-sub-put-2 c = search needs
-
-add-put : tie.Need-add-put
-add-put c = search needs
-
 put-requires-2 : tie.Need-put-requires-2
-put-requires-2 c κs = search needs
+put-requires-2 c κs =
+    let u = c .before .before .before .put in
+    let s = c .before .before .before .before .before .before in
+    let a = s .args in
+    (omega (arith, s .pre .2), rw (u .kept .0) (room-then (a .w) (s .pre .3) (u .ensures) (omega (arith, length-bitsOf (a .n - 1) (a .s / 2)))))
 
 same-length : tie.Need-same-length
 same-length c = search needs
@@ -29,19 +28,8 @@ returns : tie.Need-returns
 returns c =
     let u = c .before .before in
     let p = u .before .before .before .before in
-    let s = p .before .before .before in
-    let a = s .args in
-    row-over (a .w) (a .n) (a .s) (a .c) (a .position) (bits (a .out .now)) (bits (p .put .last .0)) _
-    (omega (arith, length-bits (a .out .now), s .pre .3)) (p .put .ensures) (u .put2 .ensures)
+    let a = p .before .before .before .args in
+    row-put (a .w) (a .n) (a .s) (a .c) (p .put .ensures) (u .put2 .ensures)
 
 pub put-row-spec : {M : Type 1} → statement M
-put-row-spec =
-    tie.close
-    (tie.spec
-    sub-put
-    put-requires
-    sub-put-2
-    add-put
-    put-requires-2
-    same-length
-    returns)
+put-row-spec = tie.close (tie.spec sub-put put-requires put-requires-2 same-length returns)

@@ -16,10 +16,6 @@ use Rattle.stored_costs.specs.Entries.{entries, entriesTo, entryCount, e
 
 -- ## Where the rows begin
 
-pub row-none : (n : ℕ) → rowStart n 0 ≡ 0
-unfolding rowStart
-row-none n = refl
-
 pub row-more : (n i : ℕ) → rowStart n (i + 1) ≡ rowStart n i + (n - (i + 1))
 unfolding rowStart
 row-more n i = ap (rowStart n) (add-one i)

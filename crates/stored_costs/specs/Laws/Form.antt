@@ -1,19 +1,15 @@
--- The form of a stored cost table: its parts, its length, and that four writes make it. Assumes nothing.
+-- The form of a stored cost table: its parts and its length. Assumes nothing.
 use mathlib.Core.List.{List, append-assoc, _++_}
 use mathlib.Core.Path.{ap, sym, _∙_, _≡_}
-use Prim.Native.Nat.{ℕ, _*_, _+_, _≤_}
+use Prim.Native.Nat.{ℕ, _*_, _+_}
 use native.Mathlib.Omega.{arith}
 use lib.ListN.{length, length-append}
-use Rattle.ground.specs.Buffers.{front}
-use Rattle.bits.specs.Bits.{AllBits, AllBytes, bits, bitsOf, overAt}
-use Rattle.bits.specs.Forms.{bytesFor, fieldsOf, fillWidth, filled, fieldBits, fieldBytes}
-use Rattle.bits.specs.Laws.Bytes.{length-bits}
+use Rattle.bits.specs.Bits.{AllBits, bitsOf}
+use Rattle.bits.specs.Forms.{bytesFor, fieldsOf, fieldBits, fieldBytes}
 use Rattle.bits.specs.Laws.Forms.{all-bits-form}
 use Rattle.bits.specs.Laws.Numbers.{length-bitsOf}
 use Rattle.bits.specs.Laws.OneWidth.{length-fields}
 use Rattle.bits.specs.Laws.Packed.{length-packed}
-use Rattle.bits.specs.Laws.Parts.{over-at-twice}
-use Rattle.bits.specs.Laws.Written.{written}
 use Rattle.stored_costs.specs.Entries.{entries, entryCount}
 use Rattle.stored_costs.specs.Form.{costBytes, costEnd, costFields, costUsed}
 use Rattle.stored_costs.specs.Laws.Entries.{length-entries}
@@ -51,33 +47,3 @@ module _ (form : Form) (n : ℕ) (d : ℕ → ℕ → ℕ) where
   pub length-costs : length (costBytes form n d) ≡ costUsed form n
   unfolding costBytes fieldBytes costBits
   length-costs = length-packed costBits ∙ ap bytesFor length-cost-bits
-
-  -- four writes, one behind the other, make the form
-  pub written-costs : (old b1 b2 b3 new : List ℕ) → AllBytes old → AllBytes new → costUsed form n ≤ length old
-      → bits b1 ≡ overAt (bits old) 0 (bitsOf (form .head) (form .mark))
-      → bits b2 ≡ overAt (bits b1) (form .head) (bitsOf 7 n)
-      → bits b3 ≡ overAt (bits b2) (form .head + 7) (fieldBits (fieldsOf (form .width) (entries d n)))
-      → bits new ≡ overAt (bits b3) (costEnd form n) (bitsOf (fillWidth (costEnd form n)) 0)
-      → new ≡ front (costBytes form n d) old
-  unfolding costBytes fieldBytes filled entryBits costBits
-  written-costs old b1 b2 b3 new ho hn room e1 e2 e3 e4 =
-      let o = bits old in
-      let h = bitsOf (form .head) (form .mark) in
-      let m = bitsOf 7 n in
-      let lo = length-bits old in
-      let lh = length-bitsOf (form .head) (form .mark) in
-      let lm = length-bitsOf 7 n in
-      let lf = length-front in
-      let le = length-entry-bits in
-      let lc = length-cost-bits in
-      let z = bitsOf (fillWidth (costEnd form n)) 0 in
-      let lz = length-bitsOf (fillWidth (costEnd form n)) 0 in
-      let s2 : bits b2 ≡ overAt o 0 (h ++ m) = e2 ∙ ap (λ (x : List ℕ). overAt x (form .head) m) e1
-      ∙ over-at-twice o 0 h m (form .head) (omega arith) (omega arith) in
-      let s3 : bits b3 ≡ overAt o 0 costBits =
-      e3 ∙ ap (λ (x : List ℕ). overAt x (form .head + 7) entryBits) s2 ∙ over-at-twice o 0 (h ++ m) entryBits (form .head + 7) (omega arith) (omega arith)
-      ∙ ap (overAt o 0) (sym cost-parts) in
-      let s4 : bits new ≡ overAt o 0 (costBits ++ z) =
-      e4 ∙ ap (λ (x : List ℕ). overAt x (costEnd form n) z) s3 ∙ over-at-twice o 0 costBits z (costEnd form n) (omega arith) (omega arith) in
-      written old new costBits all-bits-costs ho hn (omega arith)
-      (s4 ∙ ap (λ (x : ℕ). overAt o 0 (costBits ++ bitsOf (fillWidth x) 0)) (sym lc))

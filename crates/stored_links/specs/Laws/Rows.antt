@@ -1,7 +1,7 @@
 -- The bits of the rows: how many, one row more, and one row found again. Assumes nothing.
 use mathlib.Core.List.{List, append-assoc, append-nil, _++_}
 use mathlib.Core.Path.{ap, refl, sym, _∙_, _≡_}
-use Prim.Native.Nat.{suc, zero, ℕ, _*_, _+_, _-_, _/_, _<_, _≤_}
+use Prim.Native.Nat.{suc, zero, ℕ, _*_, _+_, _-_, _/_, _<_}
 use native.Mathlib.Nat.{mul-suc, mul-zero}
 use native.Mathlib.Numerals.{add-one}
 use native.Mathlib.Omega.{arith}
@@ -9,11 +9,11 @@ use lib.Dec.{ltb}
 use lib.ListN.{length, length-append}
 use borrow.Author.Tests.{ltb-false, ltb-true}
 use borrow.Table.Steps.{cases}
-use Rattle.bits.specs.Bits.{bitsOf, overAt, part}
+use Rattle.bits.specs.Bits.{bitsOf, part}
 use Rattle.bits.specs.Forms.{fieldBits}
 use Rattle.bits.specs.Laws.Forms.{form-append}
 use Rattle.bits.specs.Laws.Numbers.{length-bitsOf}
-use Rattle.bits.specs.Laws.Parts.{over-at-none, over-at-twice, part-cut}
+use Rattle.bits.specs.Laws.Parts.{part-cut}
 use Rattle.stored_links.specs.Form.{rowFields, rowWidth, rowsTo}
 
 pub row-bits : (w n S c : ℕ) → fieldBits (rowFields w n S c) ≡ bitsOf (n - 1) (S / 2) ++ bitsOf w c
@@ -45,21 +45,6 @@ module _ (w n : ℕ) (f g : ℕ → ℕ) where
             (g k),
         mul-suc (rowWidth w n) k,
       )
-
-  -- ## Row after row, written over
-
-  pub rows-over-none : (l : List ℕ) (position : ℕ) → l ≡ overAt l position (fieldBits (rowsTo w n f g 0))
-  unfolding rowsTo fieldBits
-  rows-over-none l position = sym (over-at-none l position)
-
-  pub rows-over-more : (l x : List ℕ) (position p k : ℕ) → p ≡ position + rowWidth w n * k → p + rowWidth w n ≤ length l
-      → x ≡ overAt l position (fieldBits (rowsTo w n f g k))
-      → overAt x p (fieldBits (rowFields w n (f k) (g k))) ≡ overAt l position (fieldBits (rowsTo w n f g (k + 1)))
-  rows-over-more l x position p k e h q =
-      ap (λ (y : List ℕ). overAt y p (fieldBits (rowFields w n (f k) (g k)))) q
-      ∙ over-at-twice l position (fieldBits (rowsTo w n f g k)) (fieldBits (rowFields w n (f k) (g k))) p (omega (arith, length-rows k))
-      (omega (arith, length-row w n (f k) (g k)))
-      ∙ ap (overAt l position) (sym (rows-more k))
 
   -- ## Row k of m, found again
 
@@ -111,15 +96,3 @@ rows-same w n f g d e (suc m) h =
     let ih = rows-same w n f g d e m (λ k l. h k (omega arith)) in
     let q = h m (omega arith) in
     rw (ih, q .0, q .1)
-
--- two writes, one behind the other, make a row
-pub row-over : (w n S c position : ℕ) (l x y : List ℕ) → position + rowWidth w n ≤ length l
-    → x ≡ overAt l position (bitsOf (n - 1) (S / 2)) → y ≡ overAt x (position + (n - 1)) (bitsOf w c) → y ≡ overAt l position (fieldBits (rowFields w n S c))
-row-over w n S c position l x y h e q =
-    let a = bitsOf (n - 1) (S / 2) in
-    let la = length-bitsOf (n - 1) (S / 2) in
-    let lc = length-bitsOf w c in
-    q
-    ∙ ap (λ (z : List ℕ). overAt z (position + (n - 1)) (bitsOf w c)) e
-    ∙ over-at-twice l position a (bitsOf w c) (position + (n - 1)) (omega arith) (omega arith)
-    ∙ ap (overAt l position) (sym (row-bits w n S c))

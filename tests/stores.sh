@@ -1,0 +1,25 @@
+#!/usr/bin/env bash
+# Counts through the archive how often a lent byte is stored and loaded while stored tables are written, 3 to 64 images: one store for
+# each used byte, no load, and no touch of any other byte or by a refused call. Status 1 where it is otherwise, 0 if all is so or
+# nothing could be run, which is said.
+set -euo pipefail
+cd "$(dirname "$0")/.."
+. scripts/cross.sh
+
+why=$(missing C emulator)
+if [ -n "$why" ]; then
+    not_run "the count of stores" "$why"
+    exit 0
+fi
+need_archive || { echo "stores: the archive was not made"; exit 1; }
+work=$(mktemp -d)
+trap 'rm -rf "$work"' EXIT
+
+"$CC" -std=gnu11 -O1 -Wall -Wextra -Werror -Iinclude tests/stores.c "$archive" -o "$work/stores"
+if $RUN "$work/stores" >"$work/got"; then
+    echo "stores: $(grep -c ' number 0,' "$work/got") calls stored each used byte once and loaded none, $(grep -vc ' number 0,' "$work/got") refused ones touched none"
+else
+    grep WRONG "$work/got" | head -n 6 || true
+    echo "stores: DIFFERENT"
+    exit 1
+fi
