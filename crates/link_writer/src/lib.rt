@@ -19,7 +19,7 @@ fn put_row(g: Gathered, w: usize, n: usize, s: u64, c: u32, out: &mut [u8]) -> G
     requires { ⌜ (1 ≤ n) × (n ≤ 64) × (w ≤ 32) × Room (length (now out)) g (rowWidth w n) ⌝ }
     ensures { λ r. ⌜ Put (fieldBits (rowFields w n s c)) (now (out .entry)) (now (out .exit)) g r ⌝ }
 {
-    let sided = packer::put(out, g, n - 1, s / 2);
+    let sided = packer::put_wide(out, g, n - 1, s / 2);
     packer::put(out, sided, w, c as u64)
 }
 

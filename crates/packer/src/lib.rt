@@ -53,10 +53,10 @@ fn drain(out: &mut [u8], g: Gathered) -> Gathered
     byte_out(out, three)
 }
 
-// A field of at most 32 bits, which always has place behind a part of a byte. It is moved up, which takes away what stands above it, and then
-// down behind the bits gathered. These are fewer than eight; the remainder says so to the compiler, which then knows for most bytes of a field
+// A field of at most 32 bits behind what was put. It is moved up, which takes away what stands above it, and then down behind the bits gathered,
+// where it always has place. These are fewer than eight; the remainder says so to the compiler, which then knows for most bytes of a field
 // whether they go out.
-fn put_narrow(out: &mut [u8], g: Gathered, width: usize, value: u64) -> Gathered
+pub fn put(out: &mut [u8], g: Gathered, width: usize, value: u64) -> Gathered
     requires { ⌜ (width ≤ 32) × Room (length (now out)) g width ⌝ }
     ensures { λ r. ⌜ Put (bitsOf width value) (now (out .entry)) (now (out .exit)) g r ⌝ }
 {
@@ -72,21 +72,21 @@ fn put_narrow(out: &mut [u8], g: Gathered, width: usize, value: u64) -> Gathered
     drain(out, more)
 }
 
-// The low bits of value, so many as the width says, behind what was put. A wide field is put as two narrow ones.
-pub fn put(out: &mut [u8], g: Gathered, width: usize, value: u64) -> Gathered
+// A field of at most 64 bits behind what was put, as one field or two.
+pub fn put_wide(out: &mut [u8], g: Gathered, width: usize, value: u64) -> Gathered
     requires { ⌜ (width ≤ 64) × Room (length (now out)) g width ⌝ }
     ensures { λ r. ⌜ Put (bitsOf width value) (now (out .entry)) (now (out .exit)) g r ⌝ }
 {
     if width <= 32 {
-        return put_narrow(out, g, width, value);
+        return put(out, g, width, value);
     }
-    let upper = put_narrow(out, g, width - 32, value >> 32);
-    put_narrow(out, upper, 32, value)
+    let upper = put(out, g, width - 32, value >> 32);
+    put(out, upper, 32, value)
 }
 
-// What every stored table begins with: the mark of its form, and n in 7 bits.
+// What every stored table starts with: the mark of its form, and n in 7 bits.
 pub fn start(out: &mut [u8], form: Form, n: usize) -> Gathered
-    requires { ⌜ (form .head ≤ 64) × (form .head + 7 ≤ 8 * length (now out)) ⌝ }
+    requires { ⌜ (form .head ≤ 32) × (form .head + 7 ≤ 8 * length (now out)) ⌝ }
     ensures { λ r. ⌜ Put (startBits form n) (now (out .entry)) (now (out .exit)) started r ⌝ }
 {
     let nothing = Gathered {

@@ -49,7 +49,7 @@ put-requires c κs =
     let s = i .before .before .before .before in
     let a = s .args in
     let f : ℕ → ℕ = λ k. cost (a .t .now) (a .n) (a .i) (a .i + 1 + k) in (
-      omega (arith, s .pre .2),
+      s .pre .2,
       rw (l .inv .1)
           (room-then (a .w) (s .pre .3) (l .inv .2)
           (omega (arith, length-listed-bits (a .w) f (l .k), field-end 0 (a .w) (a .n - (a .i + 1)) (l .k) (i .loop-test .taken)))),

@@ -8,18 +8,18 @@ use borrow.Author.Needs.{needs}
 use Rattle.link_writer.proofs.put_row.Statement.{statement}
 use Rattle.link_writer.proofs.put_row.Tie as tie
 
-sub-put : tie.Need-sub-put
-sub-put c = search needs
+sub-put-wide : tie.Need-sub-put-wide
+sub-put-wide c = search needs
+
+put-wide-requires : tie.Need-put-wide-requires
+put-wide-requires c κs = search needs
 
 put-requires : tie.Need-put-requires
-put-requires c κs = search needs
-
-put-requires-2 : tie.Need-put-requires-2
-put-requires-2 c κs =
-    let u = c .before .before .before .put in
+put-requires c κs =
+    let u = c .before .before .before .put-wide in
     let s = c .before .before .before .before .before .before in
     let a = s .args in
-    (omega (arith, s .pre .2), rw (u .kept .0) (room-then (a .w) (s .pre .3) (u .ensures) (omega (arith, length-bitsOf (a .n - 1) (a .s / 2)))))
+    (s .pre .2, rw (u .kept .0) (room-then (a .w) (s .pre .3) (u .ensures) (omega (arith, length-bitsOf (a .n - 1) (a .s / 2)))))
 
 same-length : tie.Need-same-length
 same-length c = search needs
@@ -29,7 +29,7 @@ returns c =
     let u = c .before .before in
     let p = u .before .before .before .before in
     let a = p .before .before .before .args in
-    row-put (a .w) (a .n) (a .s) (a .c) (p .put .ensures) (u .put2 .ensures)
+    row-put (a .w) (a .n) (a .s) (a .c) (p .put-wide .ensures) (u .put .ensures)
 
 pub put-row-spec : {M : Type 1} → statement M
-put-row-spec = tie.close (tie.spec sub-put put-requires put-requires-2 same-length returns)
+put-row-spec = tie.close (tie.spec sub-put-wide put-wide-requires put-requires same-length returns)
