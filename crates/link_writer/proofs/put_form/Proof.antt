@@ -35,7 +35,7 @@ rows-room c =
     let a = begun (first c) .args in
     rw (c .put .kept .0)
     (room-then (rowWidth (a .form .width) (a .n) * length (a .fars .now)) (room (first c)) (c .put .ensures)
-    (omega (arith, length-bitsOf 7 (length (a .fars .now)))))
+    (rw length-bitsOf (omega arith)))
 
 start-requires : tie.Need-start-requires
 start-requires c κs = let s = c .before .before .before .before in (omega (arith, s .pre .0 .small .short), omega (arith, s .pre .0 .fits))

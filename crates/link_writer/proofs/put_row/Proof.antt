@@ -1,5 +1,4 @@
 -- `link_writer::put_row` meets its contract: two fields, one behind the other, make a row. Assumes nothing.
-use Prim.Native.Nat.{_-_, _/_}
 use native.Mathlib.Omega.{arith}
 use Rattle.bits.specs.Laws.Numbers.{length-bitsOf}
 use Rattle.packer.specs.Laws.Putting.{room-then}
@@ -19,7 +18,7 @@ put-requires c κs =
     let u = c .before .before .before .put-wide in
     let s = c .before .before .before .before .before .before in
     let a = s .args in
-    (s .pre .2, rw (u .kept .0) (room-then (a .w) (s .pre .3) (u .ensures) (omega (arith, length-bitsOf (a .n - 1) (a .s / 2)))))
+    (s .pre .2, rw (u .kept .0) (room-then (a .w) (s .pre .3) (u .ensures) (rw length-bitsOf (omega arith))))
 
 same-length : tie.Need-same-length
 same-length c = search needs

@@ -1,7 +1,6 @@
 -- `packer::finish` meets its contract: with the fill bits put, nothing is gathered any more. Assumes nothing.
 use borrow.Author.Needs.{needs}
 use native.Mathlib.Omega.{arith}
-use Prim.Native.Nat.{_%_, _-_}
 use Rattle.bits.specs.Laws.Numbers.{length-bitsOf}
 use Rattle.packer.specs.Laws.Finished.{fill-put}
 use Rattle.packer.proofs.finish.Statement.{statement}
@@ -18,11 +17,9 @@ same-length c = search needs
 
 returns : tie.Need-returns
 returns c =
-    let u = c .before .before .put in
-    let a = c .before .before .before .before .before .before .args in
-    let n = length-bitsOf ((8 - a .g .count) % 8) 0 in
-    let p = u .ensures in
-    fill-put (omega arith) (omega (arith, p .part, p .counted, n)) (omega (arith, p .part, p .counted, n)) p
+    let p = c .before .before .put .ensures in
+    let counted = rw length-bitsOf at (p .counted) in
+    fill-put (omega arith) (omega (arith, p .part .few, counted)) (omega (arith, p .part .few, counted)) p
 
 pub finish-spec : {M : Type 1} → statement M
 finish-spec = tie.close (tie.spec sub-put put-requires same-length returns)

@@ -1,7 +1,7 @@
 -- `packer::put_wide` meets its contract: a wide field is put in two pieces. Assumes nothing.
 use borrow.Author.Needs.{needs}
 use native.Mathlib.Omega.{arith}
-use Prim.Native.Nat.{_-_, _/_, _^_}
+use Prim.Native.Nat.{_-_}
 use Rattle.bits.specs.Laws.Numbers.{length-bitsOf}
 use Rattle.packer.specs.Laws.Putting.{field-pieces, put-then, room-then}
 use Rattle.packer.proofs.put_wide.Statement.{statement}
@@ -26,8 +26,7 @@ put-requires-3 : tie.Need-put-requires-3
 put-requires-3 c κs =
     let u = c .before .before .before .put2 in
     let s = c .before .before .before .before .before .before .before in
-    let n = length-bitsOf (s .args .width - 32) (s .args .value / 2 ^ 32) in
-    (omega arith, rw (u .kept .0) (room-then 32 (s .pre .1) (u .ensures) (omega arith)))
+    (omega arith, rw (u .kept .0) (room-then 32 (s .pre .1) (u .ensures) (rw length-bitsOf (omega arith))))
 
 same-length-2 : tie.Need-same-length-2
 same-length-2 c = search needs

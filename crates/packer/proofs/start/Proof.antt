@@ -15,8 +15,7 @@ put-requires-2 : tie.Need-put-requires-2
 put-requires-2 c κs =
     let u = c .before .before .before .put in
     let s = c .before .before .before .before .before .before in
-    let form = s .args .form in
-    (omega arith, rw (u .kept .0) (room-then 7 (room-started (form .head + 7) (s .pre .1)) (u .ensures) (omega (arith, length-bitsOf (form .head) (form .mark)))))
+    (omega arith, rw (u .kept .0) (room-then 7 (room-started (s .args .form .head + 7) (s .pre .1)) (u .ensures) (rw length-bitsOf (omega arith))))
 
 same-length : tie.Need-same-length
 same-length c = search needs
