@@ -46,11 +46,12 @@ static void c_read_costs(void) { size_t m = 0, u = 0; plain_read_costs(cost_byte
 static void ours_write_links(void) { sink = kemotuiki_write_links(n, rows, fars, rows, costs, rows, link_bytes, sizeof link_bytes).used; }
 static void c_write_links(void) { size_t u = 0; plain_write_links(n, rows, fars, costs, bytes, sizeof bytes, &u); sink = u; }
 static void ours_write_batch(void) {
-    sink = kemotuiki_write_batch(batch_ns, BATCH, batch_counts, BATCH, batch_fars, BATCH * rows, batch_costs, BATCH * rows, batch_bytes, sizeof batch_bytes).used;
+    size_t all = BATCH * rows;
+    sink = kemotuiki_write_batch(batch_ns, BATCH, batch_counts, BATCH, batch_fars, all, batch_costs, all, batch_bytes, sizeof batch_bytes).used;
 }
 static void c_write_batch(void) {
-    size_t u = 0;
-    plain_write_batch(batch_ns, batch_counts, BATCH, batch_fars, BATCH * rows, batch_costs, BATCH * rows, plain_batch_bytes, sizeof plain_batch_bytes, &u);
+    size_t all = BATCH * rows, u = 0;
+    plain_write_batch(batch_ns, batch_counts, BATCH, batch_fars, all, batch_costs, all, plain_batch_bytes, sizeof plain_batch_bytes, &u);
     sink = u;
 }
 static void ours_read_links(void) { sink = kemotuiki_read_links(link_bytes, stored_links, 0, plain_fars, 125, plain_costs, 125).used; }

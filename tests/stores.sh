@@ -17,7 +17,9 @@ trap 'rm -rf "$work"' EXIT
 
 "$CC" -std=gnu11 -O1 -Wall -Wextra -Werror -Iinclude tests/stores.c "$archive" -o "$work/stores"
 if $RUN "$work/stores" >"$work/got"; then
-    echo "stores: $(grep -c ' number 0,' "$work/got") calls stored each used byte once and loaded none, $(grep -vc ' number 0,' "$work/got") refused ones touched none"
+    accepted=$(grep -c ' number 0,' "$work/got")
+    refused=$(grep -vc ' number 0,' "$work/got")
+    echo "stores: $accepted calls stored each used byte once and loaded none, $refused refused ones touched none"
 else
     grep WRONG "$work/got" | head -n 6 || true
     echo "stores: DIFFERENT"

@@ -15,16 +15,20 @@ putCount g = 8 * g .at + g .count
 unfoldable pub putBits : List ℕ → Gathered → List ℕ
 putBits out g = bits (take (g .at) out) ++ bitsOf (g .count) (g .bits / 2 ^ (64 - g .count))
 
--- the bits below those gathered are 0, and all have place in n bytes
+-- the bits below those gathered are 0
+abbrev pub Clear : Gathered → Type 0
+Clear g = g .bits % 2 ^ (64 - g .count) ≡ 0
+
+-- what is gathered stands in one number, with 0 below, and has place in n bytes
 pub record Gathers (n : ℕ) (g : Gathered) : Type 0 where
   pub most : g .count ≤ 64
-  pub clear : g .bits % 2 ^ (64 - g .count) ≡ 0
+  pub clear : Clear g
   pub within : putCount g ≤ 8 * n
 
--- less than a byte is gathered, and the bits below are 0
+-- less than a byte is gathered
 pub record Part (g : Gathered) : Type 0 where
   pub few : g .count < 8
-  pub clear : g .bits % 2 ^ (64 - g .count) ≡ 0
+  pub clear : Clear g
 
 -- so many bits more have place in n bytes
 pub record Room (n : ℕ) (g : Gathered) (more : ℕ) : Type 0 where
@@ -34,7 +38,7 @@ pub record Room (n : ℕ) (g : Gathered) (more : ℕ) : Type 0 where
 -- what was put is the same, though more of it may be stored; bytes that are not stored yet are as they were
 pub record Same (old new : List ℕ) (g r : Gathered) : Type 0 where
   pub forth : g .at ≤ r .at
-  pub clear : r .bits % 2 ^ (64 - r .count) ≡ 0
+  pub clear : Clear r
   pub counted : putCount r ≡ putCount g
   pub kept : putBits new r ≡ putBits old g
   pub others : drop (r .at) new ≡ drop (r .at) old

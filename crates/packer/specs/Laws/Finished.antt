@@ -27,16 +27,16 @@ fill-put {old = old} {new = new} {g = g} {r = r} e z a p =
       others = p .others;
     }
 
-start-bits : (old : List ℕ) → putBits old started ≡ []
+nothing-put : (old : List ℕ) → putBits old started ≡ []
 unfolding putBits bits bitsOf
-start-bits old = refl
+nothing-put old = refl
 
 module _ {l old mid new : List ℕ} {g : Gathered} {used : ℕ} (b : AllBits l) (y : AllBytes new) (p : Put l old mid started g) (f : Finished mid new g used) where
   all-counted : putCount g ≡ length l
   all-counted = omega (arith, p .counted)
 
   all-put : putBits mid g ≡ l
-  all-put = p .behind ∙ ap (λ (x : List ℕ). x ++ l) (start-bits old)
+  all-put = p .behind ∙ ap (λ (x : List ℕ). x ++ l) (nothing-put old)
 
   -- the bytes used
   pub form-used : used ≡ bytesFor (length l)

@@ -9,7 +9,7 @@ use lib.Seq.{drop-drop, drop-set-lt, take-suc-set}
 use Rattle.bits.specs.Bits.{bits, bitsOf}
 use Rattle.bits.specs.Laws.Bytes.{bits-append}
 use Rattle.bits.specs.Laws.Numbers.{bitsOf-add, length-bitsOf}
-use Rattle.packer.specs.Gathering.{Gathers, Part, Put, Room, Same, putBits}
+use Rattle.packer.specs.Gathering.{Clear, Gathers, Part, Put, Room, Same, putBits}
 use Rattle.packer.specs.Start.{startBits, started}
 use Rattle.packer.specs.Laws.Joined.{joined, joined-bits, lowered, lowered-bits, lowered-clear}
 use Rattle.bits.specs.declared.Form.{Form}
@@ -76,7 +76,7 @@ drained {old = old} {g = g} h p =
 -- ## A field more
 
 -- a field is gathered, and then whole bytes go out
-pub field-put : (old new : List ℕ) (g r : Gathered) (w v : ℕ) → w ≤ 56 → g .count + w ≤ 64 → g .bits % 2 ^ (64 - g .count) ≡ 0
+pub field-put : (old new : List ℕ) (g r : Gathered) (w v : ℕ) → w ≤ 56 → g .count + w ≤ 64 → Clear g
     → Put [] old new (gathered (g .at) (g .count + w) (joined (g .bits) (g .count) w v)) r → Put (bitsOf w v) old new g r
 unfolding putBits
 field-put old new g r w v h k z p =
@@ -119,7 +119,8 @@ room-started x h = record { part = record { few = omega arith; clear = refl }; w
 pub room-then : {n y : ℕ} {l old new : List ℕ} {g r : Gathered} (x : ℕ) → Room n g y → Put l old new g r → length l + x ≤ y → Room n r x
 room-then x h p e = record { part = p .part; within = omega (arith, h .within, p .counted) }
 
-pub room-begun : {m : ℕ} {old new : List ℕ} {r : Gathered} (form : Form) (n x : ℕ) → form .head + 7 + x ≤ 8 * m → Put (startBits form n) old new started r → Room m r x
+pub room-begun : {m : ℕ} {old new : List ℕ} {r : Gathered} (form : Form) (n x : ℕ) → form .head + 7 + x ≤ 8 * m
+    → Put (startBits form n) old new started r → Room m r x
 room-begun form n x h p =
     let e = length-append (bitsOf (form .head) (form .mark)) (bitsOf 7 n) in
     room-then x (room-started (form .head + 7 + x) h) p (omega (arith, e, length-bitsOf (form .head) (form .mark), length-bitsOf 7 n))
