@@ -77,15 +77,14 @@ static int is_wrong(const char *call, size_t n, KemotuikiBytes r, size_t number)
     return wrong != 0;
 }
 
-/* Whether the counting is right: a byte and a word stored, and the byte loaded. */
-static int miscounts(void) {
+/* Whether touches are counted on this machine: a byte and a word stored, and the byte loaded. */
+static int counts_right(void) {
     begin();
     *(volatile uint8_t *)(lent + 5) = 1;
     *(volatile uint32_t *)(lent + 8) = 1;
-    int wrong = *(volatile uint8_t *)(lent + 5) != 1;
-    for (size_t i = 0; i < ROOM; i++) wrong |= stores[i] != (i == 5 || (i >= 8 && i < 12)) || loads[i] != (i == 5);
-    if (wrong) puts("touches are not counted right  WRONG");
-    return wrong;
+    int right = *(volatile uint8_t *)(lent + 5) == 1;
+    for (size_t i = 0; i < ROOM; i++) right &= stores[i] == (i == 5 || (i >= 8 && i < 12)) && loads[i] == (i == 5);
+    return right;
 }
 
 /* ---- the calls ---- */
@@ -133,11 +132,14 @@ static int writes_wrong(size_t n) {
     return wrong | is_wrong("write_batch refused", n, r, KEMOTUIKI_BAD_ROW);
 }
 
-int main(void) {
+/* With an argument: only whether touches are counted here. */
+int main(int argc, char **argv) {
     struct sigaction touch = {.sa_sigaction = on_touch, .sa_flags = SA_SIGINFO}, step = {.sa_sigaction = on_step, .sa_flags = SA_SIGINFO};
     lent = mmap(NULL, ROOM, PROT_READ | PROT_WRITE, MAP_PRIVATE | MAP_ANONYMOUS, -1, 0);
     if (lent == MAP_FAILED || sigaction(SIGSEGV, &touch, NULL) || sigaction(SIGTRAP, &step, NULL)) return 2;
-    int wrong = miscounts();
+    (void)argv;
+    if (argc > 1) return !counts_right();
+    int wrong = 0;
     for (size_t n = 3; n <= 64; n++) wrong |= writes_wrong(n);
     return wrong;
 }
