@@ -1,4 +1,4 @@
-// Fields of bits in a slice of bytes, most significant bit first, of any width up to 64; and what tells one stored form from another.
+// Fields of bits taken from a slice of bytes, most significant bit first, of any width up to 64; and what tells one stored form from another.
 ghost use mathlib.Core.Path.{_≡_};
 ghost use Prim.Native.Nat.{_*_, _+_, _/_, _%_, _^_, _<_, _≤_};
 ghost use lib.ListN.{length};
