@@ -22,13 +22,13 @@ fn put_row(g: Gathered, w: usize, n: usize, t: &[u32], i: usize, out: &mut [u8])
     ensures { λ r. ⌜ Put (fieldBits (fieldsOf w (rowEntries (cost (now (t .entry)) n) n i))) (now (out .entry)) (now (out .exit)) g r ⌝ }
 {
     let count = n - (i + 1);
-    let mut p = g;
+    let mut gathered = g;
     let mut k = 0;
     while k < count {
-        p = packer::put(out, p, w, tables::entry(t, n, i, i + 1 + k) as u64);
+        gathered = packer::put(out, gathered, w, tables::entry(t, n, i, i + 1 + k) as u64);
         k += 1;
     }
-    p
+    gathered
 }
 
 // All entries, row by row, behind what was put.
@@ -36,13 +36,13 @@ fn put_entries(g: Gathered, w: usize, n: usize, t: &[u32], out: &mut [u8]) -> Ga
     requires { ⌜ CostTable limit n (now t) × (w ≤ 32) × Room (length (now out)) g (w * entryCount n) ⌝ }
     ensures { λ r. ⌜ Put (fieldBits (fieldsOf w (entries (cost (now (t .entry)) n) n))) (now (out .entry)) (now (out .exit)) g r ⌝ }
 {
-    let mut p = g;
+    let mut gathered = g;
     let mut i = 0;
     while i < n {
-        p = put_row(p, w, n, t, i, out);
+        gathered = put_row(gathered, w, n, t, i, out);
         i += 1;
     }
-    p
+    gathered
 }
 
 // The whole form at the front of the lent bytes, the fill bits last; the answer is the bytes used.

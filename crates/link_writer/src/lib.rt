@@ -37,13 +37,13 @@ fn put_rows(
     ensures { λ r. ⌜ Put (fieldBits (rowsTo w n (λ k. getD (now (fars .entry)) k 0) (λ k. getD (now (costs .entry)) k 0) (length (now (fars .entry)))))
         (now (out .entry)) (now (out .exit)) g r ⌝ }
 {
-    let mut p = g;
+    let mut gathered = g;
     let mut k = 0;
     while k < fars.len() {
-        p = put_row(p, w, n, fars[k], costs[k], out);
+        gathered = put_row(gathered, w, n, fars[k], costs[k], out);
         k += 1;
     }
-    p
+    gathered
 }
 
 // The whole form at the front of the lent bytes, the fill bits last; the answer is the bytes used.

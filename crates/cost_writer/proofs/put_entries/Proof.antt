@@ -15,10 +15,10 @@ use Rattle.cost_writer.proofs.put_entries.Statement.{statement}
 use Rattle.cost_writer.proofs.put_entries.Tie as tie
 
 abbrev Inv-loop : tie.InvT-loop
-Inv-loop w n t out₀ p₀ i₀ out p i = (i ≤ n) × (length out ≡ length out₀) × Put (fieldBits (fieldsOf w (entriesTo (cost t n) n i))) out₀ out p₀ p
+Inv-loop w n t out₀ g₀ i₀ out g i = (i ≤ n) × (length out ≡ length out₀) × Put (fieldBits (fieldsOf w (entriesTo (cost t n) n i))) out₀ out g₀ g
 
 abbrev μ-loop : tie.MeasureT-loop
-μ-loop w n t out₀ p₀ i₀ out p i = n - i
+μ-loop w n t out₀ g₀ i₀ out g i = n - i
 
 loop-holds : tie.Need-loop-holds Inv-loop μ-loop
 loop-holds c = let s = c .before .before in (search needs, refl, rows-put-none (s .args .w) _ (s .args .n) (s .args .out .now) (s .args .g) (s .pre .2 .part))

@@ -15,11 +15,11 @@ use Rattle.cost_writer.proofs.put_row.Statement.{statement}
 use Rattle.cost_writer.proofs.put_row.Tie as tie
 
 abbrev Inv-loop : tie.InvT-loop
-Inv-loop w n t i out₀ count p₀ k₀ out p k =
-    (k ≤ n - (i + 1)) × (length out ≡ length out₀) × Put (fieldBits (fieldsOf w (listed (λ k. cost t n i (i + 1 + k)) k))) out₀ out p₀ p
+Inv-loop w n t i out₀ count g₀ k₀ out g k =
+    (k ≤ n - (i + 1)) × (length out ≡ length out₀) × Put (fieldBits (fieldsOf w (listed (λ k. cost t n i (i + 1 + k)) k))) out₀ out g₀ g
 
 abbrev μ-loop : tie.MeasureT-loop
-μ-loop w n t i out₀ count p₀ k₀ out p k = n - (i + 1) - k
+μ-loop w n t i out₀ count g₀ k₀ out g k = n - (i + 1) - k
 
 add-count : tie.Need-add-count Inv-loop μ-loop
 add-count c = search needs

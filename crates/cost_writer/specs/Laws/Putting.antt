@@ -5,13 +5,13 @@ use Prim.Native.Nat.{ℕ, _*_, _+_, _-_}
 use lib.ListN.{length}
 use Rattle.ground.specs.Buffers.{front}
 use Rattle.bits.specs.Bits.{AllBytes, bitsOf}
-use Rattle.bits.specs.Forms.{bytesFor, fieldBits, fieldBytes, fieldsOf}
+use Rattle.bits.specs.Forms.{fieldBits, fieldBytes, fieldsOf}
 use Rattle.bits.specs.Laws.Listed.{length-listed, listed-more}
 use Rattle.bits.specs.Laws.OneWidth.{fields-append, fields-more, length-fields}
 use Rattle.bits.specs.Listed.{listed}
 use Rattle.bits.specs.declared.Form.{Form}
 use Rattle.packer.specs.Gathering.{Finished, Part, Put}
-use Rattle.packer.specs.Laws.Finished.{form-front, form-used}
+use Rattle.packer.specs.Laws.Finished.{form-packed}
 use Rattle.packer.specs.Laws.Putting.{put-none, put-then}
 use Rattle.packer.specs.Start.{startBits, started}
 use Rattle.packer.specs.declared.Gathered.{Gathered}
@@ -74,6 +74,4 @@ module _ (form : Form) (n : ℕ) (d : ℕ → ℕ → ℕ) where
       → Put (fieldBits (fieldsOf (form .width) (entries d n))) begun entered g r → Finished entered new r used
       → (used ≡ costUsed form n) × (new ≡ front (costBytes form n d) old)
   unfolding costBytes fieldBytes costBits
-  form-put y p q f =
-      let b = all-bits-costs form n d in
-      (form-used b y (entries-put p q) f ∙ ap bytesFor (length-cost-bits form n d), form-front b y (entries-put p q) f)
+  form-put y p q f = form-packed (all-bits-costs form n d) (length-cost-bits form n d) y (entries-put p q) f

@@ -15,11 +15,11 @@ use Rattle.link_writer.proofs.put_rows.Statement.{statement}
 use Rattle.link_writer.proofs.put_rows.Tie as tie
 
 abbrev Inv-loop : tie.InvT-loop
-Inv-loop w n fars costs out₀ p₀ k₀ out p k =
-    (k ≤ length fars) × (length out ≡ length out₀) × Put (fieldBits (rowsTo w n (λ j. getD fars j 0) (λ j. getD costs j 0) k)) out₀ out p₀ p
+Inv-loop w n fars costs out₀ g₀ k₀ out g k =
+    (k ≤ length fars) × (length out ≡ length out₀) × Put (fieldBits (rowsTo w n (λ j. getD fars j 0) (λ j. getD costs j 0) k)) out₀ out g₀ g
 
 abbrev μ-loop : tie.MeasureT-loop
-μ-loop w n fars costs out₀ p₀ k₀ out p k = length fars - k
+μ-loop w n fars costs out₀ g₀ k₀ out g k = length fars - k
 
 loop-holds : tie.Need-loop-holds Inv-loop μ-loop
 loop-holds c =

@@ -1,14 +1,14 @@
 -- The rows put one behind the other, and the whole form. Assumes nothing.
 use mathlib.Core.List.{List}
-use mathlib.Core.Path.{ap, refl, subst, _∙_, _≡_}
+use mathlib.Core.Path.{refl, subst, _≡_}
 use Prim.Native.Nat.{ℕ, _+_, _-_, _/_}
 use lib.ListN.{getD, length}
 use Rattle.ground.specs.Buffers.{front}
 use Rattle.bits.specs.Bits.{AllBytes, bitsOf}
-use Rattle.bits.specs.Forms.{bytesFor, fieldBits, fieldBytes}
+use Rattle.bits.specs.Forms.{fieldBits, fieldBytes}
 use Rattle.bits.specs.declared.Form.{Form}
 use Rattle.packer.specs.Gathering.{Finished, Part, Put}
-use Rattle.packer.specs.Laws.Finished.{form-front, form-used}
+use Rattle.packer.specs.Laws.Finished.{form-packed}
 use Rattle.packer.specs.Laws.Putting.{put-none, put-then}
 use Rattle.packer.specs.Start.{startBits, started}
 use Rattle.packer.specs.declared.Gathered.{Gathered}
@@ -51,7 +51,4 @@ module _ (form : Form) (n : ℕ) (l v : List ℕ) where
       → Put (fieldBits (rowsTo (form .width) n (λ k. getD l k 0) (λ k. getD v k 0) (length l))) counted rowed s r → Finished rowed new r used
       → (used ≡ linkUsed form n (length l)) × (new ≡ front (linkBytes form n l v) old)
   unfolding linkBytes fieldBytes linkBits
-  form-put y p c q f =
-      let b = all-bits-links form n l v in
-      let all = rows-put p c q in
-      (form-used b y all f ∙ ap bytesFor (length-link-bits form n l v), form-front b y all f)
+  form-put y p c q f = form-packed (all-bits-links form n l v) (length-link-bits form n l v) y (rows-put p c q) f

@@ -31,24 +31,18 @@ nothing-put : (old : List ℕ) → putBits old started ≡ []
 unfolding putBits bits bitsOf
 nothing-put old = refl
 
-module _ {l old mid new : List ℕ} {g : Gathered} {used : ℕ} (b : AllBits l) (y : AllBytes new) (p : Put l old mid started g) (f : Finished mid new g used) where
-  all-counted : putCount g ≡ length l
-  all-counted = omega (arith, p .counted)
-
-  all-put : putBits mid g ≡ l
-  all-put = p .behind ∙ ap (λ (x : List ℕ). x ++ l) (nothing-put old)
-
-  -- the bytes used
-  pub form-used : used ≡ bytesFor (length l)
-  form-used = f .counted ∙ ap bytesFor all-counted
-
-  -- the form's bytes stand at the front, and those behind are as they were
-  pub form-front : new ≡ front (packed l) old
-  unfolding filled
-  form-front =
-      let whole : take used new ≡ packed l = packed-only l b (take used new) (all-bytes-take used new y)
-      (f .whole ∙ ap₂ (λ (x : List ℕ) (k : ℕ). x ++ bitsOf (fillWidth k) 0) all-put all-counted) in
-      let rest : drop used mid ≡ drop used old = drop-further (g .at) used mid old (omega (arith, f .counted)) (p .others) in
+-- bits put from the start and then finished: so many bytes are used, they stand at the front, and those behind are as they were
+pub form-packed : {l old mid new : List ℕ} {g : Gathered} {used end : ℕ} → AllBits l → length l ≡ end → AllBytes new → Put l old mid started g
+    → Finished mid new g used → (used ≡ bytesFor end) × (new ≡ front (packed l) old)
+unfolding filled
+form-packed {l = l} {old = old} {mid = mid} {new = new} {g = g} {used = used} b n y p f =
+    let counted : putCount g ≡ length l = omega (arith, p .counted) in
+    let all : putBits mid g ≡ l = p .behind ∙ ap (λ (x : List ℕ). x ++ l) (nothing-put old) in
+    let whole : take used new ≡ packed l = packed-only l b (take used new) (all-bytes-take used new y)
+    (f .whole ∙ ap₂ (λ (x : List ℕ) (k : ℕ). x ++ bitsOf (fillWidth k) 0) all counted) in
+    let rest : drop used mid ≡ drop used old = drop-further (g .at) used mid old (omega (arith, f .counted)) (p .others) in (
+      f .counted ∙ ap bytesFor (counted ∙ n),
       sym (take-append-drop used new)
-      ∙ ap₂ (λ (x z : List ℕ). x ++ z) whole (f .others ∙ rest)
-      ∙ ap (λ (k : ℕ). packed l ++ drop k old) (form-used ∙ sym (length-packed l))
+          ∙ ap₂ (λ (x z : List ℕ). x ++ z) whole (f .others ∙ rest)
+          ∙ ap (λ (k : ℕ). packed l ++ drop k old) (f .counted ∙ ap bytesFor counted ∙ sym (length-packed l)),
+    )
