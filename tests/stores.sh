@@ -16,11 +16,11 @@ work=$(mktemp -d)
 trap 'rm -rf "$work"' EXIT
 
 "$CC" -std=gnu11 -O1 -Wall -Wextra -Werror -Iinclude tests/stores.c "$archive" -o "$work/stores"
-if ! $RUN "$work/stores" --counting; then
+if ! timeout 60 $RUN "$work/stores" --counting; then
     not_run "the count of stores" "known touches of a page are not counted right on this machine"
     exit 0
 fi
-if $RUN "$work/stores" >"$work/got"; then
+if timeout 300 $RUN "$work/stores" >"$work/got"; then
     accepted=$(grep -c ' number 0,' "$work/got")
     refused=$(grep -vc ' number 0,' "$work/got")
     echo "stores: $accepted calls stored each used byte once and loaded none, $refused refused ones touched none"
