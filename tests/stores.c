@@ -1,8 +1,8 @@
 /*
  * Counts, from outside, how often each lent byte is touched while stored tables are written. The lent bytes stand on pages that may
  * be neither loaded nor stored; each touch faults, is counted by its address, width and kind, and is then let through alone, by
- * a single step. A byte that the answer counts as used must be stored exactly once and never loaded, any other never touched; a
- * refused call must touch none.
+ * a single step. Each byte of the stored form, whose length is reckoned here, must be stored exactly once and never loaded, any
+ * other never touched; a refused call must touch none.
  */
 #define _GNU_SOURCE
 #include <signal.h>
@@ -66,12 +66,13 @@ static void begin(void) {
     mprotect(lent, ROOM, PROT_NONE);
 }
 
-/* Prints one line, and says whether the call answered by this number and each of the used bytes was stored once, and nothing else touched. */
-static int is_wrong(const char *call, size_t n, KemotuikiBytes r, size_t number) {
-    unsigned long stored = 0, loaded = 0, wrong = r.number != number;
+/* Prints one line, and says whether it is not so that the call answered by this number and with so many used bytes, that each of
+ * these was stored once, and that nothing else was touched. */
+static int is_wrong(const char *call, size_t n, KemotuikiBytes r, size_t number, size_t used) {
+    unsigned long stored = 0, loaded = 0, wrong = r.number != number || r.used != used;
     for (size_t i = 0; i < ROOM; i++) {
         stored += stores[i], loaded += loads[i];
-        wrong += stores[i] != (i < r.used) || loads[i] != 0;
+        wrong += stores[i] != (i < used) || loads[i] != 0;
     }
     printf("%s n=%zu: number %zu, %zu bytes used, %lu stored, %lu loaded%s\n", call, n, r.number, r.used, stored, loaded, wrong ? "  WRONG" : "");
     return wrong != 0;
@@ -103,33 +104,35 @@ static void fill(size_t n) {
     }
     for (k = 0; k < rows; k++) costs[k] = (uint32_t)(1 + k * 40961 % 2000000);
     for (size_t m = 0; m < TABLES; m++) {
+        ns[m] = (uint32_t)n, counts[m] = (uint32_t)rows;
+        if (!m) continue;
         memcpy(fars + m * rows, fars, rows * sizeof *fars);
         memcpy(costs + m * rows, costs, rows * sizeof *costs);
-        ns[m] = (uint32_t)n, counts[m] = (uint32_t)rows;
     }
 }
 
 static int writes_wrong(size_t n) {
-    size_t rows = 2 * n - 3, all = TABLES * rows, used[3];
+    size_t rows = 2 * n - 3, all = TABLES * rows;
+    size_t cost_bytes = (7 + 10 * n * (n - 1) + 7) / 8, link_bytes = (14 + rows * (n + 20) + 7) / 8, batch_bytes = TABLES * link_bytes;
     int wrong = 0;
     KemotuikiBytes r;
     fill(n);
     begin(), r = kemotuiki_write_costs(n, t, n * n, lent, ROOM);
-    wrong |= is_wrong("write_costs", n, r, 0), used[0] = r.used;
+    wrong |= is_wrong("write_costs", n, r, 0, cost_bytes);
     begin(), r = kemotuiki_write_links(n, rows, fars, rows, costs, rows, lent, ROOM);
-    wrong |= is_wrong("write_links", n, r, 0), used[1] = r.used;
+    wrong |= is_wrong("write_links", n, r, 0, link_bytes);
     begin(), r = kemotuiki_write_batch(ns, TABLES, counts, TABLES, fars, all, costs, all, lent, ROOM);
-    wrong |= is_wrong("write_batch", n, r, 0), used[2] = r.used;
+    wrong |= is_wrong("write_batch", n, r, 0, batch_bytes);
     /* too little room, by one byte; a batch that is refused at its last row */
-    begin(), r = kemotuiki_write_costs(n, t, n * n, lent, used[0] - 1);
-    wrong |= is_wrong("write_costs refused", n, r, KEMOTUIKI_NO_ROOM);
-    begin(), r = kemotuiki_write_links(n, rows, fars, rows, costs, rows, lent, used[1] - 1);
-    wrong |= is_wrong("write_links refused", n, r, KEMOTUIKI_NO_ROOM);
-    begin(), r = kemotuiki_write_batch(ns, TABLES, counts, TABLES, fars, all, costs, all, lent, used[2] - 1);
-    wrong |= is_wrong("write_batch refused", n, r, KEMOTUIKI_NO_ROOM);
+    begin(), r = kemotuiki_write_costs(n, t, n * n, lent, cost_bytes - 1);
+    wrong |= is_wrong("write_costs refused", n, r, KEMOTUIKI_NO_ROOM, 0);
+    begin(), r = kemotuiki_write_links(n, rows, fars, rows, costs, rows, lent, link_bytes - 1);
+    wrong |= is_wrong("write_links refused", n, r, KEMOTUIKI_NO_ROOM, 0);
+    begin(), r = kemotuiki_write_batch(ns, TABLES, counts, TABLES, fars, all, costs, all, lent, batch_bytes - 1);
+    wrong |= is_wrong("write_batch refused", n, r, KEMOTUIKI_NO_ROOM, 0);
     costs[all - 1] = 2000001;
     begin(), r = kemotuiki_write_batch(ns, TABLES, counts, TABLES, fars, all, costs, all, lent, ROOM);
-    return wrong | is_wrong("write_batch refused", n, r, KEMOTUIKI_BAD_ROW);
+    return wrong | is_wrong("write_batch refused", n, r, KEMOTUIKI_BAD_ROW, 0);
 }
 
 /* With an argument: only whether touches are counted here. */
