@@ -31,8 +31,8 @@ static void c_exact(void) { plain_exact(n, tree, n * n, plain_fars, plain_costs,
 static void c_exact_all(void) { plain_exact_all_fours(n, tree, n * n, plain_fars, plain_costs, 125, &plain_rows); sink = plain_rows; }
 static void ours_measured(void) { sink = kemotuiki_measured(n, noisy, n * n, fars, 125, costs, 125).rows; }
 static void c_measured(void) { plain_measured(n, noisy, n * n, plain_fars, plain_costs, 125, &plain_rows); sink = plain_rows; }
-static void ours_index(void) { sink = kemotuiki_index(n, tree, n * n, inner_side).index; }
-static void c_index(void) { size_t v = 0; plain_index(n, tree, n * n, inner_side, &v); sink = v; }
+static void ours_index(void) { sink = kemotuiki_index(n, tree, n * n, inner_side).signed_index; }
+static void c_index(void) { int64_t v = 0; plain_index(n, tree, n * n, inner_side, &v); sink = v; }
 static void ours_order(void) { sink = kemotuiki_order(n, tree, n * n, 1, n, out, 64).images + out[1]; }
 static void c_order(void) { plain_order(n, tree, n * n, 1, n, plain_out, 64); sink = n + plain_out[1]; }
 static void ours_compare(void) { KemotuikiComparison r = kemotuiki_compare(n, tree, n * n, other, n * n); sink = r.inner_first + 1000 * r.count + 1000000 * r.over; }

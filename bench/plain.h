@@ -2,7 +2,7 @@
 #include <stddef.h>
 #include <stdint.h>
 
-int plain_index(size_t n, const uint32_t *t, size_t t_count, uint64_t s, size_t *value);
+int plain_index(size_t n, const uint32_t *t, size_t t_count, uint64_t s, int64_t *value);
 int plain_order(size_t n, const uint32_t *t, size_t t_count, size_t first, size_t last, uint32_t *out, size_t room);
 int plain_measured(size_t n, const uint32_t *t, size_t t_count, uint64_t *fars, uint32_t *costs, size_t room, size_t *rows);
 int plain_measured_before(size_t n, const uint32_t *t, size_t t_count, uint64_t *fars, uint32_t *costs, size_t room, size_t *rows);

@@ -24,8 +24,8 @@ module kemotuiki
     private
 
     ! The version, as the file VERSION has it.
-    character(*), parameter, public :: kemotuiki_version = '1.3.1'
-    integer, parameter, public :: kemotuiki_version_major = 1, kemotuiki_version_minor = 3, kemotuiki_version_patch = 1
+    character(*), parameter, public :: kemotuiki_version = '2.0.0'
+    integer, parameter, public :: kemotuiki_version_major = 2, kemotuiki_version_minor = 0, kemotuiki_version_patch = 0
 
     ! Room that is enough for every n: images, rows of a tree, bytes of the stored forms; the tables of a team; and bytes of a
     ! refusal's text.
@@ -64,7 +64,7 @@ module kemotuiki
     end type
 
     type, extends(kemotuiki_answer), public :: kemotuiki_index_answer
-        integer :: index
+        integer(int64) :: signed_index
     end type
     type, extends(kemotuiki_answer), public :: kemotuiki_order_answer
         integer :: images
@@ -110,7 +110,11 @@ module kemotuiki
         procedure read_links_int32, read_links_int64
     end interface
 
-    ! The structs of kemotuiki.h by the number of their values: what all begin with, then the values.
+    ! The structs of kemotuiki.h by the number of their values: what all begin with, then the values. The index alone is signed.
+    type, bind(c) :: signed_value
+        integer(word) :: head(6)
+        integer(c_int64_t) :: signed_index
+    end type
     type, bind(c) :: one_value
         integer(word) :: head(6), value
     end type
@@ -143,7 +147,7 @@ module kemotuiki
             integer(word), value :: n, t_count
             integer(c_int32_t), intent(in) :: t(*)
             integer(c_int64_t), value :: s
-            type(one_value) :: r
+            type(signed_value) :: r
         end function
         function c_order(n, t, t_count, first, last, out, out_count) result(r) bind(c, name='kemotuiki_order')
             import
@@ -270,14 +274,14 @@ contains
 
     ! ---- the calls on cost tables ----
 
-    ! The index of the division of t with the far side s.
+    ! The index of the division of t with the far side s, below 0 by how far some choice of images speaks against it.
     function index_int64(t, s) result(r)
         integer(int32), intent(in), contiguous :: t(:, :)
         integer(int64), intent(in) :: s
         type(kemotuiki_index_answer) :: r
-        type(one_value) :: c
+        type(signed_value) :: c
         c = c_index(size(t, 1, word), t, size(t, kind=word), s)
-        r = kemotuiki_index_answer(kemotuiki_answer=head(c%head), index=int(c%value))
+        r = kemotuiki_index_answer(kemotuiki_answer=head(c%head), signed_index=c%signed_index)
         call place_by_rows(r, t)
     end function
 
@@ -507,7 +511,7 @@ contains
         class(kemotuiki_answer), intent(inout) :: r
         integer(int32), intent(in) :: t(:, :)
         integer(int32) :: by_rows(kemotuiki_images**2)
-        type(one_value) :: again
+        type(signed_value) :: again
         if (r%number /= kemotuiki_entry_too_large) return
         by_rows(:size(t)) = reshape(transpose(t), [size(t)])
         again = c_index(size(t, 1, word), by_rows, size(t, kind=word), 0_c_int64_t)

@@ -25,10 +25,10 @@
 #include <stdint.h>
 
 /* The version, as the file VERSION has it. */
-#define KEMOTUIKI_VERSION "1.3.1"
-#define KEMOTUIKI_VERSION_MAJOR 1
-#define KEMOTUIKI_VERSION_MINOR 3
-#define KEMOTUIKI_VERSION_PATCH 1
+#define KEMOTUIKI_VERSION "2.0.0"
+#define KEMOTUIKI_VERSION_MAJOR 2
+#define KEMOTUIKI_VERSION_MINOR 0
+#define KEMOTUIKI_VERSION_PATCH 0
 
 /*
  * Room that is enough for every n: images, rows of a tree, bytes of the stored forms; the most tables of a team; and bytes of a
@@ -88,10 +88,10 @@ enum KemotuikiNumber {
  * the values of an accepted call, 0 in a refusal. There is no padding, and the same answer always is the same bytes.
  */
 
-/* How strongly all choices of images support a division. */
+/* The index of a division, a signed number: what all choices of images support, or below 0 how far one speaks against it. */
 typedef struct KemotuikiIndex {
     size_t number, table, a, b, c, d;
-    size_t index;
+    int64_t signed_index;
 } KemotuikiIndex;
 
 /* How many images were written. */
@@ -157,7 +157,10 @@ KEMOTUIKI_ASSERT(kemotuiki_links_size, sizeof(KemotuikiLinks) == 72);
 KEMOTUIKI_ASSERT(kemotuiki_choice_size, sizeof(KemotuikiChoice) == 64);
 
 /*
- * The index of the division with the far side s: how strongly all choices of images support it, 0 where it is negative.
+ * The index of the division with the far side s. Above 0, all choices of images support the division, by at least so much, and the
+ * measured reading draws it with this doubled cost. At 0 and below, it draws no inner link, and an own link with cost 0; below 0,
+ * some choice of images speaks against the division by so much, and none by more. Never above 2,000,000, never below -2,000,000,
+ * for own links never below -1,000,000.
  * Answers the index. Refusals 1, 2, 4, 5, 6, 12.
  */
 KemotuikiIndex kemotuiki_index(size_t n, const uint32_t *t, size_t t_count, uint64_t s);

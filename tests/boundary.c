@@ -147,7 +147,7 @@ static void do_index(void) {
     uint32_t *t = read32(&lt);
     uint64_t s = number();
     KemotuikiIndex r = kemotuiki_index(n, t, lt.count, s);
-    if (ANSWER(r, 0)) printf(" %zu", r.index);
+    if (ANSWER(r, 0)) printf(" %lld", (long long)r.signed_index);
     settle(&lt, 0);
 }
 

@@ -304,7 +304,7 @@ contains
         else
             r = kemotuiki_index(t, s)
         end if
-        call put_answer(r, [integer(int64) :: r%index])
+        call put_answer(r, [r%signed_index])
         call note_far_sides(r, n, [s])
     end subroutine
 

@@ -22,8 +22,8 @@ if not __debug__:
 sys.dont_write_bytecode = True
 
 import independent as law
-from independent import (Dice, is_inner, own_link, pairs, stored_costs, table_from, tree_rows,
-                         tree_table)
+from independent import (Dice, holds, is_inner, own_link, pairs, stored_costs, table_from,
+                         tree_rows, tree_table)
 
 ROOT = os.path.dirname(os.path.dirname(os.path.abspath(__file__)))
 
@@ -274,6 +274,35 @@ def index_cases(dice):
     yield 64, table_from(64, [1] * 2016), 2 ** 63
     for s in (2 ** 33 + 2, 2 ** 32):
         yield 33, table_from(33, [1] * 528), s
+    yield from signed_index_cases(dice)
+
+
+def two_groups(n, s, inside, across):
+    """Images of one group of the division cost the one, images of both the other."""
+    return table_from(n, [inside if holds(s, i) == holds(s, j) else across for i, j in pairs(n)])
+
+
+def signed_index_cases(dice):
+    """An index below 0, 0 and above it, and at its ends, for few images and for many. By
+    two_groups it is 2 across - 2 inside, and 2 across - inside for an own link; an own link
+    stops at minus the limit."""
+    for n in (3, 4, 5, 9, 17, 33, 64):
+        owns = [own_link(n, 1), own_link(n, dice.between(2, n))]
+        inners = [2 ** (n - 1) + 2 ** dice.between(1, n - 2), 2 ** n - 4] if n > 3 else []
+        for s in owns + inners if n < 10 else owns[1:] + inners[:1]:
+            for inside, across in (3, 1), (2, 1), (1, 1), (0, 0), (2, 3):
+                if n < 10 or inside * across > 0:
+                    yield n, two_groups(n, s, inside, across), s
+        for s in owns[:1] + inners[:1]:
+            for inside, across in (1000000, 0), (0, 1000000):
+                yield n, two_groups(n, s, inside, across), s
+        # Where all entries are 4 the index is 0; one that is 5 inside or 3 across makes it -1.
+        for s in inners[:1]:
+            t = two_groups(n, s, 4, 4)
+            t[1] = t[n] = 5 if not holds(s, 2) else 3
+            yield n, t, s
+        for _ in range(2):
+            yield n, law.random_table(dice, n, 9), 2 * dice.between(1, 2 ** (n - 1) - 1)
 
 
 def two_images(dice, n, bad):

@@ -467,7 +467,7 @@ def index(n, t, s):
     check_entries(n, t)
     if s == 0 or holds(s, 1) or s >= 2 ** n:
         refuse(12)
-    return 0, max(index_of(n, square(n, t), s), 0)
+    return 0, index_of(n, square(n, t), s)
 
 
 @call
@@ -1028,6 +1028,18 @@ def test_settled_examples():
     assert closed_sum(n, h, out[:7]) == 226 == sum(cost for _, cost in MEASURED["H"])
     # Leaving repeats out of the index would give C's image 2 the cost 3.
     assert index(3, example("C")[1], 2) == (0, 2)
+    # C's image 1: 1 + 1 - 0 - 3. In E images 2 and 4 against 1 and 3: 2 + 2 - 4 - 4. In G 2 + 2 - 2 - 2.
+    assert index(3, example("C")[1], 6) == (0, -1)
+    assert index(4, e, 10) == (0, -4)
+    assert index(4, g, 12) == (0, 0)
+
+
+def test_ends_of_the_index():
+    most = MOST_ENTRY
+    assert index(3, table_from(3, [most, most, 0]), 6) == (0, 2 * most)
+    assert index(3, table_from(3, [0, 0, most]), 6) == (0, -most)
+    assert index(4, table_from(4, [0, most, most, most, most, 0]), 12) == (0, 2 * most)
+    assert index(4, table_from(4, [most, 0, 0, 0, 0, most]), 12) == (0, -2 * most)
 
 
 def test_settled_limits():
@@ -1132,7 +1144,9 @@ def test_readings_agree_with_definitions(dice):
             far = 2 * dice.between(1, 2 ** (n - 1) - 1)
             least = index_by_definition(n, d, far)
             assert index_of(n, d, far) == least
-            assert index(n, t, far) == (0, max(least, 0))
+            assert index(n, t, far) == (0, least)
+            assert -2 * MOST_ENTRY <= least <= 2 * MOST_ENTRY
+            assert is_inner(n, far) or least >= -MOST_ENTRY
             fours = itertools.product(range(1, n + 1), repeat=4)
             failing = sorted(tuple(sorted(four)) for four in fours
                              if not four_point_holds(d, *four))
@@ -1472,6 +1486,7 @@ def self_test():
         (test_stored_forms, (dice,)), (test_choice, (dice,)), (test_sixty_four, (dice,)),
         (test_reader_on_a, ()), (test_reader, (dice,)), (test_consensus_examples, ()),
         (test_consensus_refusals, (dice,)), (test_consensus, (dice,)), (test_far_end, (dice,)),
+        (test_ends_of_the_index, ()),
     ]
     for test, arguments in tests:
         test(*arguments)

@@ -158,7 +158,7 @@ static size_t far_end(const uint32_t *table) {
     return last;
 }
 
-/* What needs the cost table and no tree: the order around it, and how strongly the table supports a division. */
+/* What needs the cost table and no tree: the order around it, and how strongly a table supports a division, or how badly it fails. */
 static void use_table(void) {
     uint32_t out[N];
     size_t last = far_end(tables[0]);
@@ -166,9 +166,11 @@ static void use_table(void) {
     KemotuikiOrder order = kemotuiki_order(N, tables[0], N * N, 1, last, out, N);
     NEED(order);
     numbers("order from 1 to there:", order.images, out);
-    KemotuikiIndex index = kemotuiki_index(N, tables[0], N * N, 12);
+    KemotuikiIndex index = kemotuiki_index(N, tables[0], N * N, 12), as_7 = kemotuiki_index(N, tables[6], N * N, 12);
     NEED(index);
-    printf("index of 3 and 4 against the others: %zu\n", index.index);
+    NEED(as_7);
+    printf("index of 3 and 4 against the others: %lld\n", (long long)index.signed_index);
+    printf("and as image 7 has it: %lld\n", (long long)as_7.signed_index);
 }
 
 /* The cost table and, behind it, the link table, in one buffer; then both read back. */

@@ -94,7 +94,7 @@ contains
         type(kemotuiki_rows_answer) :: tree, route, upper
         type(kemotuiki_path_answer) :: path
         type(kemotuiki_order_answer) :: order
-        type(kemotuiki_index_answer) :: division
+        type(kemotuiki_index_answer) :: division, as_7
         print '(a)', "image 1's tree"
         tree = kemotuiki_exact(tables(:, :, 1), fars, costs)
         call require(tree)
@@ -117,9 +117,13 @@ contains
         order = kemotuiki_order(tables(:, :, 1), 1, last, out)
         call require(order)
         print '(a, *(1x, i0))', 'order from 1 to there:', out(:order%images)
+        ! How strongly a table supports a division, or how badly it fails.
         division = kemotuiki_index(tables(:, :, 1), 12)
         call require(division)
-        print '(a, i0)', 'index of 3 and 4 against the others: ', division%index
+        print '(a, i0)', 'index of 3 and 4 against the others: ', division%signed_index
+        as_7 = kemotuiki_index(tables(:, :, 7), 12)
+        call require(as_7)
+        print '(a, i0)', 'and as image 7 has it: ', as_7%signed_index
     end subroutine
 
     ! The cost table and, behind it, the link table, in one buffer; then both read back.

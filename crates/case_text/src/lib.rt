@@ -1,12 +1,15 @@
-// The text of the cases: unsigned decimal numbers one blank apart, a slice as its length and then its elements. What is read and
+// The text of the cases: decimal numbers one blank apart, a slice as its length and then its elements. What is read and
 // printed is not promised; it is held to the independent program's text.
 pub mod calls;
 
 use ground::Answer;
 use ground::Refusal;
+use ground::SignedAnswer;
 use ground::Written;
 use libc::STDOUT_FILENO;
 ghost use Prim.Native.Nat.{_≤_};
+ghost use lib.IntN.{pos};
+ghost use lib.Signed.{_<ℤ_};
 ghost use Rattle.io.specs.Counts.{Counts};
 
 // A number, and where the next one begins.
@@ -143,6 +146,23 @@ pub fn show_end() {
     io::write_all(STDOUT_FILENO, b"\n");
 }
 
+// How far a number is below 0. The least of all has no negation, so 1 is added behind.
+fn below_zero(x: i64) -> u64
+    requires { ⌜ x <ℤ pos 0 ⌝ }
+{
+    (-1 - x) as u64 + 1
+}
+
+// Prints a signed number of a line behind others.
+pub fn show_next_signed(x: i64) {
+    if x < 0 {
+        io::write_all(STDOUT_FILENO, b" -");
+        io::print_decimal(STDOUT_FILENO, below_zero(x));
+        return;
+    }
+    show_next(x as u64);
+}
+
 // Prints an element of 32 bits.
 fn show_next32(x: u32) {
     show_next(x as u64);
@@ -211,6 +231,17 @@ pub fn show_answer(answer: Answer) {
         Answer::Value(v) => {
             show_first(0);
             show_next32(v);
+        }
+    }
+}
+
+// Prints the answer of a call that gives one signed number.
+pub fn show_signed_answer(answer: SignedAnswer) {
+    match answer {
+        SignedAnswer::Refused(r) => show_refusal(r),
+        SignedAnswer::Value(v) => {
+            show_first(0);
+            show_next_signed(v);
         }
     }
 }

@@ -4,7 +4,6 @@ pub mod Bits
 pub mod Ones
 pub mod Shifts
 pub mod Least
-pub mod Signed
 -- Lists.
 pub mod Filters
 pub mod Maps
@@ -14,6 +13,9 @@ pub mod Sums
 pub mod Counts
 pub mod Members
 pub mod Totals
+-- Signed numbers.
+pub mod Signed
+pub mod SignedLeast
 -- What code does: search, carry a number along, merge, write a buffer, refuse.
 pub mod First
 pub mod Folds

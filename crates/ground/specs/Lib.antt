@@ -11,6 +11,8 @@ pub mod Sums
 pub mod Counts
 pub mod Members
 pub mod Totals
+-- Signed numbers.
+pub mod Signed
 -- What code does: search, carry a number along, merge, write a buffer, refuse.
 pub mod First
 pub mod Folds

@@ -2,14 +2,17 @@
 use mathlib.Core.Bool.{Bool, false, true, _||_}
 use Prim.Native.Nat.{ℕ}
 use lib.Dec.{ltb}
+use lib.IntN.{ℤ}
 use Rattle.ground.specs.declared.Answer.{Answer}
 use Rattle.ground.specs.declared.Answer.the-variants.{Value}
 use Rattle.ground.specs.declared.Check.{Check}
 use Rattle.ground.specs.declared.Check.the-variants.{Passed, Refused}
 use Rattle.ground.specs.declared.Refusal.{Refusal}
+use Rattle.ground.specs.declared.SignedAnswer.{SignedAnswer}
 use Rattle.ground.specs.declared.Written.{Written}
 use Rattle.ground.specs.declared.Written.the-variants.{Places}
 use Rattle.ground.specs.declared.Answer.the-variants as answer
+use Rattle.ground.specs.declared.SignedAnswer.the-variants as signed
 use Rattle.ground.specs.declared.Written.the-variants as written
 
 -- a number, and up to four places, unused ones 0
@@ -43,6 +46,10 @@ ifPassed refused (Refused r) y = refused r
 -- the value where the check passed
 abbrev pub valueIf : Check → ℕ → Answer
 valueIf c v = ifPassed answer.Refused c (Value v)
+
+-- the same with a signed number
+abbrev pub signedIf : Check → ℤ → SignedAnswer
+signedIf c v = ifPassed signed.Refused c (signed.Value v)
 
 -- the number of places written where the check passed
 abbrev pub placesIf : Check → ℕ → Written

@@ -1,7 +1,8 @@
-// What every crate uses and that says nothing of images: refusals, a range, a bit of a number, the lower of two numbers, a turn
-// of a merge.
+// What every crate uses and that says nothing of images: refusals, a range, a bit of a number, the lower of two numbers and their
+// difference, a turn of a merge.
 ghost use mathlib.Core.Path.{_≡_};
 ghost use Prim.Native.Nat.{_^_, _<_, min};
+ghost use lib.IntN.{pos, _-ℤ_};
 ghost use Rattle.ground.specs.Bits.{bit};
 ghost use Rattle.ground.specs.Merges.{advance};
 ghost use Rattle.ground.specs.Refusals.{refusal, refuseIf, outside};
@@ -24,6 +25,12 @@ pub enum Check {
 // What a call answers that gives one number.
 pub enum Answer {
     Value(u32),
+    Refused(Refusal),
+}
+
+// What a call answers that gives one signed number.
+pub enum SignedAnswer {
+    Value(i64),
     Refused(Refusal),
 }
 
@@ -80,6 +87,13 @@ pub fn lower(x: u32, y: u32) -> u32
     ensures { λ r. ⌜ r ≡ min x y ⌝ }
 {
     if y < x { y } else { x }
+}
+
+// The signed difference of two numbers.
+pub fn gap(x: u32, y: u32) -> i64
+    ensures { λ r. ⌜ r ≡ pos x -ℤ pos y ⌝ }
+{
+    (x as i64) - (y as i64)
 }
 
 // 1 where x is at most y, so that in a merge the list in which x stands goes on; else 0.

@@ -4,10 +4,10 @@ use mathlib.Core.List.{List}
 use Prim.Native.Nat.{ℕ, _^_}
 use lib.Dec.{eqb, leb}
 use Rattle.ground.specs.Bits.{bit}
-use Rattle.ground.specs.Refusals.{refusal, refuseIf, valueIf, _then_}
-use Rattle.ground.specs.declared.Answer.{Answer}
+use Rattle.ground.specs.Refusals.{refusal, refuseIf, signedIf, _then_}
 use Rattle.ground.specs.declared.Check.{Check}
-use Rattle.theory.specs.Index.{clipped}
+use Rattle.ground.specs.declared.SignedAnswer.{SignedAnswer}
+use Rattle.theory.specs.Index.{index}
 use Rattle.theory.specs.Tables.{CostTable, cost}
 use Rattle.tables.specs.Checks.{costsCheck, sizeCheck}
 use Rattle.theory.specs.FarSides.{FarSide}
@@ -24,9 +24,9 @@ farSideCheck n S = refuseIf (badFarSide n S) (refusal 12 0 0 0 0)
 abbrev pub indexCheck : ℕ → ℕ → List ℕ → ℕ → Check
 indexCheck L n t S = sizeCheck n t then costsCheck L (cost t n) n then farSideCheck n S
 
--- the index, or 0 where it is negative
-abbrev pub indexAnswer : ℕ → ℕ → List ℕ → ℕ → Answer
-indexAnswer L n t S = valueIf (indexCheck L n t S) (clipped L (cost t n) n (bit S))
+-- the index, a signed number
+abbrev pub indexAnswer : ℕ → ℕ → List ℕ → ℕ → SignedAnswer
+indexAnswer L n t S = signedIf (indexCheck L n t S) (index (cost t n) n (bit S))
 
 -- the call is accepted exactly for a cost table and a far side
 pub record IndexAsked (L n : ℕ) (t : List ℕ) (S : ℕ) : Type 0 where

@@ -1,8 +1,9 @@
 // The index of a division, one image more at a time. Images are counted from 0.
-use ground::Answer;
 use ground::Check;
+use ground::SignedAnswer;
 ghost use mathlib.Core.Path.{_≡_};
 ghost use Prim.Native.Nat.{_+_, _-_, _*_, _<_, _≤_, min};
+ghost use lib.IntN.{pos, _-ℤ_};
 ghost use lib.ListN.{getD, length};
 ghost use Rattle.ground.specs.Bits.{bit};
 ghost use Rattle.theory.specs.FarSides.{FarSide};
@@ -194,23 +195,21 @@ fn check_index(n: usize, t: &[u32], s: u64) -> Check
     ground::refuse_if(is_bad_far_side(n, s), 12, 0, 0)
 }
 
-// The index, or 0 where it is negative, from the index with two limits added.
-fn clip(v: u32) -> u32
-    ensures { λ r. ⌜ r ≡ v - 2 * limit ⌝ }
+// The index itself, from the index with two limits added.
+fn signed(v: u32) -> i64
+    ensures { λ r. ⌜ r ≡ pos v -ℤ pos (2 * limit) ⌝ }
 {
-    if v < 2 * theory::LIMIT {
-        return 0;
-    }
-    v - 2 * theory::LIMIT
+    ground::gap(v, 2 * theory::LIMIT)
 }
 
-// The index of the division with the far side s, or 0 where it is negative.
-pub fn index(n: usize, t: &[u32], s: u64) -> Answer
+// The index of the division with the far side s: above 0 as far as all choices of images support it, below 0 as far as one speaks
+// against it.
+pub fn index(n: usize, t: &[u32], s: u64) -> SignedAnswer
     ensures { λ r. ⌜ r ≡ indexAnswer limit n (now (t .entry)) s ⌝ }
 {
     let c = check_index(n, t, s);
     match c {
-        Check::Refused(r) => Answer::Refused(r),
-        Check::Passed => Answer::Value(clip(shifted_index(n, t, s))),
+        Check::Refused(r) => SignedAnswer::Refused(r),
+        Check::Passed => SignedAnswer::Value(signed(shifted_index(n, t, s))),
     }
 }

@@ -36,6 +36,7 @@ use Rattle.kemotuiki.specs.Crossing.{crossed, crossedRows}
 use Rattle.kemotuiki.specs.Laws.Refusals.{by-check, by-left, by-rows, refusals}
 use Rattle.kemotuiki.specs.Refusals.{Refusals}
 use Rattle.ground.specs.declared.Answer.the-variants as answer
+use Rattle.ground.specs.declared.SignedAnswer.the-variants as signed
 use Rattle.ground.specs.declared.Written.the-variants as written
 use Rattle.compare.specs.declared.Comparison.the-variants as compared
 use Rattle.consensus.specs.declared.Shared.the-variants as shared
@@ -45,7 +46,7 @@ use Rattle.consensus.specs.declared.Shared.the-variants as shared
 pub index : (n : ℕ) (t : List ℕ) (s : ℕ) (r : KemotuikiIndex) → r ≡ ofIndex (indexAnswer limit n t s)
     → Refusals (ofTable 0 (1 ∷ 2 ∷ 4 ∷ 5 ∷ 6 ∷ 12 ∷ [])) (indexSteps limit n t s) (r .head) [] []
 index n t s r e =
-    by-check (λ (k : KemotuikiIndex). k .head) ofIndex answer.Refused (λ q. refl) (indexCheck limit n t s) _ refl refl (index-order limit n t s) e
+    by-check (λ (k : KemotuikiIndex). k .head) ofIndex signed.Refused (λ q. refl) (indexCheck limit n t s) _ refl refl (index-order limit n t s) e
     (λ q p. refl)
 
 pub order : (n : ℕ) (t : List ℕ) (first last : ℕ) (out out′ : List ℕ) (r : KemotuikiOrder)

@@ -1,7 +1,9 @@
 -- The struct of numbers for each case of an answer; those of bytes and stored tables are in Stored.antt. A refusal has no values: they are 0.
 -- Assumes nothing.
+use lib.IntN.{pos}
 use Rattle.ground.specs.declared.Answer.{Answer}
 use Rattle.ground.specs.declared.Answer.the-variants.{Value}
+use Rattle.ground.specs.declared.SignedAnswer.{SignedAnswer}
 use Rattle.ground.specs.declared.Written.{Written}
 use Rattle.ground.specs.declared.Written.the-variants.{Places}
 use Rattle.compare.specs.declared.Comparison.{Comparison}
@@ -15,14 +17,15 @@ use Rattle.numbers.specs.declared.KemotuikiOrder.{KemotuikiOrder}
 use Rattle.numbers.specs.declared.KemotuikiPath.{KemotuikiPath}
 use Rattle.numbers.specs.declared.KemotuikiRows.{KemotuikiRows}
 use Rattle.ground.specs.declared.Answer.the-variants as answer
+use Rattle.ground.specs.declared.SignedAnswer.the-variants as signed
 use Rattle.ground.specs.declared.Written.the-variants as written
 use Rattle.compare.specs.declared.Comparison.the-variants as compared
 use Rattle.consensus.specs.declared.Shared.the-variants as shared
 
--- the index
-abbrev pub ofIndex : Answer → KemotuikiIndex
-ofIndex (Value v) = record { head = accepted; index = v }
-ofIndex (answer.Refused r) = record { head = refused 0 r; index = 0 }
+-- the index, a signed number
+abbrev pub ofIndex : SignedAnswer → KemotuikiIndex
+ofIndex (signed.Value v) = record { head = accepted; «signed_index» = v }
+ofIndex (signed.Refused r) = record { head = refused 0 r; «signed_index» = pos 0 }
 
 -- the images written
 abbrev pub ofOrder : Written → KemotuikiOrder

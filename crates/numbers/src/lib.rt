@@ -6,6 +6,7 @@ use compare::Comparison;
 use consensus::Shared;
 use ground::Answer;
 use ground::Refusal;
+use ground::SignedAnswer;
 use ground::Written;
 use stored_costs::StoredCosts;
 use stored_links::StoredLinks;
@@ -26,11 +27,11 @@ pub struct KemotuikiHead {
     pub d: usize,
 }
 
-// The index of a division.
+// The index of a division, below 0 where some choice of images speaks against it.
 #[repr(C)]
 pub struct KemotuikiIndex {
     pub head: KemotuikiHead,
-    pub index: usize,
+    pub signed_index: i64,
 }
 
 // How many images were written.
@@ -126,17 +127,17 @@ fn refuse(table: usize, r: Refusal) -> KemotuikiHead
 }
 
 // The numbers of an index.
-pub fn of_index(x: Answer) -> KemotuikiIndex
+pub fn of_index(x: SignedAnswer) -> KemotuikiIndex
     ensures { λ r. ⌜ r ≡ ofIndex x ⌝ }
 {
     match x {
-        Answer::Value(v) => KemotuikiIndex {
+        SignedAnswer::Value(v) => KemotuikiIndex {
             head: accept(),
-            index: v as usize,
+            signed_index: v,
         },
-        Answer::Refused(r) => KemotuikiIndex {
+        SignedAnswer::Refused(r) => KemotuikiIndex {
             head: refuse(0, r),
-            index: 0,
+            signed_index: 0,
         },
     }
 }

@@ -6,7 +6,6 @@ ghost use mathlib.Core.List.{map};
 ghost use Prim.Native.Nat.{suc, _+_, _-_, _<_, _≤_, _^_};
 ghost use lib.Bits.{bitOr};
 ghost use lib.Dec.{ltb};
-ghost use lib.IntN.{pos, _-ℤ_};
 ghost use lib.ListN.{length, set};
 ghost use Rattle.ground.specs.Buffers.{front};
 ghost use Rattle.ground.specs.Outcomes.{Left};
@@ -15,18 +14,11 @@ ghost use Rattle.theory.specs.Tables.{limit, cost, CostTable};
 ghost use Rattle.order.specs.Outcome.{badEnds, orderChecks, orderOutcome};
 ghost use Rattle.order.specs.Next.{nextLeft, turnNext};
 
-// The signed difference of two entries.
-fn gap(x: u32, y: u32) -> i64
-    ensures { λ r. ⌜ r ≡ pos x -ℤ pos y ⌝ }
-{
-    (x as i64) - (y as i64)
-}
-
 // Whether a - b is below c - e, as signed numbers.
 fn is_less(a: u32, b: u32, c: u32, e: u32) -> bool
     ensures { λ r. ⌜ r ≡ ltb (a + e) (c + b) ⌝ }
 {
-    gap(a, b) < gap(c, e)
+    ground::gap(a, b) < ground::gap(c, e)
 }
 
 // Whether w stands before b to the left of x: d(x,w) - d(first,w) is below d(x,b) - d(first,b), or b is first, that is none yet.

@@ -10,6 +10,7 @@ pub mod OwnLinks
 pub mod Divisions
 pub mod Index
 pub mod Attained
+pub mod SignedIndex
 pub mod OneMore
 pub mod FewSteps
 -- The drawn links form one tree.

@@ -6,6 +6,7 @@ pub mod FarSides
 pub mod LinkTables
 pub mod Routes
 pub mod Index
+pub mod Choices
 pub mod Readings
 pub mod Order
 pub mod OrderRules

@@ -6,9 +6,9 @@ use case_text::calls::INDEX;
 use case_text::calls::MEASURED;
 use case_text::calls::ORDER;
 use case_text::number_at;
-use case_text::show_answer;
 use case_text::show_first;
 use case_text::show_next;
+use case_text::show_signed_answer;
 use case_text::show_table_refusal;
 use case_text::show_written;
 use case_text::show8;
@@ -22,7 +22,7 @@ use counts::Difference;
 
 fn index_case(n: usize, t: &[u32], text: &[u8], at: usize) -> usize {
     let s = number_at(text, at);
-    show_answer(index::index(n, t, s.value));
+    show_signed_answer(index::index(n, t, s.value));
     s.next
 }
 

@@ -1,5 +1,8 @@
--- `numbers::of_index` meets its contract: the index, or the refusal. Assumes nothing.
+-- `numbers::of_index` meets its contract: the index, which is read back from its bits as it was, or the refusal. Assumes nothing.
+use mathlib.Core.Path.{ap}
 use borrow.Author.Needs.{needs}
+use Rattle.ground.specs.declared.SignedAnswer.the-variants.{Value}
+use Rattle.numbers.specs.Numbers.{ofIndex}
 use Rattle.numbers.proofs.of_index.Statement.{statement}
 use Rattle.numbers.proofs.of_index.Tie as tie
 
@@ -9,9 +12,6 @@ enum-known-x c = search needs
 accept-requires : tie.Need-accept-requires
 accept-requires c κs = search needs
 
-cast-t6 : tie.Need-cast-t6
-cast-t6 c = search needs
-
 enum-known-x-2 : tie.Need-enum-known-x-2
 enum-known-x-2 c = search needs
 
@@ -19,7 +19,7 @@ refuse-requires : tie.Need-refuse-requires
 refuse-requires c κs = search needs
 
 returns : tie.Need-returns
-returns c = rw (c .accept .ensures, c .before .before .x .given .1)
+returns c = rw (c .accept .ensures, c .before .before .x .given .1) (ap (λ v. ofIndex (Value v)) (search needs))
 
 returns-2 : tie.Need-returns-2
 returns-2 c = rw (c .refuse .ensures, c .before .before .x2 .given .1)
@@ -30,7 +30,6 @@ of-index-spec =
     (tie.spec
     enum-known-x
     accept-requires
-    cast-t6
     enum-known-x-2
     refuse-requires
     returns

@@ -10,6 +10,7 @@ use borrow.Author.Tests.{ne-eqb}
 use Rattle.ground.specs.declared.Answer.{Answer}
 use Rattle.ground.specs.declared.Answer.the-variants.{Value}
 use Rattle.ground.specs.declared.Refusal.{Refusal}
+use Rattle.ground.specs.declared.SignedAnswer.{SignedAnswer}
 use Rattle.ground.specs.declared.Written.{Written}
 use Rattle.ground.specs.declared.Written.the-variants.{Places}
 use Rattle.compare.specs.declared.Comparison.{Comparison}
@@ -26,6 +27,7 @@ use Rattle.numbers.specs.declared.KemotuikiOrder.{KemotuikiOrder}
 use Rattle.numbers.specs.declared.KemotuikiPath.{KemotuikiPath}
 use Rattle.numbers.specs.declared.KemotuikiRows.{KemotuikiRows}
 use Rattle.ground.specs.declared.Answer.the-variants as answer
+use Rattle.ground.specs.declared.SignedAnswer.the-variants as signed
 use Rattle.ground.specs.declared.Written.the-variants as written
 use Rattle.compare.specs.declared.Comparison.the-variants as compared
 use Rattle.consensus.specs.declared.Shared.the-variants as shared
@@ -62,12 +64,12 @@ module _ {A K : Type 0} (head : K → KemotuikiHead) (numbers : A → K) (refuse
 
 -- ## Each kind of answer
 
-pub index-kept : Kept (λ (k : KemotuikiIndex). k .head) ofIndex (λ m. answer.Refused)
-index-kept = kept _ ofIndex (λ m. answer.Refused) (λ k. Value (k .index)) (λ m q. refl) each
+pub index-kept : Kept (λ (k : KemotuikiIndex). k .head) ofIndex (λ m. signed.Refused)
+index-kept = kept _ ofIndex (λ m. signed.Refused) (λ k. signed.Value (k .«signed_index»)) (λ m q. refl) each
   where
-    each : (x : Answer) → ReadBack (λ (k : KemotuikiIndex). k .head) ofIndex (λ m. answer.Refused) (λ k. Value (k .index)) x
-    each (Value v) = inr (refl, refl)
-    each (answer.Refused q) = inl (0, q, refl, refl)
+    each : (x : SignedAnswer) → ReadBack (λ (k : KemotuikiIndex). k .head) ofIndex (λ m. signed.Refused) (λ k. signed.Value (k .«signed_index»)) x
+    each (signed.Value v) = inr (refl, refl)
+    each (signed.Refused q) = inl (0, q, refl, refl)
 
 pub order-kept : Kept (λ (k : KemotuikiOrder). k .head) ofOrder (λ m. written.Refused)
 order-kept = kept _ ofOrder (λ m. written.Refused) (λ k. Places (k .images)) (λ m q. refl) each

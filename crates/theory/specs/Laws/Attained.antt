@@ -9,6 +9,7 @@ use borrow.Author.Tests.{leb-false, leb-true}
 use borrow.Table.Steps.{cases}
 use Rattle.ground.specs.Least.{On, leastOn}
 use Rattle.ground.specs.Laws.Least.{le-leastOn, leastOn-at, leastOn-cap, leastOn-le}
+use Rattle.theory.specs.Choices.{Choice}
 use Rattle.theory.specs.Index.{gain, shifted}
 use Rattle.theory.specs.Laws.Index.{le-shifted, shifted-cap, shifted-le}
 use Rattle.theory.specs.Tables.{WellFormed}
@@ -17,21 +18,11 @@ module _ (L : ℕ) (d : ℕ → ℕ → ℕ) (n : ℕ) (c : WellFormed L d n) wh
   pub gain-whole : {a a′ b b′ : ℕ} → a < n → a′ < n → b < n → b′ < n → gain L d a a′ b b′ + d a a′ + d b b′ ≡ 2 * L + min (d a b + d a′ b′) (d a b′ + d a′ b)
   gain-whole ha ha′ hb hb′ = omega (arith, c .small ha ha′, c .small hb hb′)
 
-  gain-cap : {a a′ b b′ : ℕ} → a < n → a′ < n → b < n → b′ < n → gain L d a a′ b b′ ≤ 4 * L
+  pub gain-cap : {a a′ b b′ : ℕ} → a < n → a′ < n → b < n → b′ < n → gain L d a a′ b b′ ≤ 4 * L
   gain-cap ha ha′ hb hb′ = omega (arith, c .small ha hb, c .small ha′ hb′)
 
-  pub record Attained (s : ℕ → ℕ) : Type 0 where
-    pub a : ℕ
-    pub a′ : ℕ
-    pub b : ℕ
-    pub b′ : ℕ
-    pub on-a : On n s 0 a
-    pub on-a′ : On n s 0 a′
-    pub on-b : On n s 1 b
-    pub on-b′ : On n s 1 b′
-    pub least : shifted L d n s ≡ gain L d a a′ b b′
-
-  pub shifted-at : (s : ℕ → ℕ) {x y : ℕ} → On n s 0 x → On n s 1 y → Attained s
+  -- some choice of images has the least value
+  pub shifted-at : (s : ℕ → ℕ) {x y : ℕ} → On n s 0 x → On n s 1 y → (q : Choice n s) × (shifted L d n s ≡ gain L d (q .a) (q .a′) (q .b) (q .b′))
   unfolding shifted
   shifted-at s {x} {y} hx hy =
       let p = leastOn-at s 0 (4 * L)
@@ -39,8 +30,10 @@ module _ (L : ℕ) (d : ℕ → ℕ → ℕ) (n : ℕ) (c : WellFormed L d n) wh
       let q = leastOn-at s 0 (4 * L) (λ a′. leastOn n s 1 (4 * L) (λ b. leastOn n s 1 (4 * L) (λ b′. gain L d (p .0) a′ b b′))) n x hx
       (leastOn-cap s 1 (4 * L) _ n) in
       let r = leastOn-at s 1 (4 * L) (λ b. leastOn n s 1 (4 * L) (λ b′. gain L d (p .0) (q .0) b b′)) n y hy (leastOn-cap s 1 (4 * L) _ n) in
-      let t = leastOn-at s 1 (4 * L) (λ b′. gain L d (p .0) (q .0) (r .0) b′) n y hy (gain-cap (p .1 .0) (q .1 .0) (r .1 .0) (hy .0)) in
-      record { a = p .0; a′ = q .0; b = r .0; b′ = t .0; on-a = p .1; on-a′ = q .1; on-b = r .1; on-b′ = t .1; least = p .2 ∙ q .2 ∙ r .2 ∙ t .2 }
+      let t = leastOn-at s 1 (4 * L) (λ b′. gain L d (p .0) (q .0) (r .0) b′) n y hy (gain-cap (p .1 .0) (q .1 .0) (r .1 .0) (hy .0)) in (
+        record { a = p .0; a′ = q .0; b = r .0; b′ = t .0; on-a = p .1; on-a′ = q .1; on-b = r .1; on-b′ = t .1 },
+        p .2 ∙ q .2 ∙ r .2 ∙ t .2,
+      )
 
   -- I1. One pairing is enough.
   abbrev pub single : ℕ → ℕ → ℕ → ℕ → ℕ

@@ -74,6 +74,10 @@ map-fars : (L : ℕ) (d : ℕ → ℕ → ℕ) (n : ℕ) (l : List ℕ) → fars
 map-fars L d n [] = refl
 map-fars L d n (x ∷ l) = ap (λ r. x ∷ r) (map-fars L d n l)
 
+-- what stands in the reading is drawn
+pub fars-drawn : (L : ℕ) (d : ℕ → ℕ → ℕ) (n : ℕ) → WellFormed L d n → (S : ℕ) → List·Memᴰ S (fars (measured L d n)) → drawn L d n S ≡ true
+fars-drawn L d n c S m = rows-far L d n c S (rw (map-fars L d n (rows L d n)) at m) .0
+
 pub fars-measured : (L : ℕ) (d : ℕ → ℕ → ℕ) (n : ℕ) → fars (measured L d n) ≡ rows L d n
 fars-measured L d n = map-fars L d n (rows L d n)
 

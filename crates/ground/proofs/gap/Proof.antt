@@ -1,13 +1,13 @@
--- `order::gap` meets its contract: the difference of two entries fits, also below zero. Assumes nothing.
+-- `ground::gap` meets its contract: the difference fits, also below zero. Assumes nothing.
 use Prim.Native.Nat.{_<_, _^_}
 use native.Mathlib.Omega.{arith}
 use lib.IntN.{pos, _-ℤ_}
 use mir.Facts.{toZ-ofZ, toZ-pos}
 use mir.Syntax.{w64}
 use borrow.Author.Needs.{needs}
-use Rattle.order.specs.Laws.Gap.{gap-small}
-use Rattle.order.proofs.gap.Statement.{statement}
-use Rattle.order.proofs.gap.Tie as tie
+use Rattle.ground.specs.Laws.Signed.{gap-small}
+use Rattle.ground.proofs.gap.Statement.{statement}
+use Rattle.ground.proofs.gap.Tie as tie
 
 cast-result : tie.Need-cast-result
 cast-result c = search needs

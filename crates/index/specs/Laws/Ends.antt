@@ -1,0 +1,74 @@
+-- Where the index ends, by the index with two limits added. Assumes nothing.
+use mathlib.Core.Bool.{false, true}
+use mathlib.Core.Logic.{inl, inr, _⊎_}
+use mathlib.Core.Path.{ap, subst, _≡_}
+use Prim.Native.Nat.{ℕ, _*_, _+_, _<_, _≤_}
+use native.Mathlib.Omega.{arith}
+use lib.Count.{ones}
+use lib.Dec.{eqb, leb, ltb}
+use lib.IntN.{+ℤ-idr, negℤ, pos, _-ℤ_}
+use lib.Signed.{clashℤ, _<ℤ_, _≤ℤ_}
+use borrow.Author.Tests.{eqb-false, eqb-true, leb-true, ltb-false, ltb-true}
+use borrow.Table.Steps.{cases}
+use Rattle.ground.specs.Bits.{bit}
+use Rattle.ground.specs.Least.{On}
+use Rattle.ground.specs.Laws.Ones.{ones-in-two, ones-out-two}
+use Rattle.ground.specs.Laws.Signed.{below-zero, le-signed}
+use Rattle.ground.specs.Laws.Tests.{and-l, and-r}
+use Rattle.theory.specs.FarSides.{FarSide, inner}
+use Rattle.theory.specs.Index.{gain, index, shifted}
+use Rattle.theory.specs.Laws.Index.{le-shifted, shifted-cap}
+use Rattle.theory.specs.Laws.OwnLinks.{not-inner-ones}
+use Rattle.theory.specs.Laws.SignedIndex.{far-shifted}
+use Rattle.theory.specs.Tables.{WellFormed}
+use Rattle.index.specs.Ends.{Ends}
+
+-- a group of one image: two of it are the same
+one-far : (n S : ℕ) → ones S ≡ 1 → {b b′ : ℕ} → On n (bit S) 1 b → On n (bit S) 1 b′ → b ≡ b′
+one-far n S e {b} {b′} h h′ =
+    cases (ltb b b′) (λ t. omega (arith, ones-in-two b b′ S (ltb-true b b′ t) (h .1) (h′ .1)))
+    (λ t. cases (ltb b′ b) (λ u. omega (arith, ones-in-two b′ b S (ltb-true b′ b u) (h′ .1) (h .1)))
+    (λ u. omega (arith, ltb-false b b′ t, ltb-false b′ b u)))
+
+one-near : (n S : ℕ) → FarSide n S → ones S + 1 ≡ n → {a a′ : ℕ} → On n (bit S) 0 a → On n (bit S) 0 a′ → a ≡ a′
+one-near n S f e {a} {a′} h h′ =
+    cases (ltb a a′) (λ t. omega (arith, ones-out-two n a a′ S (f .fits) (ltb-true a a′ t) (h′ .0) (h .1) (h′ .1)))
+    (λ t. cases (ltb a′ a) (λ u. omega (arith, ones-out-two n a′ a S (f .fits) (ltb-true a′ a u) (h .0) (h′ .1) (h .1)))
+    (λ u. omega (arith, ltb-false a a′ t, ltb-false a′ a u)))
+
+module _ (L : ℕ) (d : ℕ → ℕ → ℕ) (n : ℕ) (c : WellFormed L d n) (S : ℕ) (f : FarSide n S) where
+  abbrev sh : ℕ
+  sh = shifted L d n (bit S)
+
+  -- one of the two groups has one image, which costs nothing to itself
+  own-low : inner n S ≡ false → L ≤ sh
+  own-low o = le-shifted L d n (bit S) L (omega arith) (λ a a′ b b′ ha ha′ hb hb′. go ha ha′ hb hb′ (not-inner-ones n S f o))
+    where
+      go : {a a′ b b′ : ℕ} → On n (bit S) 0 a → On n (bit S) 0 a′ → On n (bit S) 1 b → On n (bit S) 1 b′ → (ones S ≡ 1) ⊎ (ones S + 1 ≡ n)
+          → L ≤ gain L d a a′ b b′
+      go {a} {a′} {b} {b′} ha ha′ hb hb′ (inl e) =
+          omega (arith, ap (d b) (one-far n S e hb hb′), c .self (hb .0), c .small (ha .0) (ha′ .0))
+      go {a} {a′} {b} {b′} ha ha′ hb hb′ (inr e) =
+          omega (arith, ap (d a) (one-near n S f e ha ha′), c .self (ha .0), c .small (hb .0) (hb′ .0))
+
+  own-end : inner n S ≡ false → negℤ (pos L) ≤ℤ index d n (bit S)
+  own-end o = rw (below-zero L, far-shifted L d n c S f) (le-signed 0 L sh (2 * L) .1 (omega (arith, own-low o)))
+
+  four-images : index d n (bit S) <ℤ negℤ (pos L) → 4 ≤ n
+  four-images h =
+      cases (inner n S)
+      (λ i. omega (
+        arith,
+        leb-true 2 (ones S) (and-l (leb 2 (ones S)) (leb (ones S + 2) n) i),
+        leb-true (ones S + 2) n (and-r (leb 2 (ones S)) (leb (ones S + 2) n) i),
+      ))
+      (λ o. clashℤ h (own-end o))
+
+  pub ends : Ends L n S (index d n (bit S))
+  ends = record {
+    top = rw (far-shifted L d n c S f) (subst (λ z. (pos sh -ℤ pos (2 * L)) ≤ℤ z) (+ℤ-idr (pos (2 * L)))
+        (le-signed sh (2 * L) (2 * L) 0 .1 (omega (arith, shifted-cap L d n (bit S)))));
+    bottom = rw (below-zero (2 * L), far-shifted L d n c S f) (le-signed 0 (2 * L) sh (2 * L) .1 (omega arith));
+    own = own-end;
+    four = four-images;
+  }
