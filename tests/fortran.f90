@@ -164,6 +164,7 @@ contains
 
     ! ---- its answer ----
 
+    ! A number without a sign.
     subroutine put_number(bits)
         integer(int64), intent(in) :: bits
         integer(int64) :: half
@@ -204,7 +205,7 @@ contains
         write (answers, '(i0)', advance='no') r%number
         if (r%accepted()) then
             do k = 1, size(values)
-                call put_number(values(k))
+                write (answers, '(1x, i0)', advance='no') values(k)
             end do
             if (any(places /= 0)) call fault('places beside an accepted answer')
         else
