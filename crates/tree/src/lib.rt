@@ -16,7 +16,7 @@ ghost use Rattle.tree.specs.Putting.{loweredIn, Given, PutAll, PutRoom};
 ghost use Rattle.tree.specs.Readings.{short, outputsRoomCheck, measuredCheck, exactCheck, measuredOutcome, exactOutcome};
 ghost use Rattle.tree.specs.Writing.{RowsWritten};
 
-// The cost c, lowered by the value w, from which two limits are taken off.
+// The cost c, lowered by the value w, from which two limits are taken off; below them it is 0 and nothing is taken off.
 fn cost_more(c: u32, w: u32) -> u32
     ensures { λ r. ⌜ r ≡ min c (w - 2 * limit) ⌝ }
 {
