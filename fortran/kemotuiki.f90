@@ -274,7 +274,8 @@ contains
 
     ! ---- the calls on cost tables ----
 
-    ! The index of the division of t with the far side s, below 0 by how far some choice of images speaks against it.
+    ! The index of the division of t with the far side s, below 0 by how far some choice of images speaks against it: from -2,000,000 to
+    ! 2,000,000.
     function index_int64(t, s) result(r)
         integer(int32), intent(in), contiguous :: t(:, :)
         integer(int64), intent(in) :: s

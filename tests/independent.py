@@ -1222,6 +1222,19 @@ def test_demand_3(dice):
                     assert path_of(drawn, i, j) <= 2 * other[(i - 1) * n + j - 1]
 
 
+def test_moved_index(dice):
+    """The index of no division, a negative one neither, moves by more than 4D."""
+    for n in (3, 4, 5, 6, 9, 12):
+        for _ in range(30):
+            t = random_table(dice, n, dice.one_of([3, 50, MOST_ENTRY]))
+            moved = noisy(dice, n, t, dice.one_of([1, 2, 30]))
+            distance = max(abs(a - b) for a, b in zip(t, moved))
+            for _ in range(4):
+                far = 2 * dice.between(1, 2 ** (n - 1) - 1)
+                before, after = index(n, t, far)[1], index(n, moved, far)[1]
+                assert abs(before - after) <= 4 * distance
+
+
 def test_comparison(dice):
     """The count is the inner far sides in exactly one table, and not always 2n-6
     less twice the common ones. Over the inner far sides of both it is never above 1,
@@ -1486,7 +1499,7 @@ def self_test():
         (test_stored_forms, (dice,)), (test_choice, (dice,)), (test_sixty_four, (dice,)),
         (test_reader_on_a, ()), (test_reader, (dice,)), (test_consensus_examples, ()),
         (test_consensus_refusals, (dice,)), (test_consensus, (dice,)), (test_far_end, (dice,)),
-        (test_ends_of_the_index, ()),
+        (test_ends_of_the_index, ()), (test_moved_index, (dice,)),
     ]
     for test, arguments in tests:
         test(*arguments)

@@ -154,7 +154,7 @@ fn below_zero(x: i64) -> u64
 }
 
 // Prints a signed number of a line behind others.
-pub fn show_next_signed(x: i64) {
+fn show_next_signed(x: i64) {
     if x < 0 {
         io::write_all(STDOUT_FILENO, b" -");
         io::print_decimal(STDOUT_FILENO, below_zero(x));

@@ -5,7 +5,7 @@ use mathlib.Core.Logic.{_↔_}
 use mathlib.Core.Path.{_≡_}
 use Prim.Native.Nat.{ℕ, _<_, _≤_}
 use lib.IntN.{negℤ, pos, ℤ}
-use lib.Signed.{_<ℤ_}
+use lib.Signed.{_<ℤ_, _≤ℤ_}
 use Rattle.ground.specs.Bits.{bit}
 use Rattle.ground.specs.Signed.{clip}
 use Rattle.theory.specs.Choices.{Against, Choice, Supports}
@@ -22,8 +22,10 @@ pub record AtZero (L : ℕ) (d : ℕ → ℕ → ℕ) (n S : ℕ) (v : ℤ) : Ty
   -- and by that much: at -m some choice speaks against it by m, and none by more
   pub against : (m : ℕ) → v ≡ negℤ (pos m) → (q : Choice n (bit S)) × Against d q m
   pub most : (m : ℕ) → v ≡ negℤ (pos m) → (q : Choice n (bit S)) (k : ℕ) → Against d q k → k ≤ m
-  -- at 0 no inner link is drawn, and an own link is drawn with cost 0
-  pub inner-zero : v ≡ pos 0 → inner n S ≡ true → List·Memᴰ S (fars (measured L d n)) → ⊥
-  pub own-zero : v ≡ pos 0 → inner n S ≡ false → List·Memᴰ (S, 0) (measured L d n)
-  -- the measured reading gives the division its index, or 0 where that is negative
+  -- above 0 the link is drawn with the index as its doubled cost
+  pub drawn : (m : ℕ) → 0 < m → v ≡ pos m → List·Memᴰ (S, m) (measured L d n)
+  -- at 0 and below no inner link is drawn, and an own link is drawn with cost 0
+  pub inner-none : v ≤ℤ pos 0 → inner n S ≡ true → List·Memᴰ S (fars (measured L d n)) → ⊥
+  pub own-zero : v ≤ℤ pos 0 → inner n S ≡ false → List·Memᴰ (S, 0) (measured L d n)
+  -- so the measured reading gives the division its index, or 0 where that is negative
   pub clipped : costOf (measured L d n) S ≡ clip v

@@ -7,3 +7,4 @@ pub mod Grown
 pub mod Value
 pub mod AtZero
 pub mod Ends
+pub mod Moved

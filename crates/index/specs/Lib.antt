@@ -1,11 +1,12 @@
 -- What the contracts of `index` cite: the answer of the call, and the lists that its loops go over.
 pub mod Call
 pub mod Sides
--- What the promise is worth: what the index is, what its sign says, and where it ends.
+-- What the promise is worth: what the index is, what its sign says, where it ends, and how far it moves.
 pub mod IndexIs
 pub mod AtZero
 pub mod Ends
 pub mod Promises
+pub mod Moved
 pub mod Examples
 -- Its checks by their numbers, in order.
 pub mod InOrder

@@ -6,7 +6,7 @@ use Prim.Native.Nat.{min, suc, zero, ℕ, _+_, _-_, _<_, _^_, _≤_}
 use native.Mathlib.Nat.{le-antisymm}
 use native.Mathlib.Omega.{arith}
 use lib.Dec.{T, leb→le, ltb, ltb→lt}
-use lib.IntN.{+ℤ-assoc, +ℤ-idl, negsuc, negℤ, negℤ-+ℤ, pos, subℕ, ℤ, _+ℤ_, _-ℤ_}
+use lib.IntN.{+ℤ-assoc, +ℤ-comm, +ℤ-idl, negsuc, negℤ, negℤ-+ℤ, pos, subℕ, ℤ, _+ℤ_, _-ℤ_}
 use lib.Signed.{clashℤ, ltZ, ltZ-no, ltZ-yes, mag, nonNeg, _<ℤ_, _≤ℤ_}
 use borrow.Author.Tests.{le-ltb, lt-ltb, ltb-false, ltb-true}
 use borrow.Table.Steps.{cases}
@@ -73,6 +73,11 @@ same-signed a b c e = (λ h. back (sym (minus a b) ∙ h ∙ minus c e), λ h. m
 -- taken off one after the other, or both at once
 pub minus-twice : (m x y : ℕ) → pos m -ℤ pos x -ℤ pos y ≡ pos m -ℤ pos (x + y)
 minus-twice m x y = +ℤ-assoc (pos m) (negℤ (pos x)) (negℤ (pos y)) ∙ ap (λ z. pos m +ℤ z) (sym (negℤ-+ℤ (pos x) (pos y)))
+
+-- a number more
+pub plus-signed : (a b m : ℕ) → (pos a -ℤ pos b) +ℤ pos m ≡ pos (a + m) -ℤ pos b
+plus-signed a b m =
+    +ℤ-assoc (pos a) (negℤ (pos b)) (pos m) ∙ ap (λ z. pos a +ℤ z) (+ℤ-comm (negℤ (pos b)) (pos m)) ∙ sym (+ℤ-assoc (pos a) (pos m) (negℤ (pos b)))
 
 -- a negative number as a difference
 pub below-zero : (m : ℕ) → negℤ (pos m) ≡ pos 0 -ℤ pos m

@@ -1,5 +1,4 @@
 -- The least of signed values over a group is the least of natural ones with a number taken off. Assumes nothing.
-use mathlib.Core.Bool.{true}
 use mathlib.Core.List.{List, [], _∷_}
 use mathlib.Core.Logic.{inl, inr, _⊎_}
 use mathlib.Core.Path.{ap₂, refl, _∙_, _≡_}
@@ -9,9 +8,8 @@ use lib.Dec.{eqb}
 use lib.IntN.{pos, ℤ, _-ℤ_}
 use borrow.Author.Tests.{eqb-false, eqb-true}
 use borrow.Table.Steps.{cases}
-use Rattle.ground.specs.Filters.{keep}
 use Rattle.ground.specs.Laws.Signed.{min-signed}
-use Rattle.ground.specs.Least.{On, leastOn, lowerIf}
+use Rattle.ground.specs.Least.{On, leastOn}
 use Rattle.ground.specs.Signed.{group, leastZ, minZ}
 
 -- f is h with c taken off, and h is at most the cap

@@ -1,14 +1,14 @@
 -- Where the index ends, by the index with two limits added. Assumes nothing.
-use mathlib.Core.Bool.{false, true}
+use mathlib.Core.Bool.{false}
 use mathlib.Core.Logic.{inl, inr, _⊎_}
 use mathlib.Core.Path.{ap, subst, _≡_}
-use Prim.Native.Nat.{ℕ, _*_, _+_, _<_, _≤_}
+use Prim.Native.Nat.{ℕ, _*_, _+_, _≤_}
 use native.Mathlib.Omega.{arith}
 use lib.Count.{ones}
-use lib.Dec.{eqb, leb, ltb}
+use lib.Dec.{leb, ltb}
 use lib.IntN.{+ℤ-idr, negℤ, pos, _-ℤ_}
 use lib.Signed.{clashℤ, _<ℤ_, _≤ℤ_}
-use borrow.Author.Tests.{eqb-false, eqb-true, leb-true, ltb-false, ltb-true}
+use borrow.Author.Tests.{leb-true, ltb-false, ltb-true}
 use borrow.Table.Steps.{cases}
 use Rattle.ground.specs.Bits.{bit}
 use Rattle.ground.specs.Least.{On}
@@ -37,11 +37,12 @@ one-near n S f e {a} {a′} h h′ =
     (λ u. omega (arith, ltb-false a a′ t, ltb-false a′ a u)))
 
 module _ (L : ℕ) (d : ℕ → ℕ → ℕ) (n : ℕ) (c : WellFormed L d n) (S : ℕ) (f : FarSide n S) where
-  abbrev sh : ℕ
-  sh = shifted L d n (bit S)
+  -- the index with two limits added
+  abbrev raised : ℕ
+  raised = shifted L d n (bit S)
 
   -- one of the two groups has one image, which costs nothing to itself
-  own-low : inner n S ≡ false → L ≤ sh
+  own-low : inner n S ≡ false → L ≤ raised
   own-low o = le-shifted L d n (bit S) L (omega arith) (λ a a′ b b′ ha ha′ hb hb′. go ha ha′ hb hb′ (not-inner-ones n S f o))
     where
       go : {a a′ b b′ : ℕ} → On n (bit S) 0 a → On n (bit S) 0 a′ → On n (bit S) 1 b → On n (bit S) 1 b′ → (ones S ≡ 1) ⊎ (ones S + 1 ≡ n)
@@ -52,7 +53,7 @@ module _ (L : ℕ) (d : ℕ → ℕ → ℕ) (n : ℕ) (c : WellFormed L d n) (S
           omega (arith, ap (d a) (one-near n S f e ha ha′), c .self (ha .0), c .small (hb .0) (hb′ .0))
 
   own-end : inner n S ≡ false → negℤ (pos L) ≤ℤ index d n (bit S)
-  own-end o = rw (below-zero L, far-shifted L d n c S f) (le-signed 0 L sh (2 * L) .1 (omega (arith, own-low o)))
+  own-end o = rw (below-zero L, far-shifted L d n c S f) (le-signed 0 L raised (2 * L) .1 (omega (arith, own-low o)))
 
   four-images : index d n (bit S) <ℤ negℤ (pos L) → 4 ≤ n
   four-images h =
@@ -66,9 +67,9 @@ module _ (L : ℕ) (d : ℕ → ℕ → ℕ) (n : ℕ) (c : WellFormed L d n) (S
 
   pub ends : Ends L n S (index d n (bit S))
   ends = record {
-    top = rw (far-shifted L d n c S f) (subst (λ z. (pos sh -ℤ pos (2 * L)) ≤ℤ z) (+ℤ-idr (pos (2 * L)))
-        (le-signed sh (2 * L) (2 * L) 0 .1 (omega (arith, shifted-cap L d n (bit S)))));
-    bottom = rw (below-zero (2 * L), far-shifted L d n c S f) (le-signed 0 (2 * L) sh (2 * L) .1 (omega arith));
+    top = rw (far-shifted L d n c S f) (subst (λ z. (pos raised -ℤ pos (2 * L)) ≤ℤ z) (+ℤ-idr (pos (2 * L)))
+        (le-signed raised (2 * L) (2 * L) 0 .1 (omega (arith, shifted-cap L d n (bit S)))));
+    bottom = rw (below-zero (2 * L), far-shifted L d n c S f) (le-signed 0 (2 * L) raised (2 * L) .1 (omega arith));
     own = own-end;
     four = four-images;
   }

@@ -1,7 +1,7 @@
 -- The signed index and the one with two limits added are one number: the least value is attained, and every other is no less.
 -- Assumes nothing.
 use mathlib.Core.Path.{ap, sym, _∙_, _≡_}
-use Prim.Native.Nat.{min, ℕ, _*_, _+_, _-_, _<_, _≤_}
+use Prim.Native.Nat.{min, ℕ, _*_, _+_, _<_}
 use native.Mathlib.Omega.{arith}
 use lib.IntN.{pos, _-ℤ_}
 use Rattle.ground.specs.Bits.{bit}

@@ -26,7 +26,7 @@ use Rattle.theory.specs.LinkTables.{Row, costOf}
 use Rattle.theory.specs.Readings.{Exact, Near, drawn, measured, row, rows}
 use Rattle.theory.specs.Tables.{WellFormed}
 
-near-sym : (D : ℕ) (d e : ℕ → ℕ → ℕ) (n : ℕ) → Near D d e n → Near D e d n
+pub near-sym : (D : ℕ) (d e : ℕ → ℕ → ℕ) (n : ℕ) → Near D d e n → Near D e d n
 near-sym D d e n p = record { up = λ hi hj. p .down hi hj; down = λ hi hj. p .up hi hj }
 
 -- D1.
