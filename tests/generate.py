@@ -41,6 +41,9 @@ LARGEST_TOTAL = 4000000
 FEWEST_CASES = 2500
 FEWEST_OF_EACH_REFUSAL = 8
 
+# With so many images the index is negative, 0 and positive in some cases each.
+EVERY_SIGN = (3, 4, 5, 9, 17, 33, 64)
+
 # Each call: its function; its arguments, a single number of 64 bits as n and a
 # slice by the bits of its elements, a lent output with a star; the refusal
 # numbers it can give.
@@ -286,7 +289,7 @@ def signed_index_cases(dice):
     """An index below 0, 0 and above it, and at its ends, for few images and for many. By
     two_groups it is 2 across - 2 inside, and 2 across - inside for an own link; an own link
     stops at minus the limit."""
-    for n in (3, 4, 5, 9, 17, 33, 64):
+    for n in EVERY_SIGN:
         owns = [own_link(n, 1), own_link(n, dice.between(2, n))]
         inners = [2 ** (n - 1) + 2 ** dice.between(1, n - 2), 2 ** n - 4] if n > 3 else []
         for s in owns + inners if n < 10 else owns[1:] + inners[:1]:
@@ -1559,7 +1562,7 @@ def listing_answer(texts):
 
 def make():
     """All files by name, and what was made of each call."""
-    files, report, answers = {}, [], []
+    files, report, answers, signs = {}, [], [], set()
     for seed, name in enumerate(CALLS, 1):
         inputs, seen, refusals, behind, by_table = [], set(), {}, {}, set()
         answers.append(name)
@@ -1578,6 +1581,8 @@ def make():
             if name in TWICE and answer[0] == 0:
                 second = answer[TWICE[name] + 1]
                 behind[second] = behind.get(second, 0) + 1
+            if name == "index" and answer[0] == 0:
+                signs.add((arguments[0], (answer[1] > 0) - (answer[1] < 0)))
             if name in OVER_SEVERAL_TABLES and answer[0] != 0:
                 by_table.add(answer[:2])
         for number in CALLS[name][2]:
@@ -1589,6 +1594,7 @@ def make():
             assert table == 0 or {(number, 1), (number, 2)} <= by_table, (name, number, table)
         files["crates/cases/data/%s.txt" % name] = "".join(line + "\n" for line in inputs).encode()
         report.append((name, len(inputs), refusals))
+    assert signs >= {(n, sign) for n in EVERY_SIGN for sign in (-1, 0, 1)}, signs
     assert max(map(len, files.values())) <= LARGEST_FILE, {f: len(t) for f, t in files.items()}
     files["crates/cases/stdout"] = "".join(line + "\n" for line in answers).encode()
     assert len(files["crates/cases/stdout"]) <= LARGEST_ANSWERS, len(files["crates/cases/stdout"])
