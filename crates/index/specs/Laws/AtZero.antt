@@ -3,7 +3,7 @@ use mathlib.Core.Bool.{false, false≢true, true}
 use mathlib.Core.List.{List·Memᴰ}
 use mathlib.Core.Logic.{inl, inr, _⊎_}
 use mathlib.Core.Path.{ap, sym, _∙_, _≡_}
-use Prim.Native.Nat.{ℕ, _*_, _+_, _-_, _<_}
+use Prim.Native.Nat.{ℕ, _*_, _+_, _-_, _<_, _≤_}
 use native.Mathlib.Omega.{arith}
 use lib.IntN.{negℤ, pos, ℤ, _-ℤ_}
 use lib.Signed.{_<ℤ_, _≤ℤ_}
@@ -20,7 +20,7 @@ use Rattle.theory.specs.Laws.Stable.{measured-cost}
 use Rattle.theory.specs.LinkTables.{fars}
 use Rattle.theory.specs.Readings.{drawn, measured, row}
 use Rattle.theory.specs.Tables.{WellFormed}
-use Rattle.index.specs.AtZero.{AtZero}
+use Rattle.index.specs.AtZero.{AtZero, MostAgainst}
 use Rattle.index.specs.Laws.Value.{balance, least-gain, some-gain}
 
 module _ (L : ℕ) (d : ℕ → ℕ → ℕ) (n : ℕ) (c : WellFormed L d n) (S : ℕ) (f : FarSide n S) where
@@ -51,8 +51,22 @@ module _ (L : ℕ) (d : ℕ → ℕ → ℕ) (n : ℕ) (c : WellFormed L d n) (S
   spoken : (m : ℕ) → 0 < m → (q : Choice n (bit S)) → Against d q m → index d n (bit S) <ℤ pos 0
   spoken m h q e = rw signed (lt-signed raised (2 * L) 0 0 .1 (omega (arith, least-gain L d q, balance L d q c)))
 
-  by-so-much : (m : ℕ) → index d n (bit S) ≡ negℤ (pos m) → (q : Choice n (bit S)) × Against d q m
-  by-so-much m e = let s = some-gain L d n c S f in (s .0, omega (arith, minus m e, s .1, balance L d (s .0) c))
+  by-so-much : (m : ℕ) → index d n (bit S) ≡ negℤ (pos m) → MostAgainst d n S m
+  by-so-much m e =
+      let s = some-gain L d n c S f in
+      let r = minus m e in
+      record {
+        choice = (s .0, omega (arith, s .1, balance L d (s .0) c));
+        most = λ q k g. omega (arith, least-gain L d q, balance L d q c);
+      }
+
+  just-so-much : (m : ℕ) → MostAgainst d n S m → index d n (bit S) ≡ negℤ (pos m)
+  just-so-much m g =
+      let s = some-gain L d n c S f in
+      let q = g .choice .0 in
+      let low : raised + m ≤ 2 * L = omega (arith, g .choice .1, least-gain L d q, balance L d q c) in
+      let up = g .most (s .0) (2 * L - raised) (omega (arith, s .1, balance L d (s .0) c)) in
+      signed ∙ same-signed raised (2 * L) 0 m .1 (omega arith) ∙ sym (below-zero m)
 
   none : index d n (bit S) ≤ℤ pos 0 → clipped L d n (bit S) ≡ 0
   none h = omega (arith, le-signed raised (2 * L) 0 0 .0 (rw signed at h))
@@ -76,8 +90,7 @@ module _ (L : ℕ) (d : ℕ → ℕ → ℕ) (n : ℕ) (c : WellFormed L d n) (S
   at-zero = record {
     above = (all-support, supported);
     below = (some-against, λ s. spoken (s .0) (s .1) (s .2) (s .3));
-    against = by-so-much;
-    most = λ m e q k g. omega (arith, minus m e, least-gain L d q, balance L d q c, g);
+    against = λ m. (by-so-much m, just-so-much m);
     drawn = drawn-above;
     inner-none = not-drawn;
     own-zero = λ h o. stands 0 (none h) (own-drawn L d n S o);
