@@ -21,7 +21,7 @@ use Rattle.index.specs.Laws.Passed.{index-passed}
 use Rattle.index.specs.Laws.Value.{index-is}
 use Rattle.ground.specs.declared.SignedAnswer.the-variants as answer
 
--- an accepted answer: the table is a cost table, S is a far side, v is its index, and so far what v says at zero and where it ends
+-- an accepted answer: the table is a cost table, S is a far side, and v is its index; with that, what its sign says and where it ends
 pub record Answered (L n : ℕ) (t : List ℕ) (S : ℕ) (v : ℤ) : Type 0 where
   pub accepted : IndexAsked L n t S
   pub value : IndexIs (cost t n) n S v

@@ -2,7 +2,7 @@
 use mathlib.Core.Bool.{false}
 use mathlib.Core.Logic.{inl, inr, _⊎_}
 use mathlib.Core.Path.{ap, subst, _≡_}
-use Prim.Native.Nat.{ℕ, _*_, _+_, _≤_}
+use Prim.Native.Nat.{ℕ, _*_, _+_, _<_, _≤_}
 use native.Mathlib.Omega.{arith}
 use lib.Count.{ones}
 use lib.Dec.{leb, ltb}
@@ -23,18 +23,20 @@ use Rattle.theory.specs.Laws.SignedIndex.{far-shifted}
 use Rattle.theory.specs.Tables.{WellFormed}
 use Rattle.index.specs.Ends.{Ends}
 
+neither : {x y : ℕ} → (x < y → ⊥) → (y < x → ⊥) → x ≡ y
+neither {x} {y} p q =
+    cases (ltb x y) (λ t. absurd (p (ltb-true x y t))) (λ t. cases (ltb y x) (λ u. absurd (q (ltb-true y x u)))
+    (λ u. omega (arith, ltb-false x y t, ltb-false y x u)))
+
 -- a group of one image: two of it are the same
 one-far : (n S : ℕ) → ones S ≡ 1 → {b b′ : ℕ} → On n (bit S) 1 b → On n (bit S) 1 b′ → b ≡ b′
 one-far n S e {b} {b′} h h′ =
-    cases (ltb b b′) (λ t. omega (arith, ones-in-two b b′ S (ltb-true b b′ t) (h .1) (h′ .1)))
-    (λ t. cases (ltb b′ b) (λ u. omega (arith, ones-in-two b′ b S (ltb-true b′ b u) (h′ .1) (h .1)))
-    (λ u. omega (arith, ltb-false b b′ t, ltb-false b′ b u)))
+    neither (λ l. omega (arith, ones-in-two b b′ S l (h .1) (h′ .1))) (λ l. omega (arith, ones-in-two b′ b S l (h′ .1) (h .1)))
 
 one-near : (n S : ℕ) → FarSide n S → ones S + 1 ≡ n → {a a′ : ℕ} → On n (bit S) 0 a → On n (bit S) 0 a′ → a ≡ a′
 one-near n S f e {a} {a′} h h′ =
-    cases (ltb a a′) (λ t. omega (arith, ones-out-two n a a′ S (f .fits) (ltb-true a a′ t) (h′ .0) (h .1) (h′ .1)))
-    (λ t. cases (ltb a′ a) (λ u. omega (arith, ones-out-two n a′ a S (f .fits) (ltb-true a′ a u) (h .0) (h′ .1) (h .1)))
-    (λ u. omega (arith, ltb-false a a′ t, ltb-false a′ a u)))
+    neither (λ l. omega (arith, ones-out-two n a a′ S (f .fits) l (h′ .0) (h .1) (h′ .1)))
+    (λ l. omega (arith, ones-out-two n a′ a S (f .fits) l (h .0) (h′ .1) (h .1)))
 
 module _ (L : ℕ) (d : ℕ → ℕ → ℕ) (n : ℕ) (c : WellFormed L d n) (S : ℕ) (f : FarSide n S) where
   -- the index with two limits added

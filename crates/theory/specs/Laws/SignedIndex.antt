@@ -1,5 +1,4 @@
--- The signed index and the one with two limits added are one number: the least value is attained, and every other is no less.
--- Assumes nothing.
+-- The index with two limits added is the signed index: each value is, and so is the least of them. Assumes nothing.
 use mathlib.Core.Path.{ap, sym, _∙_, _≡_}
 use Prim.Native.Nat.{min, ℕ, _*_, _+_, _<_}
 use native.Mathlib.Omega.{arith}
