@@ -25,7 +25,7 @@ fn read(n: usize, t: &[u32], fars: &mut [u64]) -> Written
     ensures { λ r. ⌜ SidesRead limit n (now (t .entry)) r (now (fars .exit)) ⌝ }
 {
     let mut costs = [0u32; 128];
-    tree::exact(n, t, fars, &mut costs)
+    graft::exact(n, t, fars, &mut costs)
 }
 
 // The far sides of the first tree against the second table.

@@ -84,7 +84,7 @@ fn read_table(
     let size = n * n;
     let start = k * size;
     let end = start + size;
-    tree::exact(n, &tables[start..end], fars, costs)
+    graft::exact(n, &tables[start..end], fars, costs)
 }
 
 // The first table, whose tree is held as it is.

@@ -1,5 +1,6 @@
 // The text of the listing programs: the exact reading of one stored cost table. The two programs differ in the last image of the order
 // alone. Every function that writes answers the place behind its text.
+use graft::Engine;
 use ground::Written;
 use stored_costs::StoredCosts;
 ghost use mathlib.Core.Path.{_≡_};
@@ -36,14 +37,14 @@ fn write_links(
     listing_lines::put_reading(out, n, fars, costs, &above[..fars.len()], &around[..n])
 }
 
-// The listing of a cost table: its exact reading and the order from 1 with this last, or refusal 7.
-fn write_table(out: &mut [u8], n: usize, t: &[u32], last: usize) -> usize
+// The listing of a cost table: its exact reading, by either engine, and the order from 1 with this last, or refusal 7.
+fn write_table(out: &mut [u8], engine: Engine, n: usize, t: &[u32], last: usize) -> usize
     requires { ⌜ CostTable limit n (now t) × Other n last × (room ≤ length (now out)) ⌝ }
     ensures { λ r. ⌜ Put (tableText last n (now (t .entry))) 0 (now (out .entry)) r (now (out .exit)) ⌝ }
 {
     let mut fars = [0u64; 128];
     let mut costs = [0u32; 128];
-    match tree::exact(n, t, &mut fars, &mut costs) {
+    match graft::exact_by(engine, n, t, &mut fars, &mut costs) {
         Written::Refused(q) => listing_lines::put_refusal(out, 0, q),
         Written::Places(count) => write_links(out, n, t, last, &fars[..count], &costs[..count]),
     }
@@ -67,7 +68,7 @@ fn last_image(which: Last, n: usize, t: &[u32]) -> usize
 }
 
 // The listing of the stored cost table at the start of the bytes.
-fn write_stored(out: &mut [u8], which: Last, bytes: &[u8]) -> usize
+fn write_stored(out: &mut [u8], engine: Engine, which: Last, bytes: &[u8]) -> usize
     requires { ⌜ room ≤ length (now out) ⌝ }
     ensures { λ r. ⌜ Put (listingText which (now (bytes .entry))) 0 (now (out .entry)) r (now (out .exit)) ⌝ }
 {
@@ -76,7 +77,7 @@ fn write_stored(out: &mut [u8], which: Last, bytes: &[u8]) -> usize
         StoredCosts::Refused(q) => listing_lines::put_refusal(out, 0, q),
         StoredCosts::Table { n, used: _ } => {
             let table = &t[..n * n];
-            write_table(out, n, table, last_image(which, n, table))
+            write_table(out, engine, n, table, last_image(which, n, table))
         }
     }
 }
@@ -91,25 +92,26 @@ pub struct Text {
 }
 
 // What both programs print: the exact reading of the stored cost table at the start of the bytes, whatever follows it, or one line with
-// the refusal.
-fn listing_with(which: Last, bytes: &[u8]) -> Text
+// the refusal. The text is the same whichever engine reads: the promise does not name it.
+pub fn listing_with(engine: Engine, which: Last, bytes: &[u8]) -> Text
     ensures listed { λ r. ⌜ Listed which (now (bytes .entry)) (r .length) (r .bytes) ⌝ }
     ensures within { λ r. ⌜ Within (r .length) (r .bytes) ⌝ }
 {
     let mut text = [0u8; 10240];
-    let length = write_stored(&mut text, which, bytes);
+    let length = write_stored(&mut text, engine, which, bytes);
     Text {
         length,
         bytes: text,
     }
 }
 
-// The listing whose order ends at the far end, so that the ring closes over the long link.
+// The listing whose order ends at the far end, so that the ring closes over the long link. The engine that grafts reads here and below:
+// at 64 images it is the faster one by far, and both give the same text.
 pub fn listing(bytes: &[u8]) -> Text
     ensures listed { λ r. ⌜ Listed FarEnd (now (bytes .entry)) (r .length) (r .bytes) ⌝ }
     ensures within { λ r. ⌜ Within (r .length) (r .bytes) ⌝ }
 {
-    listing_with(Last::FarEnd, bytes)
+    listing_with(Engine::Grafts, Last::FarEnd, bytes)
 }
 
 // The listing whose order ends with image n, on which the keeper's ring scripts were built.
@@ -117,5 +119,5 @@ pub fn listing_last_n(bytes: &[u8]) -> Text
     ensures listed { λ r. ⌜ Listed ImageN (now (bytes .entry)) (r .length) (r .bytes) ⌝ }
     ensures within { λ r. ⌜ Within (r .length) (r .bytes) ⌝ }
 {
-    listing_with(Last::ImageN, bytes)
+    listing_with(Engine::Grafts, Last::ImageN, bytes)
 }

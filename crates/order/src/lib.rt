@@ -82,7 +82,7 @@ fn put(out: &mut [u32], i: usize, x: usize)
 
 // Writes the order from f to last, from its end to its front, each image as soon as it is found. One bit for each image says
 // whether it is placed, so that a step looks at n images and nothing else.
-fn write_order(n: usize, t: &[u32], f: usize, last: usize, out: &mut [u32])
+pub fn write_order(n: usize, t: &[u32], f: usize, last: usize, out: &mut [u32])
     requires { ⌜ CostTable limit n (now t) × (f < n) × (last < n) × (n ≤ length (now out)) ⌝ }
     ensures { λ _. ⌜ now (out .exit) ≡ front (map suc (order (cost (now (t .entry)) n) n f last)) (now (out .entry)) ⌝ }
 {

@@ -194,7 +194,7 @@ pub fn check_room(n: usize, f: usize, v: usize) -> Check
 }
 
 // The checks of the measured reading, in their order: 1, 2, 3, 4, 5, 6.
-fn check_measured(n: usize, t: &[u32], f: usize, v: usize) -> Check
+pub fn check_measured(n: usize, t: &[u32], f: usize, v: usize) -> Check
     ensures { λ r. ⌜ r ≡ measuredCheck limit n (now (t .entry)) f v ⌝ }
 {
     let c = tables::check_size(n, t);

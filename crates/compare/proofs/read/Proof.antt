@@ -1,4 +1,4 @@
--- `compare::read` meets its contract: what `tree::exact` promises, with 128 places. Assumes nothing.
+-- `compare::read` meets its contract: what `graft::exact` promises, with 128 places. Assumes nothing.
 use native.Mathlib.Omega.{arith}
 use lib.ListN.{replicate}
 use borrow.Author.Needs.{needs}

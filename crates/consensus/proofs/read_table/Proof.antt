@@ -1,4 +1,4 @@
--- `consensus::read_table` meets its contract: the table is a part of the slice, and `tree::exact` promises the rest. Assumes nothing.
+-- `consensus::read_table` meets its contract: the table is a part of the slice, and `graft::exact` promises the rest. Assumes nothing.
 use Prim.Native.Nat.{_*_, _+_, _≤_}
 use native.Mathlib.Omega.{arith}
 use borrow.Author.Needs.{needs}

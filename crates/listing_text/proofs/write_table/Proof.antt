@@ -13,48 +13,48 @@ use Rattle.text.specs.Laws.Pieces.{put-same}
 use Rattle.listing_text.proofs.write_table.Statement.{statement}
 use Rattle.listing_text.proofs.write_table.Tie as tie
 
-slice-aggregate-exact : tie.Need-slice-aggregate-exact
-slice-aggregate-exact c = search needs
+slice-aggregate-exact-by : tie.Need-slice-aggregate-exact-by
+slice-aggregate-exact-by c = search needs
 
-slice-aggregate-exact-2 : tie.Need-slice-aggregate-exact-2
-slice-aggregate-exact-2 c = search needs
+slice-aggregate-exact-by-2 : tie.Need-slice-aggregate-exact-by-2
+slice-aggregate-exact-by-2 c = search needs
 
-exact-requires : tie.Need-exact-requires
-exact-requires c κs = search needs
+exact-by-requires : tie.Need-exact-by-requires
+exact-by-requires c κs = search needs
 
 -- the place behind the exact reading, where the call began, and the two arrays with what was read
-abbrev reading-q : tie.After-q → tie.After-exact
+abbrev reading-q : tie.After-q → tie.After-exact-by
 reading-q c = c .before .before .before .before
 
-abbrev reading : tie.After-count → tie.After-exact
+abbrev reading : tie.After-count → tie.After-exact-by
 reading c = c .before .before .before .before
 
-abbrev start : tie.After-exact → tie.Start
+abbrev start : tie.After-exact-by → tie.Start
 start c = c .before .before .before .before .before
 
-abbrev far-places : tie.After-exact → List ℕ
-far-places c = c .exact .last .1 .1 .0
+abbrev far-places : tie.After-exact-by → List ℕ
+far-places c = c .exact-by .last .1 .1 .1 .0
 
-abbrev cost-places : tie.After-exact → List ℕ
-cost-places c = c .exact .last .1 .1 .1 .0
+abbrev cost-places : tie.After-exact-by → List ℕ
+cost-places c = c .exact-by .last .1 .1 .1 .1 .0
 
 -- refused with 7
 refused-is : (c : tie.After-q) → let a = start (reading-q c) .args in tableText (a .last) (a .n) (a .t .now) ≡ refusedLine (c .q .given .0 .0)
 refused-is c =
-    let e = c .before .before .before .before .exact in
+    let e = c .before .before .before .before .exact-by in
     let s = start (reading-q c) in
     let z = length-replicate {A = ℕ} 128 0 in
-    table-refused (s .args .last) (s .args .n) (s .args .t .now) (replicate 128 0) (replicate 128 0) (e .last .1 .1 .0) (e .last .1 .1 .1 .0) _ (s .pre .0)
+    table-refused (s .args .last) (s .args .n) (s .args .t .now) (replicate 128 0) (replicate 128 0) (e .last .1 .1 .1 .0) (e .last .1 .1 .1 .1 .0) _ (s .pre .0)
     (omega (arith, z)) (omega (arith, z)) (rw (c .q .given .1) at (e .ensures))
 
 -- accepted
 read-is : (c : tie.After-count) → let a = start (reading c) .args in
     RowsRead (a .last) (a .n) (a .t .now) (c .count .given .0 .0) (far-places (reading c)) (cost-places (reading c))
 read-is c =
-    let e = c .before .before .before .before .exact in
+    let e = c .before .before .before .before .exact-by in
     let s = start (reading c) in
     let z = length-replicate {A = ℕ} 128 0 in
-    table-read (s .args .last) (s .args .n) (s .args .t .now) (replicate 128 0) (replicate 128 0) (e .last .1 .1 .0) (e .last .1 .1 .1 .0) _ (s .pre .0)
+    table-read (s .args .last) (s .args .n) (s .args .t .now) (replicate 128 0) (replicate 128 0) (e .last .1 .1 .1 .0) (e .last .1 .1 .1 .1 .0) _ (s .pre .0)
     (omega (arith, z)) (omega (arith, z)) (rw (c .count .given .1) at (e .ensures))
 
 enum-known-q : tie.Need-enum-known-q
@@ -69,13 +69,13 @@ enum-known-count : tie.Need-enum-known-count
 enum-known-count c = search needs
 
 array-share-prefix-fars : tie.Need-array-share-prefix-fars
-array-share-prefix-fars c = let d = c .before .before in omega (arith, read-is d .few, reading d .exact .kept .1 .1 .0)
+array-share-prefix-fars c = let d = c .before .before in omega (arith, read-is d .few, reading d .exact-by .kept .1 .1 .1 .0)
 
 slice-aggregate-write-links : tie.Need-slice-aggregate-write-links
 slice-aggregate-write-links c = sym (read-is (c .before .before .before) .far-length)
 
 array-share-prefix-costs : tie.Need-array-share-prefix-costs
-array-share-prefix-costs c = let d = c .before .before .before in omega (arith, read-is d .few, reading d .exact .kept .1 .1 .1 .0)
+array-share-prefix-costs c = let d = c .before .before .before in omega (arith, read-is d .few, reading d .exact-by .kept .1 .1 .1 .1 .0)
 
 slice-aggregate-write-links-2 : tie.Need-slice-aggregate-write-links-2
 slice-aggregate-write-links-2 c = sym (read-is (c .before .before .before .before) .cost-length)
@@ -101,9 +101,9 @@ pub write-table-spec : {M : Type 1} → statement M
 write-table-spec =
     tie.close
     (tie.spec
-    slice-aggregate-exact
-    slice-aggregate-exact-2
-    exact-requires
+    slice-aggregate-exact-by
+    slice-aggregate-exact-by-2
+    exact-by-requires
     enum-known-q
     put-refusal-requires
     enum-known-count

@@ -1,0 +1,48 @@
+-- Grafting one image at a time onto the path from the first image to the one placed before: document 001, procedure 2. Images are
+-- named by their places in the order o, from 0 for the first; e i j is the entry of the images at the places i and j, and all costs
+-- are doubled. The path is a list of rows from the first image on; a row's far side holds the images placed behind it. Assumes nothing.
+use mathlib.Core.List.{List, [], map, _++_, _∷_}
+use Prim.Native.Nat.{min, suc, zero, ℕ, _+_, _-_, _^_}
+use Rattle.ground.specs.Ranges.{from}
+use Rattle.theory.specs.FarSides.{own}
+use Rattle.theory.specs.LinkTables.{Row}
+use Rattle.rows.specs.Rows.{costly, putAll}
+
+-- how far from the first image the paths to the places i and j part
+unfoldable pub height : (ℕ → ℕ → ℕ) → ℕ → ℕ → ℕ
+height e i j = e 0 i + e 0 j - e i j
+
+-- the cost of the own link of the place after p, as it is grafted
+abbrev pub ownCost : (ℕ → ℕ → ℕ) → ℕ → ℕ
+ownCost e p = e 0 (suc p) + e p (suc p) - e 0 p
+
+-- a path cut at the height h: the part on the side of the first image, where every row gets the new image b
+abbrev pub kept : ℕ → ℕ → List Row → List Row
+kept h b [] = []
+kept h b (r ∷ P) = (b + r .0, min h (r .1)) ∷ kept (h - r .1) b P
+
+-- and the rest, which no later image changes
+abbrev pub closed : ℕ → List Row → List Row
+closed h [] = []
+closed h (r ∷ P) = (r .0, r .1 - h) ∷ closed (h - r .1) P
+
+-- the path from the first image to the place p
+unfoldable pub pathTo : (ℕ → ℕ → ℕ) → (ℕ → ℕ) → ℕ → List Row
+pathTo e o zero = []
+pathTo e o (suc p) = kept (height e p (suc p)) (2 ^ o (suc p)) (pathTo e o p) ++ ((2 ^ o (suc p), ownCost e p) ∷ [])
+
+-- the rows that were closed until then
+unfoldable pub closedTo : (ℕ → ℕ → ℕ) → (ℕ → ℕ) → ℕ → List Row
+closedTo e o zero = []
+closedTo e o (suc p) = closedTo e o p ++ closed (height e p (suc p)) (pathTo e o p)
+
+-- the own links of n images, without cost; they ascend, since that of image 0 holds all the others
+abbrev pub ownRows : ℕ → List Row
+ownRows n = map (λ i. (own n i, 0)) (from 1 (n - 1) ++ (0 ∷ []))
+
+-- the table once place m is grafted: the own links, and what is closed and has a cost; at the end, with the path
+abbrev pub tableTo : (ℕ → ℕ → ℕ) → (ℕ → ℕ) → ℕ → ℕ → List Row
+tableTo e o n m = putAll (costly (closedTo e o m)) (ownRows n)
+
+abbrev pub grafted : (ℕ → ℕ → ℕ) → (ℕ → ℕ) → ℕ → ℕ → List Row
+grafted e o n m = putAll (costly (pathTo e o m)) (tableTo e o n m)

@@ -1,0 +1,162 @@
+// Grafting: the images are taken in an order, and each is grafted onto the path from the first image to the one placed before. The path
+// is cut where the new image leaves it; what lies behind is closed, that is, put into the table, since no later image changes it. All
+// costs are doubled. Images are counted from 0 but in the order, and places in the order from 0.
+ghost use mathlib.Core.Path.{_≡_};
+ghost use Prim.Native.Nat.{suc, _+_, _-_, _<_, _≤_};
+ghost use lib.ListN.{length};
+ghost use Rattle.theory.specs.Tables.{limit, cost, CostTable};
+ghost use Rattle.recognition.specs.Recognition.{placed};
+ghost use Rattle.recognition.specs.Seats.{seat, Seated};
+ghost use Rattle.grafting.specs.Grafting.{height, ownCost};
+ghost use Rattle.grafting.specs.Held.{OwnTable, PathHeld, TableGrafted, TableHeld};
+ghost use Rattle.grafting.specs.Steps.{AddRow, CloseRoom, CloseRows, KeepRoom, KeepRows};
+
+// x less y, and 0 where y is larger.
+fn less(x: u32, y: u32) -> u32
+    ensures { λ r. ⌜ r ≡ x - y ⌝ }
+{
+    if x < y { 0 } else { x - y }
+}
+
+// How far from the first image the paths to the images at place p and after it part.
+fn height_at(n: usize, t: &[u32], o: &[u32], p: usize) -> u32
+    requires { ⌜ CostTable limit n (now t) × Seated n (now o) × (p + 1 < n) ⌝ }
+    ensures { λ r. ⌜ r ≡ height (placed (cost (now (t .entry)) n) (seat (now (o .entry)))) p (suc p) ⌝ }
+{
+    let x = recognition::seat_of(n, o, p);
+    let z = recognition::seat_of(n, o, p + 1);
+    let fx = tables::entry(t, n, 0, x);
+    let fz = tables::entry(t, n, 0, z);
+    less(fx + fz, tables::entry(t, n, x, z))
+}
+
+// The cost of the own link of the image after place p, as it is grafted.
+fn own_cost(n: usize, t: &[u32], o: &[u32], p: usize) -> u32
+    requires { ⌜ CostTable limit n (now t) × Seated n (now o) × (p + 1 < n) ⌝ }
+    ensures { λ r. ⌜ r ≡ ownCost (placed (cost (now (t .entry)) n) (seat (now (o .entry)))) p ⌝ }
+{
+    let x = recognition::seat_of(n, o, p);
+    let z = recognition::seat_of(n, o, p + 1);
+    let fz = tables::entry(t, n, 0, z);
+    let xz = tables::entry(t, n, x, z);
+    less(fz + xz, tables::entry(t, n, 0, x))
+}
+
+// Closes what of the first m rows of a path lies behind the height h; the new number of rows in the table.
+fn close_rows(
+    h: u32,
+    m: usize,
+    sides: &[u64],
+    lengths: &[u32],
+    fars: &mut [u64],
+    costs: &mut [u32],
+    count: usize,
+) -> usize
+    requires { ⌜ CloseRoom m (now sides) (now lengths) (now fars) (now costs) count ⌝ }
+    ensures { λ r. ⌜ CloseRows h m (now (sides .entry)) (now (lengths .entry)) (now (fars .entry)) (now (costs .entry)) count r (now (fars .exit))
+        (now (costs .exit)) ⌝ }
+{
+    let mut togo = h;
+    let mut all = count;
+    let mut i = 0;
+    while i < m {
+        let c = lengths[i];
+        let stays = ground::lower(togo, c);
+        all = rows::close_row(fars, costs, all, sides[i], c - stays);
+        togo -= stays;
+        i += 1;
+    }
+    all
+}
+
+// Keeps of the first m rows of a path what lies on the side of the first image, up to the height h, where each gets the images of
+// `add`; the new number of rows.
+fn keep_rows(h: u32, add: u64, m: usize, sides: &mut [u64], lengths: &mut [u32]) -> usize
+    requires { ⌜ KeepRoom add m (now sides) (now lengths) ⌝ }
+    ensures { λ r. ⌜ KeepRows h add m (now (sides .entry)) (now (lengths .entry)) r (now (sides .exit)) (now (lengths .exit)) ⌝ }
+{
+    let mut togo = h;
+    let mut i = 0;
+    while i < m && 0 < togo {
+        let stays = ground::lower(togo, lengths[i]);
+        sides[i] = add + sides[i];
+        lengths[i] = stays;
+        togo -= stays;
+        i += 1;
+    }
+    i
+}
+
+// Adds the row s, c behind the m rows of a path where it has a cost; the new number of rows.
+fn add_row(sides: &mut [u64], lengths: &mut [u32], m: usize, s: u64, c: u32) -> usize
+    requires { ⌜ (m < length (now sides)) × (m < length (now lengths)) ⌝ }
+    ensures { λ r. ⌜ AddRow (now (sides .entry)) (now (lengths .entry)) m s c r (now (sides .exit)) (now (lengths .exit)) ⌝ }
+{
+    if c == 0 {
+        return m;
+    }
+    sides[m] = s;
+    lengths[m] = c;
+    m + 1
+}
+
+// The path of m rows to the image at place p becomes that to the image after it; the new number of its rows.
+fn extend_path(
+    n: usize,
+    t: &[u32],
+    o: &[u32],
+    p: usize,
+    m: usize,
+    sides: &mut [u64],
+    lengths: &mut [u32],
+) -> usize
+    requires { ⌜ CostTable limit n (now t) × Seated n (now o) × (p + 1 < n) × PathHeld (cost (now t) n) (now o) p m (now sides) (now lengths) ⌝ }
+    ensures { λ r. ⌜ PathHeld (cost (now (t .entry)) n) (now (o .entry)) (suc p) r (now (sides .exit)) (now (lengths .exit)) ⌝ }
+{
+    let image = ground::bit_alone(recognition::seat_of(n, o, p + 1));
+    let own = own_cost(n, t, o, p);
+    let rest = keep_rows(height_at(n, t, o, p), image, m, sides, lengths);
+    add_row(sides, lengths, rest, image, own)
+}
+
+// The own links of n images without cost, as the first rows of a table.
+fn own_rows(n: usize, fars: &mut [u64], costs: &mut [u32])
+    requires { ⌜ (3 ≤ n) × (n ≤ 64) × (n ≤ length (now fars)) × (n ≤ length (now costs)) ⌝ }
+    ensures { λ _. ⌜ OwnTable n (now (fars .entry)) (now (costs .entry)) (now (fars .exit)) (now (costs .exit)) ⌝ }
+{
+    let mut i = 0;
+    while i + 1 < n {
+        fars[i] = links::own_link(n, i + 1);
+        costs[i] = 0;
+        i += 1;
+    }
+    fars[i] = links::own_link(n, 0);
+    costs[i] = 0;
+}
+
+// Grafts all images in the order o; the number of rows of the table.
+pub fn graft_all(n: usize, t: &[u32], o: &[u32], fars: &mut [u64], costs: &mut [u32]) -> usize
+    requires { ⌜ CostTable limit n (now t) × Seated n (now o) × (length (now fars) ≡ 192) × (length (now costs) ≡ 192) ⌝ }
+    ensures { λ r. ⌜ TableGrafted (cost (now (t .entry)) n) (now (o .entry)) n r (now (fars .exit)) (now (costs .exit)) ⌝ }
+{
+    let mut sides = [0u64; 64];
+    let mut lengths = [0u32; 64];
+    own_rows(n, fars, costs);
+    let mut count = n;
+    let mut m = 0;
+    let mut p = 0;
+    while p + 1 < n {
+        count = close_rows(
+            height_at(n, t, o, p),
+            m,
+            &sides,
+            &lengths,
+            fars,
+            costs,
+            count,
+        );
+        m = extend_path(n, t, o, p, m, &mut sides, &mut lengths);
+        p += 1;
+    }
+    close_rows(0, m, &sides, &lengths, fars, costs, count)
+}

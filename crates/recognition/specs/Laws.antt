@@ -1,0 +1,8 @@
+-- Tests of all numbers below another.
+pub mod Below
+-- Recognised at every place exactly where the four-point condition holds.
+pub mod Recognition
+pub mod Order
+pub mod Condition
+-- The order as the code reads it.
+pub mod Seats
