@@ -1,11 +1,12 @@
 /*
- * Times the archive against plain.c, call by call, in one run: the two take turns. Both answers are compared first. Prints two
- * tables in Markdown: all calls on random trees, and the measured reading on trees of every shape.
+ * Times the archive against plain.c, call by call, in one run: the two take turns. Both answers are compared first. Prints three
+ * tables in Markdown: all calls on random trees, the measured reading on trees of every shape, and both engines of the exact reading.
  */
 #include <stdio.h>
 #include <stdlib.h>
 #include <string.h>
 
+#include "engines.h"
 #include "kemotuiki.h"
 #include "plain.h"
 #include "race.h"
@@ -29,6 +30,8 @@ static int printing;
 static void ours_exact(void) { sink = kemotuiki_exact(n, tree, n * n, fars, 125, costs, 125).rows; }
 static void c_exact(void) { plain_exact(n, tree, n * n, plain_fars, plain_costs, 125, &plain_rows); sink = plain_rows; }
 static void c_exact_all(void) { plain_exact_all_fours(n, tree, n * n, plain_fars, plain_costs, 125, &plain_rows); sink = plain_rows; }
+static void ours_grafted(void) { sink = kemotuiki_exact_grafted(n, tree, n * n, fars, 125, costs, 125).rows; }
+static void c_grafted(void) { plain_exact_grafted(n, tree, n * n, plain_fars, plain_costs, 125, &plain_rows); sink = plain_rows; }
 static void ours_measured(void) { sink = kemotuiki_measured(n, noisy, n * n, fars, 125, costs, 125).rows; }
 static void c_measured(void) { plain_measured(n, noisy, n * n, plain_fars, plain_costs, 125, &plain_rows); sink = plain_rows; }
 static void ours_index(void) { sink = kemotuiki_index(n, tree, n * n, inner_side).signed_index; }
@@ -99,6 +102,8 @@ static void race_both(const char *name, Call *ours, Call *plain) {
     if (printing) printf("| %s | %zu | %.1f | %.1f | %.2f |\n", name, n, us[0], us[1], us[0] / us[1]);
 }
 
+static int rows_differ(void) { return plain_rows != rows || memcmp(fars, plain_fars, rows * 8) || memcmp(costs, plain_costs, rows * 4); }
+
 /* One pass over all calls; status 1 if two answers differ. */
 static int all_calls(void) {
     static const size_t sizes[] = {9, 16, 32, 64};
@@ -110,9 +115,11 @@ static int all_calls(void) {
         raise(n, noisy);
         race_both("exact", ours_exact, c_exact);
         rows = kemotuiki_exact(n, tree, n * n, fars, 125, costs, 125).rows;
-        if (plain_rows != rows || memcmp(fars, plain_fars, rows * 8) || memcmp(costs, plain_costs, rows * 4)) return 1;
+        if (rows_differ()) return 1;
         inner_side = fars[rows / 2];
         race_both("exact, C over all fours", ours_exact, c_exact_all);
+        race_both("exact, grafted", ours_grafted, c_grafted);
+        if (rows_differ()) return 1;
         race_both("measured", ours_measured, c_measured);
         rows = kemotuiki_exact(n, tree, n * n, fars, 125, costs, 125).rows;
         race_both("index", ours_index, c_index);
@@ -148,6 +155,7 @@ int main(void) {
         if (printing) printf("| Call | n | archive, µs | C, µs | archive / C |\n|---|---|---|---|---|\n");
         if (all_calls()) return 1;
         shapes(printing);
+        engines(printing);
     }
     return 0;
 }

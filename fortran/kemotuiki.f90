@@ -24,8 +24,8 @@ module kemotuiki
     private
 
     ! The version, as the file VERSION has it.
-    character(*), parameter, public :: kemotuiki_version = '2.0.0'
-    integer, parameter, public :: kemotuiki_version_major = 2, kemotuiki_version_minor = 0, kemotuiki_version_patch = 0
+    character(*), parameter, public :: kemotuiki_version = '2.1.0'
+    integer, parameter, public :: kemotuiki_version_major = 2, kemotuiki_version_minor = 1, kemotuiki_version_patch = 0
 
     ! Room that is enough for every n: images, rows of a tree, bytes of the stored forms; the tables of a team; and bytes of a
     ! refusal's text.
@@ -94,9 +94,9 @@ module kemotuiki
         integer(int64) :: used
     end type
 
-    public :: kemotuiki_index, kemotuiki_order, kemotuiki_measured, kemotuiki_exact, kemotuiki_path, kemotuiki_upper_rows
-    public :: kemotuiki_route, kemotuiki_compare, kemotuiki_consensus, kemotuiki_write_costs, kemotuiki_read_costs
-    public :: kemotuiki_write_links, kemotuiki_read_links, kemotuiki_write_batch, kemotuiki_choice
+    public :: kemotuiki_index, kemotuiki_order, kemotuiki_measured, kemotuiki_exact, kemotuiki_exact_grafted, kemotuiki_path
+    public :: kemotuiki_upper_rows, kemotuiki_route, kemotuiki_compare, kemotuiki_consensus, kemotuiki_write_costs
+    public :: kemotuiki_read_costs, kemotuiki_write_links, kemotuiki_read_links, kemotuiki_write_batch, kemotuiki_choice
 
     ! Far sides and bit positions may be of either kind. A far side that holds image 32 or a later one needs int64: as a default integer
     ! it would be negative, or not fit.
@@ -140,6 +140,7 @@ module kemotuiki
     end interface
     procedure(c_reading), bind(c, name='kemotuiki_measured') :: c_measured
     procedure(c_reading), bind(c, name='kemotuiki_exact') :: c_exact
+    procedure(c_reading), bind(c, name='kemotuiki_exact_grafted') :: c_exact_grafted
 
     interface
         function c_index(n, t, t_count, s) result(r) bind(c, name='kemotuiki_index')
@@ -321,6 +322,16 @@ contains
         integer(int32), intent(inout), contiguous :: costs(:)
         type(kemotuiki_rows_answer) :: r
         r = reading(c_exact, t, fars, costs)
+    end function
+
+    ! The exact reading of t by a second engine, into fars and costs: the answer of kemotuiki_exact on every argument. On a table that
+    ! has a tree its time grows as n*n, that of kemotuiki_exact as n*n*n.
+    function kemotuiki_exact_grafted(t, fars, costs) result(r)
+        integer(int32), intent(in), contiguous :: t(:, :)
+        integer(int64), intent(inout), contiguous :: fars(:)
+        integer(int32), intent(inout), contiguous :: costs(:)
+        type(kemotuiki_rows_answer) :: r
+        r = reading(c_exact_grafted, t, fars, costs)
     end function
 
     function reading(c_call, t, fars, costs) result(r)

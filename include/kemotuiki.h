@@ -25,9 +25,9 @@
 #include <stdint.h>
 
 /* The version, as the file VERSION has it. */
-#define KEMOTUIKI_VERSION "2.0.0"
+#define KEMOTUIKI_VERSION "2.1.0"
 #define KEMOTUIKI_VERSION_MAJOR 2
-#define KEMOTUIKI_VERSION_MINOR 0
+#define KEMOTUIKI_VERSION_MINOR 1
 #define KEMOTUIKI_VERSION_PATCH 0
 
 /*
@@ -188,6 +188,16 @@ KemotuikiRows kemotuiki_measured(size_t n, const uint32_t *t, size_t t_count,
 KemotuikiRows kemotuiki_exact(size_t n, const uint32_t *t, size_t t_count,
                               uint64_t *KEMOTUIKI_RESTRICT fars, size_t fars_count,
                               uint32_t *KEMOTUIKI_RESTRICT costs, size_t costs_count);
+
+/*
+ * The exact reading by a second engine. It answers the same as kemotuiki_exact on every argument, refusals and their four images
+ * included, so either may stand for the other: choose by time. On a table that has a tree this one takes a time that grows as n*n,
+ * the other one as n*n*n; on a table that gets 7 it looks for the four images as the other one does.
+ * Answers, room and refusals as of kemotuiki_exact.
+ */
+KemotuikiRows kemotuiki_exact_grafted(size_t n, const uint32_t *t, size_t t_count,
+                                      uint64_t *KEMOTUIKI_RESTRICT fars, size_t fars_count,
+                                      uint32_t *KEMOTUIKI_RESTRICT costs, size_t costs_count);
 
 /*
  * The path cost of images i and j in the link table of count rows: the sum of the doubled costs between them.

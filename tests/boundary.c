@@ -1,7 +1,8 @@
 /*
  * The cases of crates/cases/data through the archive: boundary DATA prints what crates/cases/stdout has for the calls that are
  * exported. Every lent buffer stands between guard bytes, which are compared after the call, and every input is compared with
- * a copy. boundary --edges tries null pointers with count 0, numbers too large for anything, and the text of every answer.
+ * a copy. Each case of the exact reading is read by both its engines, which must answer and leave the same. boundary --edges tries
+ * null pointers with count 0, numbers too large for anything, and the text of every answer.
  */
 #include <errno.h>
 #include <stdio.h>
@@ -166,13 +167,36 @@ static void do_order(void) {
 
 typedef KemotuikiRows Reading(size_t, const uint32_t *, size_t, uint64_t *, size_t, uint32_t *, size_t);
 
-static void reading(Reading *call) {
+/* A buffer lent once more, as the first one was before its call. */
+static void *lend_again(Lent *l, const Lent *first, size_t width) {
+    void *p = lend(l, first->count, width);
+    memcpy(p, first->copy, first->bytes);
+    keep(l);
+    return p;
+}
+
+/* The other engine reads the same table, with places of its own: it answers and leaves the same. */
+static void hold_engine(Reading *other, size_t n, const Lent *lt, const Lent *lf, const Lent *lc, KemotuikiRows r) {
+    Lent mf, mc;
+    uint64_t *fars = lend_again(&mf, lf, 8);
+    uint32_t *costs = lend_again(&mc, lc, 4);
+    KemotuikiRows s = other(n, (const uint32_t *)(lt->block + GUARD), lt->count, fars, mf.count, costs, mc.count);
+    if (memcmp(&s, &r, sizeof s)) fault("the two engines differ in the answer");
+    if (memcmp(fars, lf->block + GUARD, lf->bytes) || memcmp(costs, lc->block + GUARD, lc->bytes))
+        fault("the two engines differ in a place");
+    settle(&mf, s.rows * 8);
+    settle(&mc, s.rows * 4);
+}
+
+/* What is printed is of the first call; the other one is null where there is one engine. */
+static void reading(Reading *call, Reading *other) {
     Lent lt, lf, lc;
     size_t n = number();
     uint32_t *t = read32(&lt);
     uint64_t *fars = read64(&lf);
     uint32_t *costs = read32(&lc);
     KemotuikiRows r = call(n, t, lt.count, fars, lf.count, costs, lc.count);
+    if (other) hold_engine(other, n, &lt, &lf, &lc, r);
     if (ANSWER(r, 0)) printf(" %zu", r.rows);
     show64(fars, lf.count);
     show32(costs, lc.count);
@@ -181,8 +205,9 @@ static void reading(Reading *call) {
     settle(&lc, r.rows * 4);
 }
 
-static void do_measured(void) { reading(kemotuiki_measured); }
-static void do_exact(void) { reading(kemotuiki_exact); }
+static void do_measured(void) { reading(kemotuiki_measured, NULL); }
+static void do_exact(void) { reading(kemotuiki_exact, kemotuiki_exact_grafted); }
+static void do_exact_grafted(void) { reading(kemotuiki_exact_grafted, kemotuiki_exact); }
 
 static void do_path(void) {
     Lent lf, lc;
@@ -348,7 +373,7 @@ static const struct {
     {"route", do_route},           {"compare", do_compare},       {"write_costs", do_write_costs},
     {"read_costs", do_read_costs}, {"write_links", do_write_links}, {"read_links", do_read_links},
     {"write_batch", do_write_batch}, {"choice", do_choice},       {"refusal_text", do_refusal_text},
-    {"consensus", do_consensus},
+    {"consensus", do_consensus},   {"exact_grafted", do_exact_grafted},
 };
 
 static int cases(const char *folder) {
@@ -400,6 +425,7 @@ static void no_images(void) {
         EXPECT(KemotuikiOrder, order, (n, NULL, 0, 1, 2, NULL, 0), KEMOTUIKI_BAD_N, n, 0);
         EXPECT(KemotuikiRows, measured, (n, NULL, 0, NULL, 0, NULL, 0), KEMOTUIKI_BAD_N, n, 0);
         EXPECT(KemotuikiRows, exact, (n, NULL, 0, NULL, 0, NULL, 0), KEMOTUIKI_BAD_N, n, 0);
+        EXPECT(KemotuikiRows, exact_grafted, (n, NULL, 0, NULL, 0, NULL, 0), KEMOTUIKI_BAD_N, n, 0);
         EXPECT(KemotuikiPath, path, (n, n, NULL, 0, NULL, 0, 1, 2), KEMOTUIKI_BAD_N, n, 0);
         EXPECT(KemotuikiRows, upper_rows, (n, n, NULL, 0, NULL, 0, NULL, 0), KEMOTUIKI_BAD_N, n, 0);
         EXPECT(KemotuikiRows, route, (n, n, NULL, 0, NULL, 0, 1, NULL, 0), KEMOTUIKI_BAD_N, n, 0);
@@ -419,6 +445,7 @@ static void no_places(void) {
         EXPECT(KemotuikiOrder, order, (n, NULL, 0, SIZE_MAX, SIZE_MAX, NULL, 0), KEMOTUIKI_BAD_LENGTH, 0, 0);
         EXPECT(KemotuikiRows, measured, (n, NULL, 0, NULL, 0, NULL, 0), KEMOTUIKI_BAD_LENGTH, 0, 0);
         EXPECT(KemotuikiRows, exact, (n, NULL, 0, NULL, 0, NULL, 0), KEMOTUIKI_BAD_LENGTH, 0, 0);
+        EXPECT(KemotuikiRows, exact_grafted, (n, NULL, 0, NULL, 0, NULL, 0), KEMOTUIKI_BAD_LENGTH, 0, 0);
         EXPECT(KemotuikiBytes, write_costs, (n, NULL, 0, NULL, 0), KEMOTUIKI_BAD_LENGTH, 0, 0);
         EXPECT(KemotuikiPath, path, (n, n, NULL, 0, NULL, 0, SIZE_MAX, SIZE_MAX), KEMOTUIKI_BAD_LENGTH, 0, 0);
         EXPECT(KemotuikiPath, path, (n, SIZE_MAX, NULL, 0, NULL, 0, 1, 2), KEMOTUIKI_BAD_ROW_COUNT, SIZE_MAX, 0);

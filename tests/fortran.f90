@@ -261,7 +261,8 @@ contains
 
 end module
 
-! One subroutine a call: the arguments from the line, then the answer and every lent output as it was left.
+! One subroutine a call: the arguments from the line, then the answer and every lent output as it was left. A case of the exact reading
+! is read by both its engines.
 module case_calls
     use, intrinsic :: iso_fortran_env, only: int8, int32, int64
     use kemotuiki
@@ -269,6 +270,16 @@ module case_calls
     implicit none
     private
     public :: run_all
+
+    abstract interface
+        function engine(t, fars, costs) result(r)
+            import
+            integer(int32), intent(in), contiguous :: t(:, :)
+            integer(int64), intent(inout), contiguous :: fars(:)
+            integer(int32), intent(inout), contiguous :: costs(:)
+            type(kemotuiki_rows_answer) :: r
+        end function
+    end interface
 
 contains
 
@@ -289,6 +300,7 @@ contains
         call run('write_batch', do_write_batch, folder, [1, 2, 3, 10, 12, 13])
         call run('choice', do_choice, folder, [1, 9, 10, 11, 12, 13, 14, 15])
         call run('consensus', do_consensus, folder, [1, 2, 3, 4, 5, 6, 7, 16], far_sides=.true.)
+        call run('exact_grafted', do_exact_grafted, folder, [1, 2, 3, 4, 5, 6, 7], far_sides=.true.)
     end subroutine
 
     ! With a far side that is a default integer, where it can be one.
@@ -332,11 +344,30 @@ contains
     end subroutine
 
     subroutine do_exact()
-        integer(int32), allocatable :: t(:, :), costs(:)
-        integer(int64), allocatable :: fars(:)
+        call both_engines(kemotuiki_exact, kemotuiki_exact_grafted)
+    end subroutine
+
+    subroutine do_exact_grafted()
+        call both_engines(kemotuiki_exact_grafted, kemotuiki_exact)
+    end subroutine
+
+    ! Both engines of the exact reading, each with places of its own: they answer and leave the same. What is put is of the first.
+    subroutine both_engines(asked, other)
+        procedure(engine) :: asked, other
+        type(kemotuiki_rows_answer) :: r, again
+        integer(int32), allocatable :: t(:, :), costs(:), costs_again(:)
+        integer(int64), allocatable :: fars(:), fars_again(:)
         integer :: n
         call read_reading(n, t, fars, costs)
-        if (can_be_said) call put_reading(kemotuiki_exact(t, fars, costs), n, fars, costs)
+        if (.not. can_be_said) return
+        fars_again = fars
+        costs_again = costs
+        r = asked(t, fars, costs)
+        again = other(t, fars_again, costs_again)
+        if (r%number /= again%number .or. r%rows /= again%rows .or. any([r%table, r%a, r%b, r%c, r%d] &
+            /= [again%table, again%a, again%b, again%c, again%d])) call fault('the two engines differ in the answer')
+        if (any(fars /= fars_again) .or. any(costs /= costs_again)) call fault('the two engines differ in a place')
+        call put_reading(r, n, fars, costs)
     end subroutine
 
     subroutine read_reading(n, t, fars, costs)
@@ -638,6 +669,7 @@ contains
         call hold('order by rows', refused_at(kemotuiki_order(t, 1, 2, out), 0, 2, 5))
         call hold('measured by rows', refused_at(kemotuiki_measured(t, fars, costs), 0, 2, 5))
         call hold('exact by rows', refused_at(kemotuiki_exact(t, fars, costs), 0, 2, 5))
+        call hold('exact_grafted by rows', refused_at(kemotuiki_exact_grafted(t, fars, costs), 0, 2, 5))
         call hold('write_costs by rows', refused_at(kemotuiki_write_costs(t, bytes), 0, 2, 5))
         call hold('compare by rows, first table', refused_at(kemotuiki_compare(t, star(6)), 1, 2, 5))
         call hold('compare by rows, second table', refused_at(kemotuiki_compare(star(6), t), 2, 2, 5))
@@ -729,6 +761,9 @@ contains
         r = kemotuiki_exact(all_entries(1:8:2, 1:8:2), all_fars(2:10:2), all_costs(2:10:2))
         call hold('sections', r%rows == 4 .and. all(all_fars == [-1, 2, -1, 4, -1, 8, -1, 14, -1, -1]) &
                   .and. all(all_costs == [-1, 2, -1, 2, -1, 2, -1, 2, -1, -1]))
+        all_fars = -1
+        r = kemotuiki_exact_grafted(all_entries(1:8:2, 1:8:2), all_fars(2:10:2), all_costs(2:10:2))
+        call hold('sections, grafted', r%rows == 4 .and. all(all_fars == [-1, 2, -1, 4, -1, 8, -1, 14, -1, -1]))
     end subroutine
 
 end module

@@ -69,7 +69,15 @@ CALLS = {
     "refusal_text": (law.refusal_text, "n n n n n n 8*", (3,)),
     "consensus": (law.consensus, "n n 32 64* 32*", (1, 2, 3, 4, 5, 6, 7, 16)),
     "listing": (law.listing, "8", (1, 4, 7, 9, 11)),
+    "exact_grafted": (law.exact_grafted, "n 32 64* 32*", (1, 2, 3, 4, 5, 6, 7)),
 }
+
+# The engines of the exact reading, each with the other one, which answers the same.
+OTHER_ENGINE = {"exact": law.exact_grafted, "exact_grafted": law.exact}
+
+# With so many images there are cases that the second engine refuses at its first test, at the
+# first of the last graft, and at its last test.
+EVERY_TEST = (4, 5, 9, 33, 64)
 
 # The programs that print a listing, and what they print. The cases of `listing` have the
 # text of each, and a refusal stands in the text.
@@ -1475,6 +1483,118 @@ def listing_cases(dice):
         yield (stored if faults & {"header", "body"} else followed(stored)),
 
 
+# The second engine of the exact reading
+
+def failing_test(n, t):
+    """The first test of the second engine that fails: the place in the order of the image
+    that is grafted, from 0, and that of the image whose entry is tested, -1 for the test
+    that the new own link is not below 0. None where there is none."""
+    d = law.square(n, t)
+    order = law.order_of(n, d, 1, n)
+    for place in range(1, n):
+        x, z = order[place - 1], order[place]
+        if d[1][x] > d[1][z] + d[x][z]:
+            return place, -1
+        for at, j in enumerate(order[:place]):
+            if d[j][z] + d[1][x] != max(d[1][j] + d[x][z], d[1][z] + d[x][j]):
+                return place, at
+    return None
+
+
+def with_entry(n, t, i, j, entry):
+    t = list(t)
+    t[(i - 1) * n + j - 1] = t[(j - 1) * n + i - 1] = entry
+    return t
+
+
+def on_a_line(stands):
+    """Images that stand on a line: no own link but those of the two ends costs anything."""
+    return table_from(len(stands), [abs(stands[i - 1] - stands[j - 1]) for i, j in pairs(len(stands))])
+
+
+def in_halves(n):
+    """Images part in halves, quarters and eighths, so that all that are not yet placed tie."""
+    return table_from(n, [(i - 1 ^ j - 1).bit_length() for i, j in pairs(n)])
+
+
+def at_one_place(dice, n, few):
+    """The table of a tree over few images, with all others at the place of one of these."""
+    t = tree(dice, few, 9, "uneven")
+    at = dice.mixed(list(range(few)) + [dice.below(few) for _ in range(n - few)])
+    return table_from(n, [t[at[i - 1] * few + at[j - 1]] for i, j in pairs(n)])
+
+
+def bare_tree(dice, n, most, shape=None):
+    """The table of a tree in which half of the own links cost nothing."""
+    return tree_table(n, law.bare_rows(dice, n, tree_rows(dice, n, shape or law.random_shape(dice), most)))
+
+
+def grafted_trees(dice):
+    """Own links and entries of 0, ties, halves, entries of 1,000,000; few images and many."""
+    for n in (3, 3, 3, 4, 4, 5, 5, 6, 7, 8, 9, 9):
+        yield n, bare_tree(dice, n, dice.one_of([1, 3, 30]))
+    for n, few in ((4, 3), (5, 3), (6, 4), (9, 4), (9, 7), (33, 6)):
+        yield n, at_one_place(dice, n, few)
+    for n in (3, 4, 5, 9):
+        yield n, on_a_line(dice.mixed(range(0, 3 * n, 3)))
+        yield n, in_halves(n)
+        yield n, star(n, [dice.below(3) for _ in range(n)])
+        yield n, table_from(n, [1000000 if 1 in pair else 0 for pair in pairs(n)])
+        yield n, table_from(n, [1000000 if n in pair else 0 for pair in pairs(n)])
+        yield n, on_a_line([1000000 // i for i in range(1, n)] + [0])
+    yield 9, [0] * 81
+    yield 33, in_halves(33)
+    yield 33, bare_tree(dice, 33, 40, "uneven")
+    yield 33, tree(dice, 33, 1, "caterpillar")
+    yield 64, bare_tree(dice, 64, 2, "caterpillar")
+    yield 64, bare_tree(dice, 64, 9, "uneven")
+    yield 64, at_one_place(dice, 64, 20)
+
+
+def refused_at_tests(dice):
+    """One entry of a tree is moved so that the engine stops at a test of the first graft that
+    has any, or of the last one: with few images wherever this is met, with more images, on a
+    line, at the very first test, at the first one of the last graft, and at the very last."""
+    for n in (3, 4, 5, 9):
+        seen = set()
+        for _ in range(700):
+            t = bare_tree(dice, n, dice.one_of([1, 2, 6]))
+            t = with_entry(n, t, *dice.one_of(pairs(n)), dice.below(12))
+            found = failing_test(n, t)
+            if found and found[0] in (2, n - 1) and found not in seen:
+                seen.add(found)
+                yield n, t
+    for n in EVERY_TEST:
+        # All but 1, 2 and 3 on the other side of image 1, so that 3 is placed first, and then 2 too near to it.
+        yield n, with_entry(n, on_a_line([0, 2, 4] + list(range(-2, -2 * n + 4, -2))), 2, 3, 1)
+        # Image n stands before image n-1, and then behind it, both times too near to it.
+        line = list(range(0, 2 * n, 2))
+        yield n, with_entry(n, on_a_line(line[:-2] + [line[-1], line[-2]]), n - 1, n, 1)
+        yield n, with_entry(n, on_a_line(line), n - 1, n, 1)
+
+
+def grafted_cases(dice):
+    def outputs(n, short=False):
+        room1, room2 = two_rooms(dice, 2 * n - 3, short) if n < 10 else (2 * n - 3, 2 * n - 3)
+        return far_places(dice, room1), places(dice, room2)
+
+    for n, t, sound in tables(dice, 8):
+        yield (n, t, *outputs(n if sound else 3))
+    for source in (grafted_trees, refused_at_tests):
+        for n, t in source(dice):
+            yield (n, t, *outputs(n))
+    kinds = ["n", "length", "room", "entry", "diagonal", "asymmetric", "wiring"]
+    for faults in fault_sets(dice, kinds, 4, 30):
+        n = damaged_n(dice)
+        t = crooked(dice, n) if "wiring" in faults else tree(dice, n)
+        yield (*damage_table(dice, n, t, faults), *outputs(n, "room" in faults))
+    # Room for the rows of a star, but not the 2n-3 places that are asked.
+    for n in (4, 9):
+        t = tree(dice, n, 5, "star")
+        yield n, t, far_places(dice, n), places(dice, 2 * n - 3)
+        yield n, t, far_places(dice, 2 * n - 3), places(dice, 2 * n - 4)
+
+
 CASES = {
     "index": index_cases,
     "order": order_cases,
@@ -1497,6 +1617,7 @@ CASES = {
     "refusal_text": refusal_text_cases,
     "consensus": consensus_cases,
     "listing": listing_cases,
+    "exact_grafted": grafted_cases,
 }
 
 
@@ -1545,6 +1666,9 @@ def answer_line(name, arguments):
     for at, (before, after) in enumerate(zip(arguments, given)):
         written = answer[0] == 0 or name in TWICE
         assert before == after or (written and at in outputs), (name, arguments)
+    if name in OTHER_ENGINE:
+        again = [list(a) if isinstance(a, list) else a for a in arguments]
+        assert OTHER_ENGINE[name](*again) == answer and again == given, (name, arguments)
     left = [given[at] for at in outputs]
     if name == "choice":
         left.append(law.choose(*given))
@@ -1562,7 +1686,7 @@ def listing_answer(texts):
 
 def make():
     """All files by name, and what was made of each call."""
-    files, report, answers, signs = {}, [], [], set()
+    files, report, answers, signs, tests = {}, [], [], set(), set()
     for seed, name in enumerate(CALLS, 1):
         inputs, seen, refusals, behind, by_table = [], set(), {}, {}, set()
         answers.append(name)
@@ -1583,6 +1707,8 @@ def make():
                 behind[second] = behind.get(second, 0) + 1
             if name == "index" and answer[0] == 0:
                 signs.add((arguments[0], (answer[1] > 0) - (answer[1] < 0)))
+            if name == "exact_grafted" and answer[0] == 7:
+                tests.add((arguments[0], failing_test(*arguments[:2])))
             if name in OVER_SEVERAL_TABLES and answer[0] != 0:
                 by_table.add(answer[:2])
         for number in CALLS[name][2]:
@@ -1595,6 +1721,7 @@ def make():
         files["crates/cases/data/%s.txt" % name] = "".join(line + "\n" for line in inputs).encode()
         report.append((name, len(inputs), refusals))
     assert signs >= {(n, sign) for n in EVERY_SIGN for sign in (-1, 0, 1)}, signs
+    assert tests >= {(n, test) for n in EVERY_TEST for test in ((2, -1), (n - 1, -1), (n - 1, n - 2))}, tests
     assert max(map(len, files.values())) <= LARGEST_FILE, {f: len(t) for f, t in files.items()}
     files["crates/cases/stdout"] = "".join(line + "\n" for line in answers).encode()
     assert len(files["crates/cases/stdout"]) <= LARGEST_ANSWERS, len(files["crates/cases/stdout"])

@@ -1,6 +1,7 @@
 #!/usr/bin/env python3
-"""Every public call of document 01, and of document 02 the links that a team shares
-and the far end of the listing, written from their definitions.
+"""Every public call of document 01, and of document 02 the links that a team shares,
+the far end of the listing and the second engine of the exact reading, written from
+their definitions.
 
 Nothing here is taken from the crates: the words, the orders of checks and the
 numbers are the documents', and where they leave a point open, the decision noted
@@ -18,14 +19,15 @@ writes into. A refused call alters no list.
     python3 tests/independent.py --self-test
 
 runs the settled examples of document 01, checks of demands 2 and 3 on tables drawn
-from a fixed seed, and what document 02 says of the links that a team shares and of
-the far end.
+from a fixed seed, and what document 02 says of the links that a team shares, of the
+far end and of the second engine, which answers as the first on every table tried.
 """
 
 import functools
 import itertools
 import operator
 import sys
+from fractions import Fraction
 
 if not __debug__:
     sys.exit("independent.py: run it without -O, which leaves out the assertions")
@@ -364,6 +366,105 @@ def far_end(n, d):
     return min(i for i in others if d[1][i] == greatest)
 
 
+# The exact reading by grafting
+
+class Drawing:
+    """A tree as it is drawn. Its vertices are the images 1 to n, and switches with numbers
+    from n + 1 on. Lengths are those of the entries, so a link may have a half."""
+
+    def __init__(self, n, image, length):
+        """Image 1, this image, and the link between them."""
+        self.n = n
+        self.lengths = {1: {}, image: {}}
+        self.join(1, image, Fraction(length))
+
+    def join(self, u, v, length):
+        self.lengths[u][v] = self.lengths[v][u] = length
+
+    def part(self, u, v):
+        del self.lengths[u][v], self.lengths[v][u]
+
+    def new_switch(self):
+        switch = self.n + 1 + sum(1 for vertex in self.lengths if vertex > self.n)
+        self.lengths[switch] = {}
+        return switch
+
+    def way(self, image, vertex=1, before=None):
+        """The vertices from image 1 to this image."""
+        if vertex == image:
+            return [vertex]
+        for after in self.lengths[vertex]:
+            rest = self.way(image, after, vertex) if after != before else []
+            if rest:
+                return [vertex] + rest
+        return []
+
+    def switch_at(self, away, image):
+        """The switch so far away from image 1 on the way to this image; where none stands
+        there, the link is cut in two. Images have links that end in them alone: where they
+        stand themselves, their own link is cut, and what is left of it has length 0."""
+        way, stands = self.way(image), Fraction(0)
+        for u, v in zip(way, way[1:]):
+            length = self.lengths[u][v]
+            if u > self.n and stands == away:
+                return u
+            if away < stands + length or (away == stands + length and v <= self.n):
+                switch = self.new_switch()
+                self.part(u, v)
+                self.join(u, switch, away - stands)
+                self.join(switch, v, stands + length - away)
+                return switch
+            stands += length
+        raise AssertionError("the way is too short")
+
+    def graft(self, image, switch, length):
+        self.lengths[image] = {}
+        self.join(switch, image, length)
+
+    def images_behind(self, u, v):
+        """The images that v leads to when one comes from u, as a far side."""
+        own = 2 ** (v - 1) if v <= self.n else 0
+        return own + sum(self.images_behind(v, after) for after in self.lengths[v] if after != u)
+
+    def rows(self, u=None, v=1):
+        """Far sides and doubled costs of the links behind v when one comes from u."""
+        found = []
+        for after in self.lengths[v]:
+            if after != u:
+                doubled = 2 * self.lengths[v][after]
+                assert doubled.denominator == 1
+                found.append((self.images_behind(v, after), doubled.numerator))
+                found += self.rows(v, after)
+        return found
+
+
+def recognised(d, placed, x, z):
+    """Document 001's Algorithm 3 for one image z more, behind the placed ones, the last of
+    which is x: no length is negative where the ways between images 1, x and z meet, and
+    every other entry of z is what the formula makes of the entries before."""
+    if (d[x][z] > d[1][x] + d[1][z] or d[1][z] > d[1][x] + d[x][z] or d[1][x] > d[1][z] + d[x][z]):
+        return False
+    return all(d[j][z] == max(d[1][j] + d[x][z], d[1][z] + d[x][j]) - d[1][x]
+               for j in placed if j not in (1, x))
+
+
+@functools.lru_cache(maxsize=None)
+def grafted_rows(n, t):
+    """Rows of the tree that is grown along the order from image 1 with last n: each image is
+    grafted onto the way from image 1 to the one placed before. None where an entry is not
+    recognised, and there is no tree."""
+    d = square(n, t)
+    order_found = order_of(n, d, 1, n)
+    drawing = Drawing(n, order_found[1], d[1][order_found[1]])
+    for place in range(2, n):
+        x, z = order_found[place - 1], order_found[place]
+        if not recognised(d, order_found[:place], x, z):
+            return None
+        switch = drawing.switch_at(Fraction(d[1][x] + d[1][z] - d[x][z], 2), x)
+        drawing.graft(z, switch, Fraction(d[1][z] + d[x][z] - d[1][x], 2))
+    return sorted(drawing.rows())
+
+
 # Stored forms
 
 def field(width, value):
@@ -484,17 +585,13 @@ def order(n, t, first, last, out):
     return 0, n
 
 
-def reading(n, t, fars, costs, exactly):
+def reading(n, t, fars, costs, rows_of):
     check_n(n)
     check_length(n, t)
     check_room(fars, 2 * n - 3)
     check_room(costs, 2 * n - 3)
     check_entries(n, t)
-    if exactly:
-        check_wiring(n, t)
-        rows = exact_rows(n, tuple(t))
-    else:
-        rows = measured_rows(n, tuple(t))
+    rows = rows_of(n, tuple(t))
     fars[:len(rows)] = [far for far, cost in rows]
     costs[:len(rows)] = [cost for far, cost in rows]
     return 0, len(rows)
@@ -502,12 +599,32 @@ def reading(n, t, fars, costs, exactly):
 
 @call
 def measured(n, t, fars, costs):
-    return reading(n, t, fars, costs, False)
+    return reading(n, t, fars, costs, measured_rows)
+
+
+def wired_rows(n, t):
+    """7, or the rows of the exact reading."""
+    check_wiring(n, t)
+    return exact_rows(n, t)
 
 
 @call
 def exact(n, t, fars, costs):
-    return reading(n, t, fars, costs, True)
+    return reading(n, t, fars, costs, wired_rows)
+
+
+def grafted_or_refused(n, t):
+    """The same by the second engine, which looks for the four images after a failure alone."""
+    rows = grafted_rows(n, t)
+    if rows is None:
+        check_wiring(n, t)
+        raise AssertionError("no graft, and yet no four that fails")
+    return rows
+
+
+@call
+def exact_grafted(n, t, fars, costs):
+    return reading(n, t, fars, costs, grafted_or_refused)
 
 
 @call
@@ -923,6 +1040,12 @@ def tree_rows(dice, n, shape="uneven", most=40, even=True):
     return rows
 
 
+def bare_rows(dice, n, rows):
+    """The rows with some own links of cost 0, where their cost is even."""
+    return [(far, 0) if not is_inner(n, far) and cost % 2 == 0 and dice.chance(1, 2) else (far, cost)
+            for far, cost in rows]
+
+
 def noisy(dice, n, t, most):
     """The table with every entry moved by at most `most`, still well-formed."""
     moved = []
@@ -1014,6 +1137,7 @@ def test_settled_examples():
         n, t = example(name)
         assert read_rows(measured, n, t) == MEASURED[name], name
         assert read_rows(exact, n, t) == NOT_EXACT.get(name, MEASURED[name]), name
+        assert read_rows(exact_grafted, n, t) == NOT_EXACT.get(name, MEASURED[name]), name
         assert rows_by_definition(n, t) == MEASURED[name], name
     n, e = example("E")
     _, g = example("G")
@@ -1050,6 +1174,7 @@ def test_settled_limits():
         assert order(n, t, 1, 2, [0] * 70) == refused
         assert measured(n, t, [0] * 130, [0] * 130) == refused
         assert exact(n, t, [0] * 130, [0] * 130) == refused
+        assert exact_grafted(n, t, [0] * 130, [0] * 130) == refused
         assert path(n, n, [0] * n, [0] * n, 1, 2) == refused
         assert upper_rows(n, n, [0] * n, [0] * n, [0] * 130) == refused
         assert route(n, n, [0] * n, [0] * n, 1, [0] * 130) == refused
@@ -1066,9 +1191,9 @@ def test_settled_limits():
     for n in (3, 4, 9):
         t = table_from(n, [MOST_ENTRY] * (n * n))
         rows = [(2 ** i, MOST_ENTRY) for i in range(1, n)] + [(2 ** n - 2, MOST_ENTRY)]
-        assert read_rows(exact, n, t) == rows
+        assert read_rows(exact, n, t) == rows == read_rows(exact_grafted, n, t)
         t[1] += 1
-        assert read_rows(exact, n, t) == (4, 1, 2, 0, 0)
+        assert read_rows(exact, n, t) == (4, 1, 2, 0, 0) == read_rows(exact_grafted, n, t)
         assert write_costs(n, t, []) == (4, 1, 2, 0, 0)
         stored = stored_costs(n, table_from(n, [MOST_ENTRY + 1] + [0] * (n * n)))
         assert read_costs(stored, 0, [0] * (n * n)) == (4, 1, 2, 0, 0)
@@ -1489,6 +1614,55 @@ def test_sixty_four(dice):
         assert path_of(drawn, i, j) <= 2 * moved[(i - 1) * n + j - 1]
 
 
+def engines_agree(n, t):
+    """Do both engines answer the same? With it, whether the table is accepted."""
+    answer = read_rows(exact, n, t)
+    assert read_rows(exact_grafted, n, t) == answer, (n, t)
+    return isinstance(answer, list)
+
+
+def moved_entries(dice, n, t, count):
+    """The table with so many entries 1 more or less."""
+    t = list(t)
+    for _ in range(count):
+        i, j = sorted(dice.mixed(range(n))[:2])
+        entry = t[i * n + j] + dice.one_of([1, -1] if t[i * n + j] > 0 else [1])
+        t[i * n + j] = t[j * n + i] = entry
+    return t
+
+
+def test_engines_on_all_small_tables():
+    for n, most in ((3, 4), (4, 2)):
+        agreed = [engines_agree(n, table_from(n, upper))
+                  for upper in itertools.product(range(most + 1), repeat=len(pairs(n)))]
+        assert any(agreed) and not all(agreed)
+
+
+def test_engines(dice):
+    """The second engine against the first: trees of every shape with own links and entries
+    of 0, the same with one or two entries moved, and tables that are no trees; then trees
+    of many images, and those with one entry moved."""
+    accepted = refused = 0
+    for n in (3, 4, 5, 6, 7, 8, 9):
+        tables = list(tables_to_try(dice, n, 60))
+        for shape in ("star", "caterpillar", "uneven") * 8:
+            rows = bare_rows(dice, n, tree_rows(dice, n, shape, dice.one_of([1, 2, 3, 12, 500])))
+            t = tree_table(n, rows)
+            assert read_rows(exact_grafted, n, t) == rows
+            tables += [t] + [moved_entries(dice, n, t, count) for count in (1, 1, 2)]
+        for t in tables:
+            good = engines_agree(n, t)
+            accepted, refused = accepted + good, refused + (not good)
+    assert accepted > 200 and refused > 200, (accepted, refused)
+    for n in (12, 20, 33, 64):
+        for shape in ("star", "caterpillar", "uneven"):
+            rows = bare_rows(dice, n, tree_rows(dice, n, shape, dice.one_of([2, 40, 9000])))
+            t = tree_table(n, rows)
+            assert read_rows(exact_grafted, n, t) == rows
+            assert engines_agree(n, t)
+            engines_agree(n, moved_entries(dice, n, t, 1))
+
+
 def self_test():
     dice = Dice(1)
     tests = [
@@ -1500,6 +1674,7 @@ def self_test():
         (test_reader_on_a, ()), (test_reader, (dice,)), (test_consensus_examples, ()),
         (test_consensus_refusals, (dice,)), (test_consensus, (dice,)), (test_far_end, (dice,)),
         (test_ends_of_the_index, ()), (test_moved_index, (dice,)),
+        (test_engines_on_all_small_tables, ()), (test_engines, (dice,)),
     ]
     for test, arguments in tests:
         test(*arguments)

@@ -9,36 +9,38 @@ pub const MEASURED: u32 = 3;
 
 pub const EXACT: u32 = 4;
 
-pub const COMPARE: u32 = 5;
+pub const EXACT_GRAFTED: u32 = 5;
 
-pub const WRITE_COSTS: u32 = 6;
+pub const COMPARE: u32 = 6;
 
-pub const PATH: u32 = 7;
+pub const WRITE_COSTS: u32 = 7;
 
-pub const UPPER_ROWS: u32 = 8;
+pub const PATH: u32 = 8;
 
-pub const ROUTE: u32 = 9;
+pub const UPPER_ROWS: u32 = 9;
 
-pub const WRITE_LINKS: u32 = 10;
+pub const ROUTE: u32 = 10;
 
-pub const READ_COSTS: u32 = 11;
+pub const WRITE_LINKS: u32 = 11;
 
-pub const READ_LINKS: u32 = 12;
+pub const READ_COSTS: u32 = 12;
 
-pub const WRITE_BATCH: u32 = 13;
+pub const READ_LINKS: u32 = 13;
 
-pub const CHOICE: u32 = 14;
+pub const WRITE_BATCH: u32 = 14;
 
-pub const FIRST_TWO: u32 = 15;
+pub const CHOICE: u32 = 15;
 
-pub const FIRST_LINKS: u32 = 16;
+pub const FIRST_TWO: u32 = 16;
 
-pub const TWO_COSTS: u32 = 17;
+pub const FIRST_LINKS: u32 = 17;
 
-pub const TWO_FIELDS: u32 = 18;
+pub const TWO_COSTS: u32 = 18;
 
-pub const REFUSAL_TEXT: u32 = 19;
+pub const TWO_FIELDS: u32 = 19;
 
-pub const CONSENSUS: u32 = 20;
+pub const REFUSAL_TEXT: u32 = 20;
 
-pub const LISTING: u32 = 21;
+pub const CONSENSUS: u32 = 21;
+
+pub const LISTING: u32 = 22;

@@ -256,3 +256,61 @@ pub fn show_written(answer: Written) {
         }
     }
 }
+
+// Prints a line of text.
+pub fn show_line(text: &[u8]) {
+    io::write_all(STDOUT_FILENO, text);
+    show_end();
+}
+
+// Whether two slices of 64-bit elements are the same.
+pub fn same64(one: &[u64], other: &[u64]) -> bool {
+    if one.len() != other.len() {
+        return false;
+    }
+    let mut i = 0;
+    while i < one.len() && i < other.len() {
+        if one[i] != other[i] {
+            return false;
+        }
+        i += 1;
+    }
+    true
+}
+
+// Whether two slices of 32-bit elements are the same.
+pub fn same32(one: &[u32], other: &[u32]) -> bool {
+    if one.len() != other.len() {
+        return false;
+    }
+    let mut i = 0;
+    while i < one.len() && i < other.len() {
+        if one[i] != other[i] {
+            return false;
+        }
+        i += 1;
+    }
+    true
+}
+
+// Whether two refusals are the same, places included.
+fn same_refusal(one: Refusal, other: Refusal) -> bool {
+    if one.number != other.number {
+        return false;
+    }
+    one.a == other.a && one.b == other.b && one.c == other.c && one.d == other.d
+}
+
+// Whether two calls that write into lent slices answer the same.
+pub fn same_written(one: Written, other: Written) -> bool {
+    match one {
+        Written::Refused(r) => match other {
+            Written::Refused(q) => same_refusal(r, q),
+            Written::Places(_) => false,
+        },
+        Written::Places(count) => match other {
+            Written::Refused(_) => false,
+            Written::Places(places) => count == places,
+        },
+    }
+}

@@ -105,4 +105,5 @@ fn main() {
     run(calls::REFUSAL_TEXT, b"refusal_text", b"refusal_text.txt");
     run(calls::CONSENSUS, b"consensus", b"consensus.txt");
     run(calls::LISTING, b"listing", b"listing.txt");
+    run(calls::EXACT_GRAFTED, b"exact_grafted", b"exact_grafted.txt");
 }

@@ -70,6 +70,11 @@ exact n t f v f′ v′ r p =
     by-rows (λ (k : KemotuikiRows). k .head) ofRows written.Refused (λ q. refl) c _ (exactOutcome limit n t f v) f v refl refl
     (exact-order limit n t (length f) (length v)) (outcome-places c _ f v) (outcome-unaltered c _ f v) p
 
+-- by the second engine, whose contract is the same
+pub exact-grafted : (n : ℕ) (t f v f′ v′ : List ℕ) (r : KemotuikiRows) → LeftRows (crossedRows ofRows (exactOutcome limit n t f v)) r f′ v′
+    → Refusals (ofTable 0 (1 ∷ 2 ∷ 3 ∷ 4 ∷ 5 ∷ 6 ∷ 7 ∷ [])) (exactSteps limit n t (length f) (length v)) (r .head) (f ∷ v ∷ []) (f′ ∷ v′ ∷ [])
+exact-grafted = exact
+
 -- 1 with number 0, then each table's with its own
 pub compare : (n : ℕ) (t u : List ℕ) (r : KemotuikiComparison) → r ≡ ofComparison (comparison limit n t u)
     → Refusals (ofTable 0 (1 ∷ []) ++ (ofTable 1 (2 ∷ 4 ∷ 5 ∷ 6 ∷ 7 ∷ []) ++ ofTable 2 (2 ∷ 4 ∷ 5 ∷ 6 ∷ 7 ∷ []))) (compareSteps limit n t u) (r .head) [] []

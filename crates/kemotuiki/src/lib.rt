@@ -82,6 +82,20 @@ pub extern "C" fn kemotuiki_exact(
     numbers::of_rows(tree::exact(n, t, fars, costs))
 }
 
+// The exact reading by the second engine, which answers the same on every argument.
+#[no_mangle]
+pub extern "C" fn kemotuiki_exact_grafted(
+    n: usize,
+    t: &[u32],
+    fars: &mut [u64],
+    costs: &mut [u32],
+) -> KemotuikiRows
+    ensures { λ r. ⌜ LeftRows (crossedRows ofRows (exactOutcome limit n (now (t .entry)) (now (fars .entry)) (now (costs .entry)))) r
+        (now (fars .exit)) (now (costs .exit)) ⌝ }
+{
+    numbers::of_rows(graft::exact(n, t, fars, costs))
+}
+
 // The path cost of images i and j.
 #[no_mangle]
 pub extern "C" fn kemotuiki_path(

@@ -2,11 +2,16 @@
 // and leaves, and gives the place behind the case.
 use case_text::calls::COMPARE;
 use case_text::calls::EXACT;
+use case_text::calls::EXACT_GRAFTED;
 use case_text::calls::INDEX;
 use case_text::calls::MEASURED;
 use case_text::calls::ORDER;
 use case_text::number_at;
+use case_text::same_written;
+use case_text::same32;
+use case_text::same64;
 use case_text::show_first;
+use case_text::show_line;
 use case_text::show_next;
 use case_text::show_signed_answer;
 use case_text::show_table_refusal;
@@ -19,6 +24,7 @@ use case_text::take32;
 use case_text::take64;
 use compare::Comparison;
 use counts::Difference;
+use ground::Written;
 
 fn index_case(n: usize, t: &[u32], text: &[u8], at: usize) -> usize {
     let s = number_at(text, at);
@@ -38,6 +44,53 @@ fn order_case(n: usize, t: &[u32], text: &[u8], at: usize) -> usize {
     room.next
 }
 
+// What this reading answers.
+fn read(call: u32, n: usize, t: &[u32], fars: &mut [u64], costs: &mut [u32]) -> Written {
+    if call == MEASURED {
+        return tree::measured(n, t, fars, costs);
+    }
+    if call == EXACT {
+        return tree::exact(n, t, fars, costs);
+    }
+    graft::exact(n, t, fars, costs)
+}
+
+// The other engine of the exact reading.
+fn other_engine(call: u32) -> u32 {
+    if call == EXACT {
+        return EXACT_GRAFTED;
+    }
+    EXACT
+}
+
+// The other engine reads the same table, with places of its own that are filled from the text once more. Where it answers or leaves
+// something else, a line is printed that no expected text has.
+fn hold_engines(
+    call: u32,
+    n: usize,
+    t: &[u32],
+    text: &[u8],
+    at: usize,
+    answer: Written,
+    fars: &[u64],
+    costs: &[u32],
+) {
+    let mut sides = [0u64; 4200];
+    let side_room = take64(text, at, &mut sides);
+    let side_count = side_room.count;
+    let other_fars = &mut sides[..side_count];
+    let mut doubled = [0u32; 4200];
+    let cost_room = take32(text, side_room.next, &mut doubled);
+    let cost_count = cost_room.count;
+    let other_costs = &mut doubled[..cost_count];
+    let other = read(other_engine(call), n, t, other_fars, other_costs);
+    if same_written(answer, other) && same64(fars, other_fars) && same32(costs, other_costs) {
+        return;
+    }
+    show_line(b"the two engines differ");
+}
+
+// A case of the exact reading is read by both engines; what is printed is of the one that is asked.
 fn reading_case(call: u32, n: usize, t: &[u32], text: &[u8], at: usize) -> usize {
     let mut sides = [0u64; 4200];
     let side_room = take64(text, at, &mut sides);
@@ -47,11 +100,11 @@ fn reading_case(call: u32, n: usize, t: &[u32], text: &[u8], at: usize) -> usize
     let cost_room = take32(text, side_room.next, &mut doubled);
     let cost_count = cost_room.count;
     let costs = &mut doubled[..cost_count];
-    if call == MEASURED {
-        show_written(tree::measured(n, t, fars, costs));
-    } else {
-        show_written(tree::exact(n, t, fars, costs));
+    let answer = read(call, n, t, fars, costs);
+    if call != MEASURED {
+        hold_engines(call, n, t, text, at, answer, fars, costs);
     }
+    show_written(answer);
     show64(fars);
     show32(costs);
     cost_room.next
@@ -101,7 +154,7 @@ fn case_of(call: u32, n: usize, t: &[u32], text: &[u8], at: usize) -> usize {
     if call == ORDER {
         return order_case(n, t, text, at);
     }
-    if call <= EXACT {
+    if call <= EXACT_GRAFTED {
         return reading_case(call, n, t, text, at);
     }
     if call == COMPARE {
