@@ -18,7 +18,7 @@ use Rattle.tree.specs.Readings.{exactOutcome}
 use Rattle.tree.specs.Writing.{Ready}
 use Rattle.recognition.specs.Laws.Condition.{placed-formed}
 use Rattle.recognition.specs.Laws.Order.{around, order-places}
-use Rattle.recognition.specs.Laws.Recognition.{graft-facts}
+use Rattle.recognition.specs.Laws.Facts.{graft-facts}
 use Rattle.recognition.specs.Promises.{recognises}
 use Rattle.recognition.specs.Recognition.{allGraft, placed}
 use Rattle.grafting.specs.Grafting.{grafted}

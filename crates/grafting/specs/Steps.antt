@@ -3,7 +3,7 @@ use mathlib.Core.List.{List, [], _++_, _∷_}
 use mathlib.Core.Path.{_≡_}
 use Prim.Native.Nat.{ℕ, _+_, _-_, _<_, _^_, _≤_}
 use lib.ListN.{getD, length}
-use Rattle.theory.specs.LinkTables.{Row, allCosts}
+use Rattle.theory.specs.LinkTables.{allCosts}
 use Rattle.tree.specs.LocalRows.{rowsIn}
 use Rattle.rows.specs.Putting.{Ascends}
 use Rattle.rows.specs.Rows.{costly, putAll}

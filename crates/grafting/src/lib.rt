@@ -8,7 +8,7 @@ ghost use Rattle.theory.specs.Tables.{limit, cost, CostTable};
 ghost use Rattle.recognition.specs.Recognition.{placed};
 ghost use Rattle.recognition.specs.Seats.{seat, Seated};
 ghost use Rattle.grafting.specs.Grafting.{height, ownCost};
-ghost use Rattle.grafting.specs.Held.{OwnTable, PathHeld, TableGrafted, TableHeld};
+ghost use Rattle.grafting.specs.Held.{OwnTable, PathHeld, TableGrafted};
 ghost use Rattle.grafting.specs.Steps.{AddRow, CloseRoom, CloseRows, KeepRoom, KeepRows};
 
 // x less y, and 0 where y is larger.

@@ -9,6 +9,7 @@ use borrow.Author.Tests.{eqb-false, eqb-true}
 use borrow.Table.Steps.{cases}
 use Rattle.ground.specs.Filters.{Each}
 use Rattle.ground.specs.Laws.Maps.{map-append, map-mem}
+use Rattle.ground.specs.Laws.Ranges.{from-last}
 use Rattle.ground.specs.Ranges.{from}
 use Rattle.theory.specs.LinkTables.{LinkTable, Row}
 use Rattle.tree.specs.Exact.{Wired, exactRows}
@@ -21,10 +22,6 @@ use Rattle.consensus.specs.Team.{sharedLinks, tableAt, tablesIn}
 meet-last : (T : List Row) (Ts : List (List Row)) (U : List Row) → meetAll T (Ts ++ (U ∷ [])) ≡ meet (meetAll T Ts) U
 meet-last T [] U = refl
 meet-last T (S ∷ Ts) U = meet-last (meet T S) Ts U
-
-from-last : (i m : ℕ) → from i (suc m) ≡ from i m ++ ((i + m) ∷ [])
-from-last i zero = ap (λ x. x ∷ []) (omega arith)
-from-last i (suc m) = let e : i + suc m ≡ suc i + m = omega arith in rw e (ap (λ l. i ∷ l) (from-last (suc i) m))
 
 -- ## The trees
 

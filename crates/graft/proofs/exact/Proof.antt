@@ -17,12 +17,16 @@ enum-told : tie.Need-enum-told
 enum-told c = search needs
 
 read-requires : tie.Need-read-requires
-read-requires c κs = let r = measured-passed limit _ _ _ _ .0 (sym (c .before .before .before .before .check-measured .ensures) ∙ c .before .before .enum-told .given .1) in
+read-requires c κs =
+    let t = c .before .before in
+    let r = measured-passed limit _ _ _ _ .0 (sym (t .before .before .check-measured .ensures) ∙ t .enum-told .given .1) in
     (r .table, r .far-room, r .cost-room)
 
 returns : tie.Need-returns
-returns c = let a = c .before .before .before .before .before .before .before .args in
-    exact-refused (a .n) (a .t .now) (a .fars .now) (a .costs .now) (c .before .c .given .1) (c .before .before .before .check-measured .ensures)
+returns c =
+    let k = c .before .before .before in
+    let a = k .before .before .before .before .args in
+    exact-refused (a .n) (a .t .now) (a .fars .now) (a .costs .now) (c .before .c .given .1) (k .check-measured .ensures)
 
 same-length : tie.Need-same-length
 same-length c = search needs
@@ -31,8 +35,12 @@ same-length-2 : tie.Need-same-length-2
 same-length-2 c = search needs
 
 returns-2 : tie.Need-returns-2
-returns-2 c = let a = c .before .before .before .before .before .before .before .before .before .before .before .before .before .args in
-    exact-read (a .n) (a .t .now) (a .fars .now) (a .costs .now) _ _ _ (c .before .before .before .before .before .before .before .enum-told .given .1) (c .before .before .before .before .before .before .before .before .before .check-measured .ensures) (c .before .before .before .before .read .ensures)
+returns-2 c =
+    let t = c .before .before .before .before .before .before .before in
+    let k = t .before .before in
+    let a = k .before .before .before .before .args in
+    exact-read (a .n) (a .t .now) (a .fars .now) (a .costs .now) _ _ _ (t .enum-told .given .1) (k .check-measured .ensures)
+    (c .before .before .before .before .read .ensures)
 
 pub exact-spec : {M : Type 1} → statement M
 exact-spec =

@@ -55,10 +55,11 @@ same-length-2 c = search needs
 
 returns : tie.Need-returns
 returns c =
-    let w = c .before .before .before .before .before .before .before .before .before .before .before .before in
+    let b = c .before .before .before .before .before .before .before .before in
+    let w = b .before .before .before .before in
     let s = start w in
     read-written (s .args .n) (s .args .t .now) _ (s .pre .0) (ordered w) (s .args .fars .now) (s .args .costs .now) _ _ _
-    (sym (c .before .before .before .before .before .before .before .before .before .can-graft-all .ensures) ∙ c .before .before .before .before .before .before .before .before .if1 .taken) (c .before .before .before .before .write-grafted .ensures)
+    (sym (b .before .can-graft-all .ensures) ∙ b .if1 .taken) (c .before .before .before .before .write-grafted .ensures)
 
 refuse-requires : tie.Need-refuse-requires
 refuse-requires c κs = search needs

@@ -13,6 +13,10 @@ Inv-loop h m sides lengths fars₀ costs₀ count togo₀ all₀ i₀ fars costs
 abbrev μ-loop : tie.MeasureT-loop
 μ-loop h m sides lengths fars₀ costs₀ count togo₀ all₀ i₀ fars costs togo all i = m - i
 
+-- where the call began
+abbrev start : tie.In-loop Inv-loop μ-loop → tie.Start Inv-loop μ-loop
+start l = l .before .before .before .before .before .before
+
 loop-holds : tie.Need-loop-holds Inv-loop μ-loop
 loop-holds c = closing-start _ _ _ _ _ _ _ (c .before .before .before .before .pre)
 
@@ -20,7 +24,7 @@ mul-c : tie.Need-mul-c Inv-loop μ-loop
 mul-c c = search needs
 
 shared-slice-read-c : tie.Need-shared-slice-read-c Inv-loop μ-loop
-shared-slice-read-c c = omega (arith, c .before .before .before .before .before .before .before .pre .for-length, c .before .loop-test .taken)
+shared-slice-read-c c = omega (arith, start (c .before) .pre .for-length, c .before .loop-test .taken)
 
 lower-requires : tie.Need-lower-requires Inv-loop μ-loop
 lower-requires c κs = search needs
@@ -29,7 +33,9 @@ mul-close-row : tie.Need-mul-close-row Inv-loop μ-loop
 mul-close-row c = search needs
 
 shared-slice-read-close-row : tie.Need-shared-slice-read-close-row Inv-loop μ-loop
-shared-slice-read-close-row c = omega (arith, c .before .before .before .before .before .before .before .before .before .before .before .pre .for-side, c .before .before .before .before .before .loop-test .taken)
+shared-slice-read-close-row c =
+    let l = c .before .before .before .before .before in
+    omega (arith, start l .pre .for-side, l .loop-test .taken)
 
 sub-close-row : tie.Need-sub-close-row Inv-loop μ-loop
 sub-close-row c = omega (arith, c .before .before .before .lower .ensures)
@@ -37,7 +43,7 @@ sub-close-row c = omega (arith, c .before .before .before .lower .ensures)
 close-row-requires : tie.Need-close-row-requires Inv-loop μ-loop
 close-row-requires c κs =
     let l = c .before .before .before .before .before in
-    closing-room _ _ _ _ _ _ _ (l .before .before .before .before .before .before .pre) _ _ _ _ _ (l .before .loop .inv) (l .loop-test .taken) _
+    closing-room _ _ _ _ _ _ _ (start l .pre) _ _ _ _ _ (l .before .loop .inv) (l .loop-test .taken) _
     (c .before .before .before .lower .ensures)
 
 sub-togo : tie.Need-sub-togo Inv-loop μ-loop
@@ -52,7 +58,7 @@ loop-less c = search needs
 loop-again : tie.Need-loop-again Inv-loop μ-loop
 loop-again c =
     let l = c .before .before .before .before .before .before .before .before .before .before in
-    closing-more _ _ _ _ _ _ _ (l .before .before .before .before .before .before .pre) _ _ _ _ _ (l .before .loop .inv) (l .loop-test .taken) _ _ _ _
+    closing-more _ _ _ _ _ _ _ (start l .pre) _ _ _ _ _ (l .before .loop .inv) (l .loop-test .taken) _ _ _ _
     (c .before .before .before .before .before .before .before .before .lower .ensures) (c .before .before .before .before .close-row .ensures)
 
 same-length : tie.Need-same-length Inv-loop μ-loop

@@ -18,9 +18,12 @@ Inv-loop n t o fars₀ costs₀ sides₀ lengths₀ count₀ m₀ p₀ fars cost
 abbrev μ-loop : tie.MeasureT-loop
 μ-loop n t o fars₀ costs₀ sides₀ lengths₀ count₀ m₀ p₀ fars costs sides lengths count m p = n - p
 
--- where the call began, and the costs
+-- where the call began, seen from inside the loop and from behind it, and the costs
 abbrev start : tie.In-loop Inv-loop μ-loop → tie.Start Inv-loop μ-loop
 start l = l .before .before .before .before .before .before .before .before .before .before .before .before .before
+
+abbrev after : tie.After-loop Inv-loop μ-loop → tie.Start Inv-loop μ-loop
+after l = l .before .before .before .before .before .before .before .before .before .before .before .before .before
 
 abbrev table : tie.Start Inv-loop μ-loop → ℕ → ℕ → ℕ
 table s = cost (s .args .t .now) (s .args .n)
@@ -71,7 +74,9 @@ extend-path-requires c κs =
     (p .0, p .1, l .loop-test .taken, l .before .loop .inv .1)
 
 add-p : tie.Need-add-p Inv-loop μ-loop
-add-p c = let l = c .before .before .before .before .before .before .before .before .before .before .before .before .before .before .before in omega (arith, l .loop-test .taken, start l .pre .0 .few)
+add-p c =
+    let l = c .before .before .before .before .before .before .before .before .before .before .before .before .before .before .before in
+    omega (arith, l .loop-test .taken, start l .pre .0 .few)
 
 loop-less : tie.Need-loop-less Inv-loop μ-loop
 loop-less c = search needs
@@ -81,10 +86,12 @@ loop-again c =
     let l = c .before .before .before .before .before .before .before .before .before .before .before .before .before .before .before in
     let s = start l in
     let i = l .before .loop .inv in
-    let q = add-one (l .before .loop .p) in (
+    let q = add-one (l .before .loop .p) in
+    let k = c .before .before .before .before .before .before .before .before .before in
+    let h = k .before .before .before .before .before in (
       l .loop-test .taken,
       rw q (c .before .before .extend-path .ensures),
-      rw q (table-closed (table s) (s .args .o .now) _ _ _ _ (i .1) (s .args .n) _ _ _ (i .2) _ _ _ _ (c .before .before .before .before .before .before .before .before .before .before .before .before .before .before .height-at .ensures) (c .before .before .before .before .before .before .before .before .before .close-rows .ensures)),
+      rw q (table-closed (table s) (s .args .o .now) _ _ _ _ (i .1) (s .args .n) _ _ _ (i .2) _ _ _ _ (h .height-at .ensures) (k .close-rows .ensures)),
     )
 
 slice-aggregate-close-rows-3 : tie.Need-slice-aggregate-close-rows-3 Inv-loop μ-loop
@@ -95,24 +102,25 @@ slice-aggregate-close-rows-4 c = search needs
 
 close-rows-requires-2 : tie.Need-close-rows-requires-2 Inv-loop μ-loop
 close-rows-requires-2 c κs =
-    let s = c .before .before .before .before .before .before .before .before .before .before .before .before .before .before .before .before .before in
-    let i = c .before .before .before .before .before .loop .inv in
+    let l = c .before .before .before .before in
+    let s = after l in
+    let i = l .before .loop .inv in
     close-room (table s) (s .args .o .now) _ _ _ _ (i .1) (s .args .n) (s .pre .0 .few) (s .pre .1 .places) (s .pre .0 .formed) _ _ _ (i .2) (i .0)
 
 same-length : tie.Need-same-length Inv-loop μ-loop
 same-length c =
-    c .before .before .before .before .close-rows2 .ensures .far-size ∙ c .before .before .before .before .before .before .before .before .before .before .loop .inv .2 .far-room
-    ∙ sym (c .before .before .before .before .before .before .before .before .before .before .before .before .before .before .before .before .before .before .before .before .before .before .pre .2)
+    let l = c .before .before .before .before .before .before .before .before .before in
+    c .before .before .before .before .close-rows2 .ensures .far-size ∙ l .before .loop .inv .2 .far-room ∙ sym (after l .pre .2)
 
 same-length-2 : tie.Need-same-length-2 Inv-loop μ-loop
 same-length-2 c =
-    c .before .before .before .before .close-rows2 .ensures .cost-size ∙ c .before .before .before .before .before .before .before .before .before .before .loop .inv .2 .cost-room
-    ∙ sym (c .before .before .before .before .before .before .before .before .before .before .before .before .before .before .before .before .before .before .before .before .before .before .pre .3)
+    let l = c .before .before .before .before .before .before .before .before .before in
+    c .before .before .before .before .close-rows2 .ensures .cost-size ∙ l .before .loop .inv .2 .cost-room ∙ sym (after l .pre .3)
 
 returns : tie.Need-returns Inv-loop μ-loop
 returns c =
     let l = c .before .before .before .before .before .before .before .before .before in
-    let s = c .before .before .before .before .before .before .before .before .before .before .before .before .before .before .before .before .before .before .before .before .before .before in
+    let s = after l in
     let i = l .before .loop .inv in
     table-grafted (table s) (s .args .o .now) _ _ _ _ (i .1) (s .args .n) _ _ _ (i .2) _ _ _ (omega (arith, i .0, l .loop-test .left))
     (c .before .before .before .before .close-rows2 .ensures)

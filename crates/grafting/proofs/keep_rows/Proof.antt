@@ -1,6 +1,7 @@
 -- `grafting::keep_rows` meets its contract: the first i rows are kept, and of the height what is left behind them. Assumes nothing.
-use Prim.Native.Nat.{_-_}
+use Prim.Native.Nat.{_-_, _<_}
 use native.Mathlib.Omega.{arith}
+use lib.ListN.{length}
 use borrow.Author.Needs.{needs}
 use borrow.Author.Tests.{ltb-false, ltb-true}
 use Rattle.grafting.specs.Laws.Keeping.{Keeping, keeping-end, keeping-more, keeping-places, keeping-start, side-fits}
@@ -13,6 +14,13 @@ Inv-loop h add m sides₀ lengths₀ togo₀ i₀ sides lengths togo i = Keeping
 abbrev μ-loop : tie.MeasureT-loop
 μ-loop h add m sides₀ lengths₀ togo₀ i₀ sides lengths togo i = m - i
 
+-- where the call began, seen from inside the loop, where both tests passed; there are such places, and the new far side fits
+abbrev start : tie.In-loop Inv-loop μ-loop → tie.Start Inv-loop μ-loop
+start l = l .before .before .before .before
+
+places : (l : tie.In-loop Inv-loop μ-loop) → (l .before .loop .i < length (l .before .loop .sides)) × (l .before .loop .i < length (l .before .loop .lengths))
+places l = keeping-places _ _ _ _ _ (start l .pre) _ _ _ _ (l .before .loop .inv) (l .loop-test .taken)
+
 loop-holds : tie.Need-loop-holds Inv-loop μ-loop
 loop-holds c = keeping-start _ _ _ _ _ (c .before .before .pre)
 
@@ -20,7 +28,7 @@ mul-lower : tie.Need-mul-lower Inv-loop μ-loop
 mul-lower c = search needs
 
 slice-read-lower : tie.Need-slice-read-lower Inv-loop μ-loop
-slice-read-lower c = keeping-places _ _ _ _ _ (c .before .before .before .before .before .before .pre) _ _ _ _ (c .before .before .before .loop .inv) (omega arith) .1
+slice-read-lower c = places (c .before .before) .1
 
 lower-requires : tie.Need-lower-requires Inv-loop μ-loop
 lower-requires c κs = search needs
@@ -29,22 +37,24 @@ mul-sides : tie.Need-mul-sides Inv-loop μ-loop
 mul-sides c = search needs
 
 slice-read-sides : tie.Need-slice-read-sides Inv-loop μ-loop
-slice-read-sides c = keeping-places _ _ _ _ _ (c .before .before .before .before .before .before .before .before .pre) _ _ _ _ (c .before .before .before .before .before .loop .inv) (omega arith) .0
+slice-read-sides c = places (c .before .before .before .before) .0
 
 add-sides : tie.Need-add-sides Inv-loop μ-loop
-add-sides c = record { fits = side-fits _ _ _ _ _ (c .before .before .before .before .before .before .before .before .pre) _ _ _ _ (c .before .before .before .before .before .loop .inv) (omega arith) }
+add-sides c =
+    let l = c .before .before .before .before in
+    record { fits = side-fits _ _ _ _ _ (start l .pre) _ _ _ _ (l .before .loop .inv) (l .loop-test .taken) }
 
 mul-sides-2 : tie.Need-mul-sides-2 Inv-loop μ-loop
 mul-sides-2 c = search needs
 
 slice-write-sides : tie.Need-slice-write-sides Inv-loop μ-loop
-slice-write-sides c = keeping-places _ _ _ _ _ (c .before .before .before .before .before .before .before .before .pre) _ _ _ _ (c .before .before .before .before .before .loop .inv) (omega arith) .0
+slice-write-sides c = places (c .before .before .before .before) .0
 
 mul-lengths : tie.Need-mul-lengths Inv-loop μ-loop
 mul-lengths c = search needs
 
 slice-write-lengths : tie.Need-slice-write-lengths Inv-loop μ-loop
-slice-write-lengths c = keeping-places _ _ _ _ _ (c .before .before .before .before .before .before .before .before .pre) _ _ _ _ (c .before .before .before .before .before .loop .inv) (omega arith) .1
+slice-write-lengths c = places (c .before .before .before .before) .1
 
 sub-togo : tie.Need-sub-togo Inv-loop μ-loop
 sub-togo c = omega (arith, c .before .lower .ensures)
@@ -57,7 +67,9 @@ loop-less c = search needs
 
 loop-again : tie.Need-loop-again Inv-loop μ-loop
 loop-again c =
-    keeping-more _ _ _ _ _ (c .before .before .before .before .before .before .before .before .pre) _ _ _ _ (c .before .before .before .before .before .loop .inv) (omega arith) _ (ltb-true 0 _ (c .before .before .before .if1 .taken)) (c .before .lower .ensures)
+    let l = c .before .before .before .before in
+    keeping-more _ _ _ _ _ (start l .pre) _ _ _ _ (l .before .loop .inv) (l .loop-test .taken) _ (ltb-true 0 _ (c .before .before .before .if1 .taken))
+    (c .before .lower .ensures)
 
 same-length : tie.Need-same-length Inv-loop μ-loop
 same-length c = c .before .before .loop .inv .side-size
@@ -66,7 +78,9 @@ same-length-2 : tie.Need-same-length-2 Inv-loop μ-loop
 same-length-2 c = c .before .before .loop .inv .length-size
 
 returns : tie.Need-returns Inv-loop μ-loop
-returns c = keeping-end _ _ _ _ _ (c .before .before .before .before .before .pre) _ _ _ _ (c .before .before .loop .inv) (λ h. omega (arith, ltb-false 0 (c .before .before .loop .togo) (c .if1 .left)))
+returns c =
+    let l = c .before in
+    keeping-end _ _ _ _ _ (start l .pre) _ _ _ _ (l .before .loop .inv) (λ h. omega (arith, ltb-false 0 (l .before .loop .togo) (c .if1 .left)))
 
 same-length-3 : tie.Need-same-length-3 Inv-loop μ-loop
 same-length-3 c = c .before .loop .inv .side-size

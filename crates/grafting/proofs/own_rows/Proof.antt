@@ -30,13 +30,17 @@ mul-fars : tie.Need-mul-fars Inv-loop μ-loop
 mul-fars c = search needs
 
 slice-write-fars : tie.Need-slice-write-fars Inv-loop μ-loop
-slice-write-fars c = own-places _ _ _ _ _ _ (c .before .before .loop .inv) (c .before .before .before .before .before .pre .2) (c .before .before .before .before .before .pre .3) .0
+slice-write-fars c =
+    let p = c .before .before .before .before .before .pre in
+    own-places _ _ _ _ _ _ (c .before .before .loop .inv) (p .2) (p .3) .0
 
 mul-costs : tie.Need-mul-costs Inv-loop μ-loop
 mul-costs c = search needs
 
 slice-write-costs : tie.Need-slice-write-costs Inv-loop μ-loop
-slice-write-costs c = own-places _ _ _ _ _ _ (c .before .before .loop .inv) (c .before .before .before .before .before .pre .2) (c .before .before .before .before .before .pre .3) .1
+slice-write-costs c =
+    let p = c .before .before .before .before .before .pre in
+    own-places _ _ _ _ _ _ (c .before .before .loop .inv) (p .2) (p .3) .1
 
 add-i : tie.Need-add-i Inv-loop μ-loop
 add-i c = search needs
@@ -56,13 +60,17 @@ mul-fars-2 : tie.Need-mul-fars-2 Inv-loop μ-loop
 mul-fars-2 c = search needs
 
 slice-write-fars-2 : tie.Need-slice-write-fars-2 Inv-loop μ-loop
-slice-write-fars-2 c = own-places _ _ _ _ _ _ (c .before .before .loop .inv) (c .before .before .before .before .before .pre .2) (c .before .before .before .before .before .pre .3) .0
+slice-write-fars-2 c =
+    let p = c .before .before .before .before .before .pre in
+    own-places _ _ _ _ _ _ (c .before .before .loop .inv) (p .2) (p .3) .0
 
 mul-costs-2 : tie.Need-mul-costs-2 Inv-loop μ-loop
 mul-costs-2 c = search needs
 
 slice-write-costs-2 : tie.Need-slice-write-costs-2 Inv-loop μ-loop
-slice-write-costs-2 c = own-places _ _ _ _ _ _ (c .before .before .loop .inv) (c .before .before .before .before .before .pre .2) (c .before .before .before .before .before .pre .3) .1
+slice-write-costs-2 c =
+    let p = c .before .before .before .before .before .pre in
+    own-places _ _ _ _ _ _ (c .before .before .loop .inv) (p .2) (p .3) .1
 
 same-length : tie.Need-same-length Inv-loop μ-loop
 same-length c = length-set (c .before .before .loop .fars) (c .before .before .loop .i) (c .own-link2 .result) ∙ c .before .before .loop .inv .far-size

@@ -1,18 +1,19 @@
 -- What lies behind the height is closed row by row. Assumes nothing.
 use mathlib.Core.List.{List, [], _++_, _∷_}
 use mathlib.Core.Path.{ap, refl, sym, _∙_, _≡_}
-use Prim.Native.Nat.{min, suc, zero, ℕ, _+_, _-_, _<_, _^_, _≤_}
+use Prim.Native.Nat.{min, suc, ℕ, _+_, _-_, _<_, _^_, _≤_}
 use native.Mathlib.Omega.{arith}
 use lib.ListN.{getD, length}
+use Rattle.ground.specs.Laws.Sums.{sum-append}
 use Rattle.theory.specs.LinkTables.{Row, allCosts}
 use Rattle.tree.specs.Laws.LocalRows.{rowsIn-length, rowsIn-more, rowsIn-none}
 use Rattle.tree.specs.LocalRows.{rowsIn}
+use Rattle.rows.specs.Laws.Places.{in-at}
 use Rattle.rows.specs.Laws.PutAll.{costly-append, costly-total, putAll-append, putAll-length, putAll-total}
-use Rattle.rows.specs.Putting.{Ascends, CloseRow, PutRoom}
+use Rattle.rows.specs.Putting.{CloseRow, PutRoom, rowsFrom}
 use Rattle.rows.specs.Rows.{costly, putAll}
 use Rattle.grafting.specs.Grafting.{closed}
 use Rattle.grafting.specs.Laws.Cutting.{closed-append, closed-length, costly-few, cut-total, left, left-append}
-use Rattle.grafting.specs.Laws.Sums.{sum-append}
 use Rattle.grafting.specs.Steps.{CloseRoom, CloseRows}
 
 -- the first i rows are, and of the height this is left
@@ -20,17 +21,6 @@ pub record Closing (h i m : ℕ) (s w f v : List ℕ) (count r togo : ℕ) (f′
   pub at : i ≤ m
   pub done : CloseRows h i s w f v count r f′ v′
   pub to-go : togo ≡ left h (rowsIn s w i)
-
--- fewer rows cost no more
-in-total : (s w : List ℕ) (i k : ℕ) → allCosts (rowsIn s w i) ≤ allCosts (rowsIn s w (i + k))
-in-total s w i k = go k
-  where
-    go : (k : ℕ) → allCosts (rowsIn s w i) ≤ allCosts (rowsIn s w (i + k))
-    go zero = let q : i + 0 ≡ i = omega arith in rw q (omega arith)
-    go (suc k) =
-        let q : i + suc k ≡ i + k + 1 = omega arith in
-        let a = ap allCosts (rowsIn-more s w (i + k)) ∙ sum-append (rowsIn s w (i + k)) ((getD s (i + k) 0, getD w (i + k) 0) ∷ []) (λ r. r .1) in
-        rw q (omega (arith, go k))
 
 module _ (h m : ℕ) (s w f v : List ℕ) (count : ℕ) (k : CloseRoom m s w f v count) where
   pub closing-start : Closing h 0 m s w f v count count h f v
@@ -57,17 +47,14 @@ module _ (h m : ℕ) (s w f v : List ℕ) (count : ℕ) (k : CloseRoom m s w f v
 
     total : allCosts (rowsIn f′ v′ r) + getD w i 0 < 2 ^ 32
     total =
-        let q : i + 1 + (m - (i + 1)) ≡ m = omega arith in
-        let t = in-total s w (i + 1) (m - (i + 1)) in
-        let t = rw q at t in
-        let b = ap allCosts (rowsIn-more s w i) ∙ sum-append (rowsIn s w i) ((getD s i 0, getD w i 0) ∷ []) (λ r. r .1) in
+        let last : Row = (getD s i 0, getD w i 0) in
+        let b = ap allCosts (in-at s w i m l) ∙ sum-append (λ r. r .1) (rowsIn s w i) (last ∷ rowsFrom s w (suc i) (m - suc i)) in
         omega (
           arith,
           ap allCosts (c .done .rows),
           putAll-total (costly (closed h (rowsIn s w i))) (rowsIn f v count),
           costly-total (closed h (rowsIn s w i)),
           cut-total h 0 (rowsIn s w i),
-          t,
           b,
           k .spent,
         )

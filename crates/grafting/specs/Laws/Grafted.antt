@@ -1,6 +1,6 @@
 -- The grafted table is the exact reading: its path costs are twice the entries, and it is a link table. Assumes nothing.
 use mathlib.Core.Bool.{Bool, true}
-use mathlib.Core.List.{List, List·Memᴰ, List·Memᴰ·head, List·Memᴰ·tail, _∷_}
+use mathlib.Core.List.{List}
 use mathlib.Core.Logic.{inr}
 use mathlib.Core.Path.{ap, _∙_, _≡_}
 use Prim.Native.Nat.{suc, ℕ, _*_, _+_, _<_, _^_, _≤_}
@@ -10,6 +10,7 @@ use borrow.Author.Tests.{leb-false, leb-true, ltb-true}
 use borrow.Table.Steps.{cases}
 use Rattle.ground.specs.Filters.{Each}
 use Rattle.ground.specs.Laws.Filters.{filter-mem}
+use Rattle.ground.specs.Laws.Sums.{sum-one}
 use Rattle.ground.specs.Sums.{sum, when}
 use Rattle.theory.specs.FarSides.{inner, own}
 use Rattle.theory.specs.Laws.FarSides.{far-image}
@@ -28,10 +29,6 @@ use Rattle.grafting.specs.Laws.Heights.{height-is, height-self}
 use Rattle.grafting.specs.Laws.OwnRows.{own-between, own-costs, own-sum, own-there}
 use Rattle.grafting.specs.Laws.Sound.{Sound, grafted-sound, on-path, sound-uncrossed, when-closed}
 use Rattle.grafting.specs.Laws.Sums.{all-sum, bothIn, path-both}
-
-member-sum : (f : Row → ℕ) (T : List Row) (r : Row) → List·Memᴰ r T → f r ≤ sum T f
-member-sum f (q ∷ T) r (List·Memᴰ·head s) = omega (arith, ap f s)
-member-sum f (q ∷ T) r (List·Memᴰ·tail m) = omega (arith, member-sum f T r m)
 
 costly-costs : (t : ℕ → Bool) (R : List Row) → Each (costly R) (Costs t)
 costly-costs t R q m s = ltb-true 0 (q .1) (filter-mem (λ r. ltb 0 (r .1)) R q m .0)
@@ -111,7 +108,7 @@ module _ (L : ℕ) (d : ℕ → ℕ → ℕ) (o : ℕ → ℕ) (k : ℕ) (some :
         let f = sound r m .0 in
         let b = far-image (suc n) (r .0) f in
         let a : apart (r .0) 0 (b .0) ≡ true = rw (bit-holds-not (r .0) 0 (f .near), bit-holds (r .0) (b .0) (b .2)) in
-        let s = member-sum (λ q. when (apart (q .0) 0 (b .0)) (q .1)) T r m in
+        let s = sum-one (λ q. when (apart (q .0) 0 (b .0)) (q .1)) T r m in
         let s = rw a at s in
         omega (arith, grafted-meets .meets {i = 0} {j = b .0} (omega arith) (b .1), cd .small {i = 0} {j = b .0} (omega arith) (b .1));
   }

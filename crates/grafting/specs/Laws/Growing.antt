@@ -10,8 +10,9 @@ use lib.Dec.{ltb}
 use lib.ListN.{getD, length}
 use lib.Pow.{pow-mono}
 use borrow.Author.Tests.{ltb-true}
+use Rattle.ground.specs.Laws.Bits.{bit-add-fits}
 use Rattle.ground.specs.Laws.Filters.{filter-mem}
-use Rattle.theory.specs.LinkTables.{Row, allCosts}
+use Rattle.theory.specs.LinkTables.{allCosts}
 use Rattle.theory.specs.Tables.{WellFormed, limit}
 use Rattle.tree.specs.Laws.Held.{rowsIn-mem}
 use Rattle.tree.specs.Laws.LocalRows.{rowsIn-length, rowsIn-none}
@@ -23,8 +24,8 @@ use Rattle.rows.specs.Rows.{costly, putAll}
 use Rattle.grafting.specs.Grafting.{closed, grafted, height, kept, ownCost, pathTo}
 use Rattle.grafting.specs.Held.{OwnTable, PathHeld, TableGrafted, TableHeld}
 use Rattle.grafting.specs.Laws.Cutting.{closed-all, costly-closed, costly-few, costly-kept}
-use Rattle.grafting.specs.Laws.Room.{Behind, few, path-length, path-more, path-none, path-sides, table-more, table-none, total}
-use Rattle.grafting.specs.Laws.Sides.{bit-add-fits, side-fits, side-out}
+use Rattle.grafting.specs.Laws.Room.{few, path-length, path-more, path-none, path-sides, table-more, table-none, total}
+use Rattle.grafting.specs.Laws.Sides.{side-fits, side-out}
 use Rattle.grafting.specs.Sides.{side}
 use Rattle.grafting.specs.Steps.{AddRow, CloseRoom, CloseRows, KeepRoom, KeepRows}
 

@@ -61,7 +61,9 @@ module _ (L : ℕ) (e : ℕ → ℕ → ℕ) (n : ℕ) (c : WellFormed L e (suc 
   height-step i (suc p) hk h =
       cases (eqb i p)
       (λ q. rw (eqb-true i p q) (omega (arith, height-own p (omega arith))))
-      (λ q. omega (arith, height-next i p (omega arith) (omega arith), height-next (suc i) p (omega arith) (omega (arith, eqb-false i p q)), height-step i p (omega arith) (omega (arith, eqb-false i p q))))
+      (λ q.
+      let u : suc i ≤ p = omega (arith, eqb-false i p q) in
+      omega (arith, height-next i p (omega arith) (omega arith), height-next (suc i) p (omega arith) u, height-step i p (omega arith) u))
 
   pub height-up : (i j k : ℕ) → k ≤ n → i ≤ j → j ≤ k → height e i k ≤ height e j k
   height-up i zero k hk l h = let q : i ≡ 0 = omega arith in rw q (omega arith)
@@ -74,7 +76,9 @@ module _ (L : ℕ) (e : ℕ → ℕ → ℕ) (n : ℕ) (c : WellFormed L e (suc 
   height-down i j zero hk l h = let q : j ≡ 0 = omega arith in rw q (omega arith)
   height-down i j (suc k) hk l h =
       cases (eqb j (suc k)) (λ q. rw (eqb-true j (suc k) q) (omega arith))
-      (λ q. omega (arith, height-down i j k (omega arith) l (omega (arith, eqb-false j (suc k) q)), height-next i k (omega arith) (omega (arith, eqb-false j (suc k) q))))
+      (λ q.
+      let u : j ≤ k = omega (arith, eqb-false j (suc k) q) in
+      omega (arith, height-down i j k (omega arith) l u, height-next i k (omega arith) (omega arith)))
 
   -- of three images the least height occurs twice
   pub height-three : (i j k : ℕ) → i ≤ n → j ≤ n → k ≤ n → min (height e i j) (height e j k) ≤ height e i k

@@ -1,7 +1,7 @@
 -- What lies up to the height is kept row by row, and gets the new image. Assumes nothing.
-use mathlib.Core.List.{List, [], append-assoc, append-nil, _++_, _∷_}
+use mathlib.Core.List.{List, [], append-nil, _++_, _∷_}
 use mathlib.Core.Path.{ap, ap₂, refl, sym, _∙_, _≡_}
-use Prim.Native.Nat.{min, suc, zero, ℕ, _+_, _-_, _<_, _^_, _≤_}
+use Prim.Native.Nat.{min, ℕ, _+_, _-_, _<_, _^_, _≤_}
 use native.Mathlib.Omega.{arith}
 use lib.Dec.{leb}
 use lib.ListN.{getD, length, length-set, set}
@@ -11,7 +11,9 @@ use borrow.Table.Steps.{cases}
 use Rattle.theory.specs.LinkTables.{Row}
 use Rattle.tree.specs.Laws.LocalRows.{rowsIn-more, rowsIn-none, stored-more}
 use Rattle.tree.specs.LocalRows.{rowsIn}
+use Rattle.rows.specs.Laws.Places.{in-split}
 use Rattle.rows.specs.Laws.PutAll.{costly-append}
+use Rattle.rows.specs.Putting.{rowsFrom}
 use Rattle.rows.specs.Rows.{costly}
 use Rattle.grafting.specs.Grafting.{kept}
 use Rattle.grafting.specs.Laws.Cutting.{kept-append, kept-none, left, left-append}
@@ -27,15 +29,6 @@ pub record Keeping (h add i m : ℕ) (s w : List ℕ) (togo : ℕ) (s′ w′ : 
   pub lengths : {j : ℕ} → i ≤ j → getD w′ j 0 ≡ getD w j 0
   pub side-size : length s′ ≡ length s
   pub length-size : length w′ ≡ length w
-
--- the rows behind the first i
-behind : (s w : List ℕ) (i k : ℕ) → (Q : List Row) × (rowsIn s w (i + k) ≡ rowsIn s w i ++ Q)
-behind s w i zero = let q : i + 0 ≡ i = omega arith in ([], rw q (sym (append-nil (rowsIn s w i))))
-behind s w i (suc k) =
-    let q : i + suc k ≡ i + k + 1 = omega arith in
-    let r = behind s w i k in
-    let last : List Row = (getD s (i + k) 0, getD w (i + k) 0) ∷ [] in
-    (r .0 ++ last, rw q (rowsIn-more s w (i + k) ∙ ap (λ R. R ++ last) (r .1) ∙ append-assoc (rowsIn s w i) (r .0) last))
 
 module _ (h add m : ℕ) (s w : List ℕ) (k : KeepRoom add m s w) where
   pub keeping-start : Keeping h add 0 m s w h s w
@@ -97,19 +90,19 @@ module _ (h add m : ℕ) (s w : List ℕ) (k : KeepRoom add m s w) where
     length-size = c .length-size;
   }
     where
-      b : (Q : List Row) × (rowsIn s w (i + (m - i)) ≡ rowsIn s w i ++ Q)
-      b = behind s w i (m - i)
+      -- the rows behind the first i
+      rest : List Row
+      rest = rowsFrom s w i (m - i)
 
       whole : costly (kept h add (rowsIn s w m)) ≡ costly (kept h add (rowsIn s w i))
       whole =
           cases (leb m i)
           (λ z. let q : m ≡ i = omega (arith, c .at, leb-true m i z) in ap (λ (j : ℕ). costly (kept h add (rowsIn s w j))) q)
           (λ z.
-          let q : m ≡ i + (m - i) = omega (arith, c .at) in
-          let none = kept-none (left h (rowsIn s w i)) add (b .0) (omega (arith, c .to-go, e (leb-false m i z))) in
-          ap (λ R. costly (kept h add R)) (ap (rowsIn s w) q ∙ b .1)
-          ∙ ap costly (kept-append h add (rowsIn s w i) (b .0))
-          ∙ costly-append (kept h add (rowsIn s w i)) (kept (left h (rowsIn s w i)) add (b .0))
+          let none = kept-none (left h (rowsIn s w i)) add rest (omega (arith, c .to-go, e (leb-false m i z))) in
+          ap (λ R. costly (kept h add R)) (in-split s w i m (c .at))
+          ∙ ap costly (kept-append h add (rowsIn s w i) rest)
+          ∙ costly-append (kept h add (rowsIn s w i)) (kept (left h (rowsIn s w i)) add rest)
           ∙ ap (λ R. costly (kept h add (rowsIn s w i)) ++ R) none ∙ append-nil (costly (kept h add (rowsIn s w i))))
 
 -- ## One row more at the end

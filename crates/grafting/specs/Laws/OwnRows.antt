@@ -13,7 +13,7 @@ use Rattle.ground.specs.Ascending.{Between}
 use Rattle.ground.specs.Filters.{Each}
 use Rattle.ground.specs.Laws.Ascending.{between-append, between-from}
 use Rattle.ground.specs.Laws.Maps.{map-append, map-mem, mem-map}
-use Rattle.ground.specs.Laws.Ranges.{from-mem, mem-from}
+use Rattle.ground.specs.Laws.Ranges.{from-length, from-mem, mem-from}
 use Rattle.ground.specs.Ranges.{from}
 use Rattle.ground.specs.Sums.{sum}
 use Rattle.theory.specs.FarSides.{inner, own}
@@ -22,10 +22,6 @@ use Rattle.theory.specs.LinkTables.{Row, allCosts, far, fars}
 use Rattle.rows.specs.Laws.Put.{Costs}
 use Rattle.rows.specs.Rows.{costIf}
 use Rattle.grafting.specs.Grafting.{ownRows}
-
-pub from-length : (i m : ℕ) → length (from i m) ≡ m
-from-length i zero = refl
-from-length i (suc m) = ap suc (from-length (suc i) m)
 
 -- ## They ascend
 
@@ -39,7 +35,9 @@ ups n i (suc m) =
     rw q (omega arith, b)
 
 pub own-between : (k : ℕ) → 1 ≤ k → Between 1 (fars (ownRows (suc (suc k)))) (2 ^ suc (suc k))
-own-between k h = subst (λ (l : List ℕ). Between 1 l (2 ^ suc (suc k))) (sym whole) (between-append 1 (suc (2 ^ suc k)) (2 ^ suc (suc k)) first (own n 0 ∷ []) low last)
+own-between k h =
+    subst (λ (l : List ℕ). Between 1 l (2 ^ suc (suc k))) (sym whole)
+    (between-append 1 (suc (2 ^ suc k)) (2 ^ suc (suc k)) first (own n 0 ∷ []) low last)
   where
     n : ℕ
     n = suc (suc k)

@@ -11,9 +11,10 @@ use borrow.Table.Steps.{cases}
 use Rattle.ground.specs.Ascending.{Between}
 use Rattle.ground.specs.Laws.Ascending.{between-mem}
 use Rattle.ground.specs.Laws.Maps.{map-append, mem-map}
+use Rattle.ground.specs.Laws.Ranges.{from-last}
 use Rattle.ground.specs.Ranges.{from}
 use Rattle.theory.specs.FarSides.{own}
-use Rattle.theory.specs.LinkTables.{Row, far, fars}
+use Rattle.theory.specs.LinkTables.{far, fars}
 use Rattle.tree.specs.Laws.Held.{rowsIn-mem}
 use Rattle.tree.specs.Laws.LocalRows.{rowsIn-more, rowsIn-none, stored-more}
 use Rattle.tree.specs.LocalRows.{rowsIn}
@@ -21,7 +22,6 @@ use Rattle.rows.specs.Putting.{Ascends}
 use Rattle.grafting.specs.Grafting.{ownRows}
 use Rattle.grafting.specs.Held.{OwnTable}
 use Rattle.grafting.specs.Laws.OwnRows.{own-between}
-use Rattle.grafting.specs.Laws.Path.{from-last}
 
 -- ## A list that ascends, place by place
 

@@ -7,6 +7,7 @@ use lib.Dec.{leb, ltb}
 use borrow.Author.Tests.{le-ltb, leb-false, leb-true, ltb-false, ltb-true}
 use borrow.Table.Steps.{cases}
 use Rattle.ground.specs.Laws.Maps.{map-append}
+use Rattle.ground.specs.Laws.Ranges.{from-last}
 use Rattle.ground.specs.Ranges.{from}
 use Rattle.ground.specs.Sums.{sum, when}
 use Rattle.theory.specs.LinkTables.{Row}
@@ -16,10 +17,6 @@ use Rattle.grafting.specs.Sides.{closedRow, pathRow, side}
 use Rattle.recognition.specs.Recognition.{Recognised}
 use Rattle.grafting.specs.Laws.Heights.{height-first, height-next, height-own, height-step}
 use Rattle.grafting.specs.Laws.Sides.{side-more, side-own}
-
-pub from-last : (i m : ℕ) → from i (suc m) ≡ from i m ++ ((i + m) ∷ [])
-from-last i zero = ap (λ x. x ∷ []) (omega arith)
-from-last i (suc m) = ap (λ l. i ∷ l) (from-last (suc i) m ∙ ap (λ x. from (suc i) m ++ (x ∷ [])) (omega arith))
 
 -- a cut at a, between x and y, above them or below
 cut-togo : (a x y : ℕ) → x ≤ y → a - x - (y - x) ≡ a - y
@@ -40,7 +37,9 @@ pub step-sum : (f : ℕ → ℕ) (a m i : ℕ) → ((r : ℕ) → a ≤ r → r 
 step-sum f a zero i h l u = let q : i ≡ a = omega arith in rw q (omega arith)
 step-sum f a (suc m) i h l u =
     cases (ltb a i)
-    (λ s. rw s (omega (arith, h a (omega arith) (omega arith), step-sum f (suc a) m i (λ r x y. h r (omega arith) (omega arith)) (ltb-true a i s) (omega arith))))
+    (λ s.
+    let ih = step-sum f (suc a) m i (λ r x y. h r (omega arith) (omega arith)) (ltb-true a i s) (omega arith) in
+    rw s (omega (arith, h a (omega arith) (omega arith), ih)))
     (λ s. let q : i ≡ a = omega (arith, ltb-false a i s) in rw s (omega (arith, nothing (suc a) m (omega arith), ap f q)))
   where
     nothing : (b m : ℕ) → i ≤ b → sum (from b m) (λ r. when (ltb r i) (f (suc r) - f r)) ≡ 0
@@ -51,7 +50,8 @@ module _ (L : ℕ) (e : ℕ → ℕ → ℕ) (n : ℕ) (c : WellFormed L e (suc 
   -- ## Place by place
 
   module _ (p : ℕ) (h : p < n) where
-    kept-is : (i m : ℕ) → i + m ≡ p → kept (height e p (suc p) - height e i p) (2 ^ o (suc p)) (map (pathRow e o p) (from i m)) ≡ map (pathRow e o (suc p)) (from i m)
+    kept-is : (i m : ℕ) → i + m ≡ p
+        → kept (height e p (suc p) - height e i p) (2 ^ o (suc p)) (map (pathRow e o p) (from i m)) ≡ map (pathRow e o (suc p)) (from i m)
     kept-is i zero s = refl
     kept-is i (suc m) s =
         let g = height-step L e n c t i p (omega arith) (omega arith) in

@@ -6,7 +6,7 @@ use native.Mathlib.Omega.{arith}
 use Rattle.theory.specs.Readings.{Exact, measured}
 use Rattle.theory.specs.Tables.{WellFormed}
 use Rattle.recognition.specs.Laws.Condition.{placed-formed}
-use Rattle.recognition.specs.Laws.Recognition.{graft-facts}
+use Rattle.recognition.specs.Laws.Facts.{graft-facts}
 use Rattle.recognition.specs.Recognition.{Places, allGraft, placed}
 use Rattle.grafting.specs.Grafting.{grafted}
 use Rattle.grafting.specs.Laws.Grafted.{grafted-exact, grafted-measured}

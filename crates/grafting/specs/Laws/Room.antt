@@ -8,6 +8,7 @@ use Prim.Native.Nat.{min, suc, zero, ℕ, _*_, _+_, _-_, _<_, _^_, _≤_}
 use native.Mathlib.Omega.{arith}
 use lib.ListN.{length, length-append}
 use Rattle.ground.specs.Filters.{Each}
+use Rattle.ground.specs.Laws.Sums.{sum-append}
 use Rattle.theory.specs.LinkTables.{Row, allCosts, far}
 use Rattle.theory.specs.Tables.{WellFormed, limit}
 use Rattle.rows.specs.Laws.PutAll.{costly-append, costly-total, putAll-append, putAll-length, putAll-total}
@@ -16,7 +17,6 @@ use Rattle.grafting.specs.Grafting.{closed, closedTo, height, kept, ownC
 use Rattle.grafting.specs.Laws.Cutting.{costly-few, cut-few, cut-total}
 use Rattle.grafting.specs.Laws.OwnRows.{own-free, own-length}
 use Rattle.grafting.specs.Laws.Sides.{side-more, side-own}
-use Rattle.grafting.specs.Laws.Sums.{sum-append}
 use Rattle.grafting.specs.Sides.{side}
 
 -- ## One place more
@@ -66,7 +66,7 @@ module _ (e : ℕ → ℕ → ℕ) (o : ℕ → ℕ) where
           same = λ i j. c .same (omega arith) (omega arith);
         } in
         let x = ap allCosts (table-more p) ∙ putAll-total (costly (closed a P)) (tableTo e o n p) in
-        let y = ap allCosts (path-more p) ∙ sum-append (kept a b P) ((b, ownCost e p) ∷ []) (λ r. r .1) in
+        let y = ap allCosts (path-more p) ∙ sum-append (λ r. r .1) (kept a b P) ((b, ownCost e p) ∷ []) in
         omega (
           arith,
           x,

@@ -2,37 +2,18 @@
 use mathlib.Core.Bool.{_&&_}
 use mathlib.Core.Logic.{inl, inr, _⊎_}
 use mathlib.Core.Path.{ap, refl, sym, _∙_, _≡_}
-use Prim.Native.Nat.{suc, zero, ℕ, _+_, _/_, _<_, _^_, _≤_}
+use Prim.Native.Nat.{suc, zero, ℕ, _+_, _<_, _^_, _≤_}
 use native.Mathlib.Omega.{arith}
 use lib.Dec.{eqb, leb}
 use lib.Pow.{pow-pos}
 use borrow.Author.Tests.{eqb-false, eqb-true, le-leb, leb-false, leb-true, lt-leb}
 use borrow.Table.Steps.{cases}
 use Rattle.ground.specs.Bits.{bit}
-use Rattle.ground.specs.Laws.Bits.{bit-none}
+use Rattle.ground.specs.Laws.Bits.{bit-add, bit-add-fits, bit-add-other, bit-none}
 use Rattle.theory.specs.FarSides.{FarSide, holds}
 use Rattle.theory.specs.Laws.Nested.{bit-holds, bit-holds-not}
 use Rattle.grafting.specs.Sides.{side}
 use Rattle.recognition.specs.Recognition.{Places}
-
--- ## One bit more
-
-pub bit-add : (z x : ℕ) → bit x z ≡ 0 → bit (2 ^ z + x) z ≡ 1
-bit-add zero x h = omega arith
-bit-add (suc z) x h = let e : (2 ^ suc z + x) / 2 ≡ 2 ^ z + x / 2 = omega arith in rw e (bit-add z (x / 2) h)
-
-pub bit-add-other : (z x i : ℕ) → bit x z ≡ 0 → (i ≡ z → ⊥) → bit (2 ^ z + x) i ≡ bit x i
-bit-add-other zero x zero h ne = absurd (ne refl)
-bit-add-other zero x (suc i) h ne = let e : (2 ^ 0 + x) / 2 ≡ x / 2 = omega arith in rw e
-bit-add-other (suc z) x zero h ne = omega arith
-bit-add-other (suc z) x (suc i) h ne = let e : (2 ^ suc z + x) / 2 ≡ 2 ^ z + x / 2 = omega arith in rw e (bit-add-other z (x / 2) i h (λ q. ne (ap suc q)))
-
-pub bit-add-fits : (n z x : ℕ) → z < n → x < 2 ^ n → bit x z ≡ 0 → 2 ^ z + x < 2 ^ n
-bit-add-fits zero z x l h b = absurd (omega arith)
-bit-add-fits (suc n) zero x l h b = omega arith
-bit-add-fits (suc n) (suc z) x l h b = omega (arith, bit-add-fits n z (x / 2) (omega arith) (omega arith) b)
-
--- ## Neighbouring places
 
 pub side-none : (o : ℕ → ℕ) (q m : ℕ) → m < q → side o q m ≡ 0
 unfolding side
@@ -52,7 +33,10 @@ module _ (o : ℕ → ℕ) (n : ℕ) (w : Places o n) (q : ℕ) (h : 0 < q) wher
   side-out zero i hm hi out = bit-none (o i)
   side-out (suc m) i hm hi out =
       cases (leb q (suc m))
-      (λ s. rw s (bit-add-other (o (suc m)) (side o q m) (o i) (side-out m (suc m) (omega arith) hm (inr (omega arith))) (λ t. other (leb-true q (suc m) s) out (w .once hi hm t)) ∙ side-out m i (omega arith) hi (less out)))
+      (λ s.
+      let z = side-out m (suc m) (omega arith) hm (inr (omega arith)) in
+      let ne : o i ≡ o (suc m) → ⊥ = λ t. other (leb-true q (suc m) s) out (w .once hi hm t) in
+      rw s (bit-add-other (o (suc m)) (side o q m) (o i) z ne ∙ side-out m i (omega arith) hi (less out)))
       (λ s. rw s (bit-none (o i)))
     where
       other : q ≤ suc m → (i < q) ⊎ (suc m < i) → i ≡ suc m → ⊥
@@ -70,7 +54,11 @@ module _ (o : ℕ → ℕ) (n : ℕ) (w : Places o n) (q : ℕ) (h : 0 < q) wher
       let z = side-out m (suc m) (omega arith) hm (inr (omega arith)) in
       cases (eqb i (suc m))
       (λ s. rw (eqb-true i (suc m) s, le-leb q (suc m) (omega arith)) (bit-add (o (suc m)) (side o q m) z))
-      (λ s. rw (le-leb q (suc m) (omega arith)) (bit-add-other (o (suc m)) (side o q m) (o i) z (λ t. omega (arith, eqb-false i (suc m) s, w .once {i = i} {j = suc m} (omega arith) hm t)) ∙ side-in m i (omega arith) (omega (arith, eqb-false i (suc m) s)) l))
+      (λ s.
+      let u = eqb-false i (suc m) s in
+      rw (le-leb q (suc m) (omega arith))
+      (bit-add-other (o (suc m)) (side o q m) (o i) z (λ t. omega (arith, u, w .once {i = i} {j = suc m} (omega arith) hm t))
+      ∙ side-in m i (omega arith) (omega (arith, u)) l))
 
   pub side-holds : (m i : ℕ) → m < n → i < n → holds (side o q m) (o i) ≡ (leb q i && leb i m)
   side-holds m i hm hi =

@@ -1,13 +1,13 @@
 -- What the costs of the path and of the closed rows add up to: for two images, the height at which their paths part. Assumes nothing.
 use mathlib.Core.Bool.{Bool, false, true, _&&_}
-use mathlib.Core.List.{List, [], map, _++_, _∷_}
+use mathlib.Core.List.{List, [], map, _∷_}
 use mathlib.Core.Path.{ap, refl, _≡_}
 use Prim.Native.Nat.{max, suc, zero, ℕ, _*_, _+_, _-_, _<_, _≤_}
 use native.Mathlib.Omega.{arith}
 use lib.Dec.{leb, ltb}
 use borrow.Author.Tests.{le-leb, leb-false, leb-true, lt-leb, ltb-true}
 use borrow.Table.Steps.{cases}
-use Rattle.ground.specs.Laws.Sums.{sum-map, sum-same, sum-zero}
+use Rattle.ground.specs.Laws.Sums.{sum-append, sum-map, sum-same, sum-zero}
 use Rattle.ground.specs.Ranges.{from}
 use Rattle.ground.specs.Sums.{sum, when}
 use Rattle.ground.specs.Tests.{one-of}
@@ -39,15 +39,13 @@ path-both x y (r ∷ R) = let ih = path-both x y R in go (holds (r .0) x) (holds
     go false true ih = omega arith
     go false false ih = omega arith
 
-pub sum-append : (R Q : List Row) (f : Row → ℕ) → sum (R ++ Q) f ≡ sum R f + sum Q f
-sum-append [] Q f = omega arith
-sum-append (r ∷ R) Q f = omega (arith, sum-append R Q f)
-
 module _ (L : ℕ) (e : ℕ → ℕ → ℕ) (n : ℕ) (c : WellFormed L e (suc n)) (t : Recognised e n) (o : ℕ → ℕ) (w : Places o (suc n)) where
   -- the places i ≤ j, both among the places after r up to p
   both-side : (i j p r : ℕ) → i ≤ j → j ≤ p → p ≤ n → bothIn (o i) (o j) (side o (suc r) p) ≡ ltb r i
   both-side i j p r l m h =
-      rw (side-holds o (suc n) w (suc r) (omega arith) p i (omega arith) (omega arith), side-holds o (suc n) w (suc r) (omega arith) p j (omega arith) (omega arith), le-leb i p (omega arith), le-leb j p m)
+      let si = side-holds o (suc n) w (suc r) (omega arith) p i (omega arith) (omega arith) in
+      let sj = side-holds o (suc n) w (suc r) (omega arith) p j (omega arith) (omega arith) in
+      rw (si, sj, le-leb i p (omega arith), le-leb j p m)
       (cases (ltb r i)
       (λ s. rw (s, le-leb (suc r) j (omega (arith, ltb-true r i s))))
       (λ s. rw s))
@@ -76,10 +74,12 @@ module _ (L : ℕ) (e : ℕ → ℕ → ℕ) (n : ℕ) (c : WellFormed L e (suc 
   pub path-sum : (i j : ℕ) → i ≤ j → j ≤ n → sum (pathTo e o n) (costIf (bothIn (o i) (o j))) ≡ height e i n
   path-sum i j l m =
       rw (path-is L e n c t o n (omega arith))
-      (omega (arith, rows-sum (λ r. height e r n) n (omega arith) (λ r x. height-step L e n c t r n (omega arith) x) i j l m, height-first L e n c t n (omega arith)))
+      (let s = rows-sum (λ r. height e r n) n (omega arith) (λ r x. height-step L e n c t r n (omega arith) x) i j l m in
+      omega (arith, s, height-first L e n c t n (omega arith)))
 
   -- what the graft after p closes
-  closed-part : (i j p : ℕ) → i ≤ j → j ≤ p → p < n → sum (closed (height e p (suc p)) (pathTo e o p)) (costIf (bothIn (o i) (o j))) + height e i (suc p) ≡ height e i p
+  closed-part : (i j p : ℕ) → i ≤ j → j ≤ p → p < n
+      → sum (closed (height e p (suc p)) (pathTo e o p)) (costIf (bothIn (o i) (o j))) + height e i (suc p) ≡ height e i p
   closed-part i j p l m h =
       rw (closed-rows L e n c t o p h)
       (let s = rows-sum (above e p) p (omega arith) (λ r x. omega (arith, height-step L e n c t r p (omega arith) x)) i j l m in
@@ -89,14 +89,15 @@ module _ (L : ℕ) (e : ℕ → ℕ → ℕ) (n : ℕ) (c : WellFormed L e (suc 
 
   closed-late : (i j p : ℕ) → i ≤ j → p < j → j ≤ n → sum (closed (height e p (suc p)) (pathTo e o p)) (costIf (bothIn (o i) (o j))) ≡ 0
   closed-late i j p l m h =
-      rw (closed-rows L e n c t o p (omega arith)) (rows-late (above e p) p (omega arith) (λ r x. omega (arith, height-step L e n c t r p (omega arith) x)) i j l m h)
+      rw (closed-rows L e n c t o p (omega arith))
+      (rows-late (above e p) p (omega arith) (λ r x. omega (arith, height-step L e n c t r p (omega arith) x)) i j l m h)
 
   pub closed-sum : (i j p : ℕ) → i ≤ j → j ≤ n → p ≤ n → sum (closedTo e o p) (costIf (bothIn (o i) (o j))) + height e i (max j p) ≡ height e i j
   unfolding closedTo
   closed-sum i j zero l m h = let q : max j 0 ≡ j = omega arith in rw q (omega arith)
   closed-sum i j (suc p) l m h =
       let ih = closed-sum i j p l m (omega arith) in
-      let a = sum-append (closedTo e o p) (closed (height e p (suc p)) (pathTo e o p)) (costIf (bothIn (o i) (o j))) in
+      let a = sum-append (costIf (bothIn (o i) (o j))) (closedTo e o p) (closed (height e p (suc p)) (pathTo e o p)) in
       cases (leb j p)
       (λ s. let q : max j (suc p) ≡ suc p = omega (arith, leb-true j p s) in
       let u : max j p ≡ p = omega (arith, leb-true j p s) in

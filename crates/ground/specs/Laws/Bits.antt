@@ -36,6 +36,24 @@ pub bit-top : (x k : ℕ) → x < 2 ^ k → bit (2 ^ k + x) k ≡ 1
 bit-top x zero h = omega arith
 bit-top x (suc k) h = let e : (2 ^ suc k + x) / 2 ≡ 2 ^ k + x / 2 = omega arith in rw e (bit-top (x / 2) k (omega arith))
 
+-- one bit more
+pub bit-add : (z x : ℕ) → bit x z ≡ 0 → bit (2 ^ z + x) z ≡ 1
+bit-add zero x h = omega arith
+bit-add (suc z) x h = let e : (2 ^ suc z + x) / 2 ≡ 2 ^ z + x / 2 = omega arith in rw e (bit-add z (x / 2) h)
+
+pub bit-add-other : (z x i : ℕ) → bit x z ≡ 0 → (i ≡ z → ⊥) → bit (2 ^ z + x) i ≡ bit x i
+bit-add-other zero x zero h ne = absurd (ne refl)
+bit-add-other zero x (suc i) h ne = let e : (2 ^ 0 + x) / 2 ≡ x / 2 = omega arith in rw e
+bit-add-other (suc z) x zero h ne = omega arith
+bit-add-other (suc z) x (suc i) h ne =
+    let e : (2 ^ suc z + x) / 2 ≡ 2 ^ z + x / 2 = omega arith in
+    rw e (bit-add-other z (x / 2) i h (λ q. ne (ap suc q)))
+
+pub bit-add-fits : (n z x : ℕ) → z < n → x < 2 ^ n → bit x z ≡ 0 → 2 ^ z + x < 2 ^ n
+bit-add-fits zero z x l h b = absurd (omega arith)
+bit-add-fits (suc n) zero x l h b = omega arith
+bit-add-fits (suc n) (suc z) x l h b = omega (arith, bit-add-fits n z (x / 2) (omega arith) (omega arith) b)
+
 pub bit-ext : (k x y : ℕ) → x < 2 ^ k → y < 2 ^ k → ((i : ℕ) → i < k → bit x i ≡ bit y i) → x ≡ y
 bit-ext zero x y p q h = omega arith
 bit-ext (suc k) x y p q h =

@@ -1,11 +1,12 @@
 -- Laws of ranges, and of lists joined one after another. Assumes nothing.
 use mathlib.Core.List.{List, List·Memᴰ, List·Memᴰ·append-cases, List·Memᴰ·cases-cons, List·Memᴰ·head}
-use mathlib.Core.List.{List·Memᴰ·not-nil, List·Memᴰ·tail, Memᴰ·append-left, Memᴰ·append-right, [], _∷_}
+use mathlib.Core.List.{List·Memᴰ·not-nil, List·Memᴰ·tail, Memᴰ·append-left, Memᴰ·append-right, [], _++_, _∷_}
 use mathlib.Core.Logic.{inl, inr, _⊎_}
-use mathlib.Core.Path.{refl, subst, _≡_}
+use mathlib.Core.Path.{ap, refl, subst, _≡_}
 use Prim.Native.Nat.{suc, zero, ℕ, _+_, _<_, _≤_}
 use native.Mathlib.Omega.{arith}
 use lib.Dec.{eqb}
+use lib.ListN.{length}
 use borrow.Author.Tests.{eqb-false, eqb-true}
 use borrow.Table.Steps.{cases}
 use Rattle.ground.specs.Filters.{Each}
@@ -23,6 +24,14 @@ from-mem i (suc m) x t = go (List·Memᴰ·cases-cons t) (from-mem (suc i) m x)
     go : (x ≡ i) ⊎ List·Memᴰ x (from (suc i) m) → (List·Memᴰ x (from (suc i) m) → (suc i ≤ x) × (x < suc i + m)) → (i ≤ x) × (x < i + suc m)
     go (inl e) ih = omega arith
     go (inr s) ih = omega (arith, ih s)
+
+pub from-length : (i m : ℕ) → length (from i m) ≡ m
+from-length i zero = refl
+from-length i (suc m) = ap suc (from-length (suc i) m)
+
+pub from-last : (i m : ℕ) → from i (suc m) ≡ from i m ++ ((i + m) ∷ [])
+from-last i zero = ap (λ x. x ∷ []) (omega arith)
+from-last i (suc m) = let e : i + suc m ≡ suc i + m = omega arith in rw e (ap (λ l. i ∷ l) (from-last (suc i) m))
 
 module _ {A B : Type 0} where
   pub mem-gather : (f : A → List B) {x : A} {y : B} {l : List A} → List·Memᴰ x l → List·Memᴰ y (f x) → List·Memᴰ y (gather l f)

@@ -1,6 +1,6 @@
 -- Laws of sums over a list. Assumes nothing.
 use mathlib.Core.Bool.{Bool}
-use mathlib.Core.List.{List, List·Memᴰ, List·Memᴰ·head, List·Memᴰ·tail, [], map, _∷_}
+use mathlib.Core.List.{List, List·Memᴰ, List·Memᴰ·head, List·Memᴰ·tail, [], map, _++_, _∷_}
 use mathlib.Core.Path.{ap, refl, _≡_}
 use Prim.Native.Nat.{ℕ, _+_, _≤_}
 use native.Mathlib.Omega.{arith}
@@ -27,6 +27,15 @@ module _ {A : Type 0} where
   pub sum-add : (f g : A → ℕ) (l : List A) → sum l (λ x. f x + g x) ≡ sum l f + sum l g
   sum-add f g [] = omega arith
   sum-add f g (x ∷ l) = omega (arith, sum-add f g l)
+
+  pub sum-append : (f : A → ℕ) (l m : List A) → sum (l ++ m) f ≡ sum l f + sum m f
+  sum-append f [] m = omega arith
+  sum-append f (x ∷ l) m = omega (arith, sum-append f l m)
+
+  -- one of them is at most their sum
+  pub sum-one : (f : A → ℕ) (l : List A) → Each l (λ x. f x ≤ sum l f)
+  sum-one f (y ∷ l) x (List·Memᴰ·head e) = omega (arith, ap f e)
+  sum-one f (y ∷ l) x (List·Memᴰ·tail m) = omega (arith, sum-one f l x m)
 
   pub sum-zero : (l : List A) → sum l (λ x. 0) ≡ 0
   sum-zero [] = refl

@@ -44,8 +44,8 @@ refused-is c =
     let e = c .before .before .before .before .exact-by in
     let s = start (reading-q c) in
     let z = length-replicate {A = ℕ} 128 0 in
-    table-refused (s .args .last) (s .args .n) (s .args .t .now) (replicate 128 0) (replicate 128 0) (e .last .1 .1 .1 .0) (e .last .1 .1 .1 .1 .0) _ (s .pre .0)
-    (omega (arith, z)) (omega (arith, z)) (rw (c .q .given .1) at (e .ensures))
+    table-refused (s .args .last) (s .args .n) (s .args .t .now) (replicate 128 0) (replicate 128 0) (e .last .1 .1 .1 .0) (e .last .1 .1 .1 .1 .0) _
+    (s .pre .0) (omega (arith, z)) (omega (arith, z)) (rw (c .q .given .1) at (e .ensures))
 
 -- accepted
 read-is : (c : tie.After-count) → let a = start (reading c) .args in
@@ -54,8 +54,8 @@ read-is c =
     let e = c .before .before .before .before .exact-by in
     let s = start (reading c) in
     let z = length-replicate {A = ℕ} 128 0 in
-    table-read (s .args .last) (s .args .n) (s .args .t .now) (replicate 128 0) (replicate 128 0) (e .last .1 .1 .1 .0) (e .last .1 .1 .1 .1 .0) _ (s .pre .0)
-    (omega (arith, z)) (omega (arith, z)) (rw (c .count .given .1) at (e .ensures))
+    table-read (s .args .last) (s .args .n) (s .args .t .now) (replicate 128 0) (replicate 128 0) (e .last .1 .1 .1 .0) (e .last .1 .1 .1 .1 .0) _
+    (s .pre .0) (omega (arith, z)) (omega (arith, z)) (rw (c .count .given .1) at (e .ensures))
 
 enum-known-q : tie.Need-enum-known-q
 enum-known-q c = search needs

@@ -8,7 +8,7 @@ use native.Mathlib.Omega.{arith}
 use borrow.Author.Needs.{needs}
 use Rattle.theory.specs.Tables.{cost}
 use Rattle.recognition.specs.Laws.Below.{below-end, below-fails, below-more, below-none}
-use Rattle.recognition.specs.Laws.Recognition.{grafts-both}
+use Rattle.recognition.specs.Laws.Facts.{grafts-both}
 use Rattle.recognition.specs.Laws.Seats.{own-below, own-reached, seats-formula}
 use Rattle.recognition.specs.Recognition.{allBelow, formula, grafts, placed, reaches, recognised}
 use Rattle.recognition.specs.Seats.{seat}
@@ -32,21 +32,34 @@ module _ (c : tie.After-entry3 Inv-loop μ-loop) where
   abbrev around : List ℕ
   around = start c .args .o .now
 
-  below : c .before .entry2 .result + c .entry3 .result < c .before .before .entry .result → false ≡ grafts (placed table (seat around)) (start c .args .p)
+  abbrev placed-entries : ℕ → ℕ → ℕ
+  placed-entries = placed table (seat around)
+
+  abbrev at : ℕ
+  at = start c .args .p
+
+  abbrev entries : tie.After-entry Inv-loop μ-loop
+  entries = c .before .before
+
+  x-is : entries .before .before .seat-of .result ≡ seat around at
+  x-is = entries .before .before .seat-of .ensures .0
+
+  z-is : entries .before .seat-of2 .result ≡ seat around (at + 1)
+  z-is = entries .before .seat-of2 .ensures .0
+
+  below : c .before .entry2 .result + c .entry3 .result < entries .entry .result → false ≡ grafts placed-entries at
   below =
-      own-below table around (start c .args .p) _ _ (c .before .before .before .before .seat-of .ensures .0) (c .before .before .before .seat-of2 .ensures .0)
-      (start c .pre .1 .places .first) _ _ _ (c .before .before .entry .ensures .0) (c .before .entry2 .ensures .0) (c .entry3 .ensures .0)
+      own-below table around at _ _ x-is z-is (start c .pre .1 .places .first) _ _ _ (entries .entry .ensures .0) (c .before .entry2 .ensures .0)
+      (c .entry3 .ensures .0)
 
-  reached : c .before .before .entry .result ≤ c .before .entry2 .result + c .entry3 .result → reaches (placed table (seat around)) (start c .args .p) ≡ true
+  reached : entries .entry .result ≤ c .before .entry2 .result + c .entry3 .result → reaches placed-entries at ≡ true
   reached =
-      own-reached table around (start c .args .p) _ _ (c .before .before .before .before .seat-of .ensures .0) (c .before .before .before .seat-of2 .ensures .0)
-      (start c .pre .1 .places .first) _ _ _ (c .before .before .entry .ensures .0) (c .before .entry2 .ensures .0) (c .entry3 .ensures .0)
+      own-reached table around at _ _ x-is z-is (start c .pre .1 .places .first) _ _ _ (entries .entry .ensures .0) (c .before .entry2 .ensures .0)
+      (c .entry3 .ensures .0)
 
-  recognised-is : (i j : ℕ) → j ≡ seat around i → formula table 0 (c .before .before .before .before .seat-of .result)
-      (c .before .before .before .seat-of2 .result) j ≡ recognised (placed table (seat around)) (start c .args .p) i
-  recognised-is i j e =
-      seats-formula table around (start c .args .p) _ _ (c .before .before .before .before .seat-of .ensures .0) (c .before .before .before .seat-of2 .ensures .0)
-      (start c .pre .1 .places .first) i j e
+  recognised-is : (i j : ℕ) → j ≡ seat around i
+      → formula table 0 (entries .before .before .seat-of .result) (entries .before .seat-of2 .result) j ≡ recognised placed-entries at i
+  recognised-is = seats-formula table around at _ _ x-is z-is (start c .pre .1 .places .first)
 
 seat-of-requires : tie.Need-seat-of-requires Inv-loop μ-loop
 seat-of-requires c κs = search needs
@@ -98,15 +111,15 @@ loop-again c =
 returns-2 : tie.Need-returns-2 Inv-loop μ-loop
 returns-2 c =
     let e = c .before .before .before .before .before .before in
-    grafts-both (placed (table e) (seat (around e))) (start e .args .p) _ (reached e (omega (arith, c .before .before .before .before .before .if1 .left)))
-    (below-fails (recognised (placed (table e) (seat (around e))) (start e .args .p)) (c .before .before .before .before .loop .i) (suc (start e .args .p)) (omega arith)
+    grafts-both (placed-entries e) (at e) _ (reached e (omega (arith, c .before .before .before .before .before .if1 .left)))
+    (below-fails (recognised (placed-entries e) (at e)) (c .before .before .before .before .loop .i) (suc (at e)) (omega arith)
     (sym (recognised-is e _ _ (c .before .before .seat-of3 .ensures .0)) ∙ sym (c .before .is-recognised .ensures) ∙ c .if2 .left))
 
 returns-3 : tie.Need-returns-3 Inv-loop μ-loop
 returns-3 c =
     let e = c .before .before .before in
-    grafts-both (placed (table e) (seat (around e))) (start e .args .p) _ (reached e (omega (arith, c .before .before .if1 .left)))
-    (below-end (recognised (placed (table e) (seat (around e))) (start e .args .p)) _ (suc (start e .args .p)) (c .before .loop .inv .0) (omega arith) (c .before .loop .inv .1))
+    grafts-both (placed-entries e) (at e) _ (reached e (omega (arith, c .before .before .if1 .left)))
+    (below-end (recognised (placed-entries e) (at e)) _ (suc (at e)) (c .before .loop .inv .0) (omega arith) (c .before .loop .inv .1))
 
 pub can-graft-spec : {M : Type 1} → statement M
 can-graft-spec =

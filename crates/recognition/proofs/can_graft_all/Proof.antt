@@ -6,7 +6,7 @@ use native.Mathlib.Omega.{arith}
 use borrow.Author.Needs.{needs}
 use Rattle.theory.specs.Tables.{cost}
 use Rattle.recognition.specs.Laws.Below.{below-end, below-fails, below-more, below-none}
-use Rattle.recognition.specs.Recognition.{allGraft, grafts, placed}
+use Rattle.recognition.specs.Recognition.{allGraft, placed}
 use Rattle.recognition.specs.Seats.{seat}
 use Rattle.recognition.proofs.can_graft_all.Statement.{statement}
 use Rattle.recognition.proofs.can_graft_all.Tie as tie

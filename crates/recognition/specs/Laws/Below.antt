@@ -14,7 +14,8 @@ pub all-below : (t : ℕ → Bool) (m : ℕ) → allBelow t m ≡ true → (j : 
 unfolding allBelow
 all-below t zero e j h = absurd (omega arith)
 all-below t (suc m) e j h =
-    cases (eqb j m) (λ q. ap t (eqb-true j m q) ∙ and-r (allBelow t m) (t m) e) (λ q. all-below t m (and-l (allBelow t m) (t m) e) j (omega (arith, eqb-false j m q)))
+    cases (eqb j m) (λ q. ap t (eqb-true j m q) ∙ and-r (allBelow t m) (t m) e)
+    (λ q. all-below t m (and-l (allBelow t m) (t m) e) j (omega (arith, eqb-false j m q)))
 
 pub below-all : (t : ℕ → Bool) (m : ℕ) → ((j : ℕ) → j < m → t j ≡ true) → allBelow t m ≡ true
 unfolding allBelow

@@ -9,7 +9,8 @@ use Rattle.theory.specs.FourPoint.{FourPoint}
 use Rattle.theory.specs.Laws.FourPoint.{four-low, four-point}
 use Rattle.theory.specs.Tables.{WellFormed}
 use Rattle.recognition.specs.Laws.Order.{around, order-places, order-yushmanov}
-use Rattle.recognition.specs.Laws.Recognition.{condition-recognised, facts-graft, graft-facts, recognised-condition}
+use Rattle.recognition.specs.Laws.Facts.{facts-graft, graft-facts}
+use Rattle.recognition.specs.Laws.Recognition.{condition-recognised, recognised-condition}
 use Rattle.recognition.specs.Recognition.{Places, Yushmanov, allGraft, placed}
 
 -- ## Images by their places

@@ -40,8 +40,10 @@ occurs-at l i h = omega (arith, occurs-behind l i i (omega arith) h)
 one-place : (l : List ℕ) (x i j : ℕ) → occurs x l ≤ 1 → i < length l → j < length l → getD l i 0 ≡ x → getD l j 0 ≡ x → i ≡ j
 one-place [] x i j h hi hj p q = absurd (omega arith)
 one-place (y ∷ l) x zero zero h hi hj p q = refl
-one-place (y ∷ l) x zero (suc j) h hi hj p q = absurd (let z = rw (eq-eqb x y (sym p)) at h in omega (arith, occurs-at l j (omega arith), ap (λ (u : ℕ). occurs u l) q))
-one-place (y ∷ l) x (suc i) zero h hi hj p q = absurd (let z = rw (eq-eqb x y (sym q)) at h in omega (arith, occurs-at l i (omega arith), ap (λ (u : ℕ). occurs u l) p))
+one-place (y ∷ l) x zero (suc j) h hi hj p q =
+    absurd (let z = rw (eq-eqb x y (sym p)) at h in omega (arith, occurs-at l j (omega arith), ap (λ (u : ℕ). occurs u l) q))
+one-place (y ∷ l) x (suc i) zero h hi hj p q =
+    absurd (let z = rw (eq-eqb x y (sym q)) at h in omega (arith, occurs-at l i (omega arith), ap (λ (u : ℕ). occurs u l) p))
 one-place (y ∷ l) x (suc i) (suc j) h hi hj p q = ap suc (one-place l x i j (omega arith) (omega arith) (omega arith) p q)
 
 some-place : (l : List ℕ) (x : ℕ) → 1 ≤ occurs x l → (i : ℕ) × (i < length l) × (getD l i 0 ≡ x)
@@ -55,7 +57,9 @@ all-once-places n last l h a = record {
   first = ap (λ m. getD m 0 0) (a .front .1);
   range = λ {i} hi. a .range (getD l i 0) (getD-mem l i (omega (arith, a .size)));
   once = λ {i} {j} hi hj s.
-      one-place l (getD l j 0) i j (omega (arith, a .once (getD l j 0) (a .range (getD l j 0) (getD-mem l j (omega (arith, a .size)))))) (omega (arith, a .size)) (omega (arith, a .size)) s refl;
+      let y = getD l j 0 in
+      let o = a .once y (a .range y (getD-mem l j (omega (arith, a .size)))) in
+      one-place l y i j (omega (arith, o)) (omega (arith, a .size)) (omega (arith, a .size)) s refl;
   all = λ x hx. let r = some-place l x (omega (arith, a .once x hx)) in (r .0, omega (arith, r .1, a .size), r .2);
 }
 
@@ -109,7 +113,9 @@ module _ (d : ℕ → ℕ → ℕ) (k : ℕ) where
       E = End d n 0 (omega arith) (Chain d n) (grow d n 0 (n - 2) (suc k) [])
 
       ended : E
-      ended = grow-end d n 0 (omega arith) (Chain d n) (λ x w l p q h. more d n x w l q h) (n - 2) (suc k) [] (omega arith) (start d n 0 (omega arith) (suc k) (omega arith) (λ s. omega arith)) (none d n (suc k))
+      ended =
+          grow-end d n 0 (omega arith) (Chain d n) (λ x w l p q h. more d n x w l q h) (n - 2) (suc k) [] (omega arith)
+          (start d n 0 (omega arith) (suc k) (omega arith) (λ s. omega arith)) (none d n (suc k))
 
       go : (p j : ℕ) → p < suc k → 0 < j → j ≤ p → placed d o (suc p) p + placed d o 0 j ≤ placed d o (suc p) j + placed d o 0 p
       go p zero h l m = absurd (omega arith)
@@ -120,4 +126,5 @@ module _ (d : ℕ → ℕ → ℕ) (k : ℕ) where
           let u = getD (x ∷ r) b 0 in
           let f : occurs u (0 ∷ drop (suc a) (x ∷ r)) ≡ 0 =
           omega (arith, occurs-behind (x ∷ r) b a (omega arith) (omega (arith, ended .full)), ended .placed .once u) in
-          rw (ended .is) (chain-at d n x r a (ended .kept) (omega (arith, ended .full)) u (ended .placed .range u (getD-mem (x ∷ r) b (omega (arith, ended .full)))) (eq-eqb _ _ f))
+          let g = ended .placed .range u (getD-mem (x ∷ r) b (omega (arith, ended .full))) in
+          rw (ended .is) (chain-at d n x r a (ended .kept) (omega (arith, ended .full)) u g (eq-eqb _ _ f))

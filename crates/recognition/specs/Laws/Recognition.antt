@@ -1,57 +1,41 @@
 -- Recognised at every place exactly where the four-point condition holds, the order being one of document 001. Assumes nothing.
-use mathlib.Core.Bool.{Bool, false, false≢true, true}
-use mathlib.Core.Path.{ap, refl, subst, sym, _∙_, _≡_}
+use mathlib.Core.Bool.{false}
+use mathlib.Core.Path.{subst, sym, _≡_}
 use Prim.Native.Nat.{max, suc, zero, ℕ, _+_, _-_, _<_, _≤_}
-use native.Mathlib.Numerals.{add-one}
 use native.Mathlib.Omega.{arith}
 use lib.Dec.{eqb}
-use borrow.Author.Tests.{eq-eqb, eqb-false, eqb-true, le-leb, le-ltb, leb-true}
+use borrow.Author.Tests.{eqb-false, eqb-true, le-ltb}
 use borrow.Table.Steps.{cases}
 use Rattle.ground.specs.Filters.{Each}
 use Rattle.ground.specs.Laws.Filters.{filter-none}
 use Rattle.ground.specs.Laws.Maps.{map-mem}
 use Rattle.ground.specs.Laws.Ranges.{from-mem, gather-mem}
-use Rattle.ground.specs.Laws.Tests.{and-l, and-r}
 use Rattle.ground.specs.Ranges.{from}
 use Rattle.theory.specs.FourPoint.{FourPoint, fails, four, fours₁, fours₂, fours₃, timesLargest}
 use Rattle.theory.specs.Laws.FourPoint.{above-none, four-low}
 use Rattle.theory.specs.Laws.ImageOne.{image-one}
 use Rattle.theory.specs.Tables.{WellFormed}
-use Rattle.recognition.specs.Laws.Below.{all-below, below-all}
-use Rattle.recognition.specs.Recognition.{Recognised, Yushmanov, allBelow, allGraft, grafts, reaches, recognised}
-
--- ## The test and the facts
-
-pub grafts-both : (e : ℕ → ℕ → ℕ) (p : ℕ) (b : Bool) → reaches e p ≡ true → b ≡ allBelow (recognised e p) (suc p) → b ≡ grafts e p
-grafts-both e p b r q = rw r q
-
-pub grafts-not : (e : ℕ → ℕ → ℕ) (p : ℕ) → reaches e p ≡ false → false ≡ grafts e p
-grafts-not e p r = rw r
-
-pub graft-facts : (e : ℕ → ℕ → ℕ) (m : ℕ) → allGraft e m ≡ true → Recognised e m
-graft-facts e m t = record {
-  own = λ {p} h. let g = all-below (grafts e) m t p h in leb-true (e 0 p) (e 0 (suc p) + e p (suc p)) (and-l (reaches e p) (allBelow (recognised e p) (suc p)) g);
-  entry = λ {p} {j} h l.
-      let g = all-below (grafts e) m t p h in
-      eqb-true _ _ (all-below (recognised e p) (suc p) (and-r (reaches e p) (allBelow (recognised e p) (suc p)) g) j (omega arith));
-}
-
-pub facts-graft : (e : ℕ → ℕ → ℕ) (m : ℕ) → Recognised e m → allGraft e m ≡ true
-facts-graft e m r =
-    below-all (grafts e) m (λ p h.
-    rw (le-leb (e 0 p) (e 0 (suc p) + e p (suc p)) (r .own h), below-all (recognised e p) (suc p) (λ j l. eq-eqb _ _ (r .entry h (omega arith)))))
+use Rattle.recognition.specs.Recognition.{Recognised, Yushmanov}
 
 -- ## From the four-point condition, in an order of document 001
 
 pub condition-recognised : (L : ℕ) (e : ℕ → ℕ → ℕ) (m : ℕ) → WellFormed L e (suc m) → FourPoint e (suc m) → Yushmanov e m → Recognised e m
 condition-recognised L e m c fp y = record {
-  own = λ {p} h. omega (arith, four-low fp {i = 0} {j = p} {k = suc p} {l = suc p} (omega arith) (omega arith) (omega arith) (omega arith), c .self {i = suc p} (omega arith));
+  own = λ {p} h.
+      let f = four-low fp {i = 0} {j = p} {k = suc p} {l = suc p} (omega arith) (omega arith) (omega arith) (omega arith) in
+      omega (arith, f, c .self {i = suc p} (omega arith));
   entry = λ {p} {j} h l. entry p j h l;
 }
   where
     entry : (p j : ℕ) → p < m → j ≤ p → e j (suc p) + e 0 p ≡ max (e 0 j + e p (suc p)) (e 0 (suc p) + e p j)
     entry p zero h l =
-        omega (arith, four-low fp {i = p} {j = suc p} {k = 0} {l = 0} (omega arith) (omega arith) (omega arith) (omega arith), c .self {i = 0} (omega arith), c .same {i = p} {j = 0} (omega arith) (omega arith), c .same {i = suc p} {j = 0} (omega arith) (omega arith))
+        omega (
+          arith,
+          four-low fp {i = p} {j = suc p} {k = 0} {l = 0} (omega arith) (omega arith) (omega arith) (omega arith),
+          c .self {i = 0} (omega arith),
+          c .same {i = p} {j = 0} (omega arith) (omega arith),
+          c .same {i = suc p} {j = 0} (omega arith) (omega arith),
+        )
     entry p (suc j) h l =
         omega (
           arith,
@@ -119,7 +103,9 @@ module _ (L : ℕ) (e : ℕ → ℕ → ℕ) (n : ℕ) (c : WellFormed L e (suc 
         (λ a. cases (eqb k (suc p))
         (λ b. cases (eqb l (suc p))
         (λ f. rw (eqb-true k (suc p) b, eqb-true l (suc p) f) (omega (arith, own-own j (omega (arith, eqb-false j (suc p) a)))))
-        (λ f. rw (eqb-true k (suc p) b) (omega (arith, end j l (omega (arith, eqb-false j (suc p) a)) (omega (arith, eqb-false l (suc p) f)), c .same {i = l} {j = suc p} (omega (arith, eqb-false l (suc p) f)) (omega arith)))))
+        (λ f.
+        let t = end j l (omega (arith, eqb-false j (suc p) a)) (omega (arith, eqb-false l (suc p) f)) in
+        rw (eqb-true k (suc p) b) (omega (arith, t, c .same {i = l} {j = suc p} (omega (arith, eqb-false l (suc p) f)) (omega arith)))))
         (λ b. cases (eqb l (suc p))
         (λ f. rw (eqb-true l (suc p) f) (end j k (omega (arith, eqb-false j (suc p) a)) (omega (arith, eqb-false k (suc p) b))))
         (λ f. ih j k l (omega (arith, eqb-false j (suc p) a)) (omega (arith, eqb-false k (suc p) b)) (omega (arith, eqb-false l (suc p) f)))))

@@ -15,9 +15,9 @@ use Rattle.theory.specs.Order.{order}
 use Rattle.theory.specs.Tables.{WellFormed}
 use Rattle.recognition.specs.Laws.Condition.{graft-condition}
 use Rattle.recognition.specs.Laws.Order.{around, order-once, order-places, order-yushmanov}
-use Rattle.recognition.specs.Laws.Recognition.{grafts-not}
+use Rattle.recognition.specs.Laws.Facts.{grafts-not}
 use Rattle.recognition.specs.Recognition.{Places, Yushmanov, allGraft, formula, grafts, placed, reached, reaches, recognised}
-use Rattle.recognition.specs.Seats.{Ordered, Seated, seat}
+use Rattle.recognition.specs.Seats.{Ordered, seat}
 
 -- ## The formula by places
 
