@@ -1,6 +1,8 @@
 -- `recognition::is_recognised` meets its contract: sums of two entries fit, since each is at most the limit. Assumes nothing.
-use Prim.Native.Nat.{_≤_}
+use mathlib.Core.Path.{ap₂, _∙_}
+use Prim.Native.Nat.{max, _+_, _≤_}
 use native.Mathlib.Omega.{arith}
+use lib.Dec.{eqb}
 use borrow.Author.Needs.{needs}
 use Rattle.theory.specs.Tables.{limit}
 use Rattle.recognition.proofs.is_recognised.Statement.{statement}
@@ -39,9 +41,11 @@ higher-requires c κs = search needs
 
 returns : tie.Need-returns
 returns c =
-    let s = c .before .before .before .before .before in
-    let q = s .pre .0 .formed .same {i = s .args .j} {j = s .args .z} (s .pre .3) (s .pre .2) in
-    cc
+    let e = c .before .before .before in
+    let s = e .before .before in
+    let p = s .pre in
+    let zj = c .before .entry3 .ensures .0 ∙ p .0 .formed .same {i = s .args .z} {j = s .args .j} (p .2) (p .3) in
+    ap₂ eqb (ap₂ _+_ zj (p .4)) (c .higher .ensures ∙ ap₂ max (ap₂ _+_ (e .entry .ensures .0) (p .6)) (ap₂ _+_ (p .5) (c .before .before .entry2 .ensures .0)))
 
 pub is-recognised-spec : {M : Type 1} → statement M
 is-recognised-spec =
