@@ -1565,7 +1565,7 @@ def refused_at_tests(dice):
                 seen.add(found)
                 yield n, t
     for n in EVERY_TEST:
-        # All but 1, 2 and 3 on the other side of image 1, so that 3 is placed first, and then 2 too near to it.
+        # All but 1, 2 and 3 stand on the other side of image 1: 3 is grafted first, and then 2, too near to it.
         yield n, with_entry(n, on_a_line([0, 2, 4] + list(range(-2, -2 * n + 4, -2))), 2, 3, 1)
         # Image n stands before image n-1, and then behind it, both times too near to it.
         line = list(range(0, 2 * n, 2))
