@@ -278,6 +278,21 @@ pub fn same64(one: &[u64], other: &[u64]) -> bool {
     true
 }
 
+// Whether two slices of bytes are the same.
+pub fn same8(one: &[u8], other: &[u8]) -> bool {
+    if one.len() != other.len() {
+        return false;
+    }
+    let mut i = 0;
+    while i < one.len() && i < other.len() {
+        if one[i] != other[i] {
+            return false;
+        }
+        i += 1;
+    }
+    true
+}
+
 // Whether two slices of 32-bit elements are the same.
 pub fn same32(one: &[u32], other: &[u32]) -> bool {
     if one.len() != other.len() {
