@@ -104,7 +104,7 @@ module _ (which : Last) (s : List ℕ) where
       let m = listingText which s in
       omega (arith, p .sized, ap length (p .listed), length-append m (drop (length m) (replicate room 0)))
 
-  -- no second answer meets the promise
+  -- no second answer meets the promise, which names no engine: either one gives the same text
   pub listed-once : {a b : ℕ} {t u : List ℕ} → Listed which s a t → Listed which s b u → (a ≡ b) × (t ≡ u)
   listed-once p q = (p .sized ∙ sym (q .sized), p .listed ∙ sym (q .listed))
 
