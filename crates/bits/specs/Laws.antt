@@ -10,6 +10,8 @@ pub mod Forms
 pub mod OneWidth
 pub mod Places
 pub mod Listed
+-- How the two forms are told apart.
+pub mod Editions
 -- The checks of stored bytes by their numbers.
 pub mod InOrder
 -- What is read does not depend on the bytes behind it.

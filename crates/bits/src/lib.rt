@@ -1,8 +1,9 @@
 // Fields of bits taken from a slice of bytes, most significant bit first, of any width up to 64; and what tells one stored form from another.
 ghost use mathlib.Core.Path.{_≡_};
 ghost use Prim.Native.Nat.{_*_, _+_, _/_, _%_, _^_, _<_, _≤_};
-ghost use lib.ListN.{length};
+ghost use lib.ListN.{drop, length};
 ghost use Rattle.bits.specs.Kinds.{misplaced};
+ghost use Rattle.bits.specs.Editions.{editionBy, editionOf};
 ghost use Rattle.bits.specs.Bits.{bits, FieldWithin, numberAt, part, Turn, valueOf};
 
 // How a kind of table is stored: so many bits in front with the mark's value, so many bits for a number, and the limit on an entry.
@@ -12,6 +13,15 @@ pub struct Form {
     pub width: usize,
     pub limit: u32,
 }
+
+// The two stored forms of each kind of table: the old one, which begins with n, and the new one, which begins with a mark.
+pub enum Edition {
+    Old,
+    New,
+}
+
+// What the new forms begin with, in 7 bits: no table has so many images.
+pub const NEW_MARK: u64 = 127;
 
 // The byte as a number of 64 bits.
 fn wide_byte(x: u8) -> u64
@@ -137,4 +147,37 @@ pub fn is_misplaced(bytes: usize, position: usize) -> bool
         return true;
     }
     0 < position % 8
+}
+
+// Which form the table has that the bytes begin with: the first seven bits tell. No bytes begin with nothing, which is no mark.
+fn edition_told(bytes: &[u8]) -> Edition
+    ensures { λ r. ⌜ r ≡ editionOf (now (bytes .entry)) ⌝ }
+{
+    if bytes.len() == 0 {
+        return Edition::Old;
+    }
+    if get(bytes, 0, 7) == NEW_MARK {
+        return Edition::New;
+    }
+    Edition::Old
+}
+
+// The same of the table at the position. Past the end there are no bytes.
+pub fn edition_at(bytes: &[u8], position: usize) -> Edition
+    ensures { λ r. ⌜ r ≡ editionOf (drop (position / 8) (now (bytes .entry))) ⌝ }
+{
+    if bytes.len() < position / 8 {
+        return Edition::Old;
+    }
+    edition_told(&bytes[position / 8..])
+}
+
+// The form that a number stands for, where an enum cannot cross: 0 is the old one, and every other number the new one.
+pub fn edition_by(number: usize) -> Edition
+    ensures { λ r. ⌜ r ≡ editionBy number ⌝ }
+{
+    if number == 0 {
+        return Edition::Old;
+    }
+    Edition::New
 }

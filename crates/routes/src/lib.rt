@@ -3,7 +3,7 @@ use ground::Answer;
 use ground::Check;
 use ground::Written;
 ghost use mathlib.Core.Path.{_≡_};
-ghost use Prim.Native.Nat.{_<_, _≤_, _+_, _-_};
+ghost use Prim.Native.Nat.{_<_, _≤_, _*_, _+_, _-_};
 ghost use lib.ListN.{length, getD};
 ghost use lib.Seq.{sets};
 ghost use Rattle.ground.specs.Buffers.{over};
@@ -32,7 +32,7 @@ fn row_part(s: u64, c: u32, i: usize, j: usize) -> u32
 
 // The path cost of images i and j, from 0, summed row by row.
 fn path_cost(fars: &[u64], costs: &[u32], i: usize, j: usize) -> u32
-    requires { ⌜ (i < 64) × (j < 64) × (length (now fars) ≡ length (now costs)) × (path (rowsOf (now fars) (now costs)) i j ≤ 250000000) ⌝ }
+    requires { ⌜ (i < 64) × (j < 64) × (length (now fars) ≡ length (now costs)) × (path (rowsOf (now fars) (now costs)) i j ≤ 250 * limit) ⌝ }
     ensures { λ r. ⌜ r ≡ path (rowsOf (now (fars .entry)) (now (costs .entry))) i j ⌝ }
 {
     let mut sum: u32 = 0;

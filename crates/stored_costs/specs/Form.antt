@@ -1,17 +1,32 @@
 -- The stored cost table: the form's mark in front, n in 7 bits, each entry in as many bits as the form says, and bits 0 to a whole byte; and
 -- what bytes say when they are read so. Assumes nothing.
 use mathlib.Core.List.{List, _∷_}
-use mathlib.Core.Path.{_≡_}
-use Prim.Native.Nat.{ℕ, _*_, _+_}
-use Rattle.theory.specs.Tables.{limit}
+use Prim.Native.Nat.{ℕ, _*_, _+_, _/_}
+use lib.ListN.{drop}
+use Rattle.theory.specs.Tables.{limit, oldLimit}
 use Rattle.bits.specs.Bits.{bits, part, valueOf}
+use Rattle.bits.specs.Editions.{editionOf, newForm, oldForm}
 use Rattle.bits.specs.Forms.{Field, bytesFor, field, fieldValue, fieldsOf, fillWidth, fieldBytes}
 use Rattle.stored_costs.specs.Entries.{entries, rowStart, tableOf}
+use Rattle.bits.specs.declared.Edition.{Edition}
+use Rattle.bits.specs.declared.Edition.the-variants.{New, Old}
 use Rattle.bits.specs.declared.Form.{Form}
 
--- document 01's form: no mark, 20 bits for an entry, and the limit of a cost table
+-- the old form: 20 bits for an entry, and document 01's limit
 abbrev pub oldCosts : Form
-oldCosts = record { head = 0; mark = 0; width = 20; limit = limit }
+oldCosts = oldForm 20 oldLimit
+
+-- the new form: the mark in front, 23 bits for an entry, and the limit of a cost table
+abbrev pub newCosts : Form
+newCosts = newForm 23 limit
+
+abbrev pub costForm : Edition → Form
+costForm Old = oldCosts
+costForm New = newCosts
+
+-- the form of the table at the position, which its first seven bits tell
+abbrev pub costFormAt : List ℕ → ℕ → Form
+costFormAt bytes position = costForm (editionOf (drop (position / 8) bytes))
 
 -- the fields
 unfoldable pub costFields : Form → ℕ → (ℕ → ℕ → ℕ) → List Field
@@ -34,14 +49,6 @@ abbrev pub costUsed : Form → ℕ → ℕ
 costUsed form n = bytesFor (costEnd form n)
 
 -- ## What the bytes s say
-
--- what stands in front of n
-abbrev pub markOf : Form → List ℕ → ℕ
-markOf form s = valueOf (part (bits s) 0 (form .head))
-
--- the mark of the form stands in front
-abbrev pub Marked : Form → List ℕ → Type 0
-Marked form s = markOf form s ≡ form .mark
 
 -- n
 unfoldable pub imagesOf : Form → List ℕ → ℕ

@@ -8,6 +8,8 @@ pub mod Form
 pub mod ReadBack
 pub mod WriteBack
 pub mod Positions
+-- Both forms.
+pub mod Told
 -- Bytes behind a table.
 pub mod Agreeing
 pub mod Behind

@@ -4,7 +4,7 @@ use Prim.Native.Nat.{ℕ, _/_}
 use lib.ListN.{drop, length}
 use Rattle.ground.specs.Outcomes.{Outcome, frontIf}
 use Rattle.ground.specs.declared.Check.{Check}
-use Rattle.stored_costs.specs.Form.{costUsed, storedTable, imagesOf}
+use Rattle.stored_costs.specs.Form.{costFormAt, costUsed, storedTable, imagesOf}
 use Rattle.stored_costs.specs.Reading.{readAtChecks}
 use Rattle.stored_costs.specs.declared.StoredCosts.{StoredCosts}
 use Rattle.stored_costs.specs.declared.StoredCosts.the-variants.{Table}
@@ -30,3 +30,11 @@ readOutcome form bytes position out =
           frontIf (readAtChecks form bytes position (length out))
           (storedTable form (imagesOf form (drop (position / 8) bytes)) (drop (position / 8) bytes)) out;
     }
+
+-- ## In either form: the one that the bytes tell
+
+abbrev pub judgedEither : List ℕ → ℕ → ℕ → StoredCosts
+judgedEither bytes position room = judged (costFormAt bytes position) bytes position room
+
+abbrev pub readEither : List ℕ → ℕ → List ℕ → Outcome StoredCosts
+readEither bytes position out = readOutcome (costFormAt bytes position) bytes position out

@@ -1,4 +1,5 @@
-// The stored cost table: its form, and reading it. The functions below the public call take the form as an argument. Images are counted from 0.
+// The stored cost table: its forms, and reading it. The functions below the public calls take the form as an argument. Images are counted from 0.
+use bits::Edition;
 use bits::Form;
 use ground::Check;
 use ground::Refusal;
@@ -14,8 +15,8 @@ ghost use Rattle.bits.specs.Bits.{FieldWithin, bits, overAt, part, valueOf};
 ghost use Rattle.bits.specs.Forms.{bytesFor, fieldValue};
 ghost use Rattle.bits.specs.Listed.{listed};
 ghost use Rattle.stored_costs.specs.Entries.{Above, entryCost};
-ghost use Rattle.stored_costs.specs.Form.{storedTable, entryOf, imagesOf, oldCosts, rowAt};
-ghost use Rattle.stored_costs.specs.Outcomes.{judged, readOutcome};
+ghost use Rattle.stored_costs.specs.Form.{costForm, costFormAt, storedTable, entryOf, imagesOf, rowAt};
+ghost use Rattle.stored_costs.specs.Outcomes.{judged, judgedEither, readEither};
 ghost use Rattle.stored_costs.specs.Reading.{bodyChecks, readAtChecks, readChecks, startChecks, storedCheck};
 ghost use Rattle.stored_costs.specs.Sizes.{Held, Small, Span};
 
@@ -25,16 +26,31 @@ pub enum StoredCosts {
     Refused(Refusal),
 }
 
-// Document 01's form: nothing stands in front of n, and an entry has 20 bits.
-pub fn old_form() -> Form
-    ensures { λ r. ⌜ r ≡ oldCosts ⌝ }
+// Both forms. In the old one nothing stands in front of n and an entry has 20 bits; in the new one the mark does, and an entry has 23.
+pub fn form_of(edition: Edition) -> Form
+    ensures { λ r. ⌜ r ≡ costForm edition ⌝ }
 {
-    Form {
-        head: 0,
-        mark: 0,
-        width: 20,
-        limit: theory::LIMIT,
+    match edition {
+        Edition::Old => Form {
+            head: 0,
+            mark: 0,
+            width: 20,
+            limit: theory::OLD_LIMIT,
+        },
+        Edition::New => Form {
+            head: 7,
+            mark: bits::NEW_MARK,
+            width: 23,
+            limit: theory::LIMIT,
+        },
     }
+}
+
+// The form of the table at the position, which its first seven bits tell.
+fn form_at(bytes: &[u8], position: usize) -> Form
+    ensures { λ r. ⌜ r ≡ costFormAt (now (bytes .entry)) position ⌝ }
+{
+    form_of(bits::edition_at(bytes, position))
 }
 
 // The bit at which row i begins, which is where the rows before it end.
@@ -174,11 +190,11 @@ fn judge(form: Form, bytes: &[u8], position: usize, room: usize) -> StoredCosts
     }
 }
 
-// What reading the cost table at the position answers, where so many places are lent. Nothing is written.
+// What reading the cost table at the position answers, in either form, where so many places are lent. Nothing is written.
 pub fn judge_costs(bytes: &[u8], position: usize, room: usize) -> StoredCosts
-    ensures { λ r. ⌜ r ≡ judged oldCosts (now (bytes .entry)) position room ⌝ }
+    ensures { λ r. ⌜ r ≡ judgedEither (now (bytes .entry)) position room ⌝ }
 {
-    judge(old_form(), bytes, position, room)
+    judge(form_at(bytes, position), bytes, position, room)
 }
 
 // The places of row i left of the diagonal: each is the place of column i that mirrors it.
@@ -233,14 +249,15 @@ fn fill(form: Form, n: usize, bytes: &[u8], out: &mut [u32])
     }
 }
 
-// The cost table at the position, into the lent places: everything is judged before the first store.
+// The cost table at the position, in either form, into the lent places: everything is judged before the first store.
 pub fn read_costs(bytes: &[u8], position: usize, out: &mut [u32]) -> StoredCosts
-    ensures { λ r. ⌜ Left (readOutcome oldCosts (now (bytes .entry)) position (now (out .entry))) r (now (out .exit)) ⌝ }
+    ensures { λ r. ⌜ Left (readEither (now (bytes .entry)) position (now (out .entry))) r (now (out .exit)) ⌝ }
 {
-    match judge_costs(bytes, position, out.len()) {
+    let form = form_at(bytes, position);
+    match judge(form, bytes, position, out.len()) {
         StoredCosts::Refused(r) => StoredCosts::Refused(r),
         StoredCosts::Table { n, used } => {
-            fill(old_form(), n, &bytes[position / 8..], out);
+            fill(form, n, &bytes[position / 8..], out);
             StoredCosts::Table { n, used }
         }
     }

@@ -2,14 +2,29 @@
 -- doubled cost in as many bits as the form says, and bits 0 to a whole byte. Assumes nothing.
 use mathlib.Core.List.{List, [], _++_, _∷_}
 use Prim.Native.Nat.{suc, zero, ℕ, _*_, _+_, _-_, _/_}
-use lib.ListN.{getD, length}
-use Rattle.theory.specs.Tables.{limit}
+use lib.ListN.{drop, getD, length}
+use Rattle.theory.specs.Tables.{limit, oldLimit}
+use Rattle.bits.specs.Editions.{editionOf, newForm, oldForm}
 use Rattle.bits.specs.Forms.{Field, bytesFor, field, fieldBytes}
+use Rattle.bits.specs.declared.Edition.{Edition}
+use Rattle.bits.specs.declared.Edition.the-variants.{New, Old}
 use Rattle.bits.specs.declared.Form.{Form}
 
--- document 01's form: no mark, 21 bits for a doubled cost, which is at most twice the limit
+-- the old form: 21 bits for a doubled cost, which is at most twice document 01's limit
 abbrev pub oldLinks : Form
-oldLinks = record { head = 0; mark = 0; width = 21; limit = limit }
+oldLinks = oldForm 21 oldLimit
+
+-- the new form: the mark in front, and 24 bits for a doubled cost, which is at most twice the limit
+abbrev pub newLinks : Form
+newLinks = newForm 24 limit
+
+abbrev pub linkForm : Edition → Form
+linkForm Old = oldLinks
+linkForm New = newLinks
+
+-- the form of the table at the position, which its first seven bits tell
+abbrev pub linkFormAt : List ℕ → ℕ → Form
+linkFormAt bytes position = linkForm (editionOf (drop (position / 8) bytes))
 
 -- the two fields of a row: the images of the far side S but the first, which are half of S, and the doubled cost c
 abbrev pub rowFields : ℕ → ℕ → ℕ → ℕ → List Field

@@ -9,5 +9,7 @@ pub mod Positions
 pub mod ReadBack
 pub mod WriteBack
 pub mod ReadAt
+-- Both forms.
+pub mod Told
 -- Bytes behind a table.
 pub mod Behind

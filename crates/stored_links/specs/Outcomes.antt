@@ -5,6 +5,7 @@ use lib.ListN.{drop, length}
 use Rattle.ground.specs.Outcomes.{frontIf}
 use Rattle.ground.specs.declared.Check.{Check}
 use Rattle.theory.specs.Outcomes.{RowsOutcome}
+use Rattle.stored_links.specs.Form.{linkFormAt}
 use Rattle.stored_links.specs.Reading.{readAtChecks}
 use Rattle.stored_links.specs.Said.{costsOf, countOf, farsOf, imagesOf, usedOf}
 use Rattle.stored_links.specs.declared.StoredLinks.{StoredLinks}
@@ -37,3 +38,11 @@ rowsIf c form s f v =
 -- what reading at the position answers and leaves in the far sides f and the costs v
 abbrev pub readOutcome : Form → List ℕ → ℕ → List ℕ → List ℕ → RowsOutcome StoredLinks
 readOutcome form bytes position f v = rowsIf (readAtChecks form bytes position (min (length f) (length v))) form (drop (position / 8) bytes) f v
+
+-- ## In either form: the one that the bytes tell
+
+abbrev pub judgedEither : List ℕ → ℕ → ℕ → StoredLinks
+judgedEither bytes position room = judged (linkFormAt bytes position) bytes position room
+
+abbrev pub readEither : List ℕ → ℕ → List ℕ → List ℕ → RowsOutcome StoredLinks
+readEither bytes position f v = readOutcome (linkFormAt bytes position) bytes position f v

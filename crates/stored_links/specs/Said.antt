@@ -1,20 +1,11 @@
 -- What the bytes s say when they are read as a stored link table. Assumes nothing.
 use mathlib.Core.List.{List}
-use mathlib.Core.Path.{_≡_}
 use Prim.Native.Nat.{ℕ, _*_, _+_, _-_}
 use Rattle.bits.specs.Bits.{bits, part, valueOf}
 use Rattle.bits.specs.Forms.{fillWidth}
 use Rattle.bits.specs.Listed.{listed}
 use Rattle.stored_links.specs.Form.{linkUsed, rowAt}
 use Rattle.bits.specs.declared.Form.{Form}
-
--- what stands in front of n
-abbrev pub markOf : Form → List ℕ → ℕ
-markOf form s = valueOf (part (bits s) 0 (form .head))
-
--- the mark of the form stands in front
-abbrev pub Marked : Form → List ℕ → Type 0
-Marked form s = markOf form s ≡ form .mark
 
 -- n
 unfoldable pub imagesOf : Form → List ℕ → ℕ

@@ -1,5 +1,6 @@
-// The stored link table: its form, and reading it. The functions below the public calls take the form as an argument. Images and rows are
+// The stored link table: its forms, and reading it. The functions below the public calls take the form as an argument. Images and rows are
 // counted from 0.
+use bits::Edition;
 use bits::Form;
 use ground::Check;
 use ground::Refusal;
@@ -12,9 +13,9 @@ ghost use Rattle.theory.specs.Outcomes.{LeftRows};
 ghost use Rattle.links.specs.Checks.{rowChecks};
 ghost use Rattle.bits.specs.Bits.{bits, part, valueOf};
 ghost use Rattle.bits.specs.Forms.{bytesFor};
-ghost use Rattle.stored_links.specs.Form.{oldLinks, rowAt};
+ghost use Rattle.stored_links.specs.Form.{linkForm, linkFormAt, rowAt};
 ghost use Rattle.stored_links.specs.Said.{costsOf, countOf, farsOf, imagesOf};
-ghost use Rattle.stored_links.specs.Outcomes.{judged, readOutcome, saidIf};
+ghost use Rattle.stored_links.specs.Outcomes.{judged, judgedEither, readEither, saidIf};
 ghost use Rattle.stored_links.specs.Reading.{bodyChecks, headChecks, readAtChecks, readChecks};
 ghost use Rattle.stored_links.specs.Sizes.{Held, Small, lastRowEnd};
 
@@ -24,16 +25,31 @@ pub enum StoredLinks {
     Refused(Refusal),
 }
 
-// Document 01's form: nothing stands in front of n, and a doubled cost has 21 bits.
-pub fn old_form() -> Form
-    ensures { λ r. ⌜ r ≡ oldLinks ⌝ }
+// Both forms. In the old one nothing stands in front of n and a doubled cost has 21 bits; in the new one the mark does, and it has 24.
+pub fn form_of(edition: Edition) -> Form
+    ensures { λ r. ⌜ r ≡ linkForm edition ⌝ }
 {
-    Form {
-        head: 0,
-        mark: 0,
-        width: 21,
-        limit: theory::LIMIT,
+    match edition {
+        Edition::Old => Form {
+            head: 0,
+            mark: 0,
+            width: 21,
+            limit: theory::OLD_LIMIT,
+        },
+        Edition::New => Form {
+            head: 7,
+            mark: bits::NEW_MARK,
+            width: 24,
+            limit: theory::LIMIT,
+        },
     }
+}
+
+// The form of the table at the position, which its first seven bits tell.
+fn form_at(bytes: &[u8], position: usize) -> Form
+    ensures { λ r. ⌜ r ≡ linkFormAt (now (bytes .entry)) position ⌝ }
+{
+    form_of(bits::edition_at(bytes, position))
 }
 
 // The bit at which row k begins, which is where k rows end.
@@ -196,11 +212,11 @@ fn judge(form: Form, bytes: &[u8], position: usize, room: usize) -> StoredLinks
     }
 }
 
-// What reading the link table at the position answers, where so many places are lent in each output. Nothing is written.
+// What reading the link table at the position answers, in either form, where so many places are lent in each output. Nothing is written.
 pub fn judge_links(bytes: &[u8], position: usize, room: usize) -> StoredLinks
-    ensures { λ r. ⌜ r ≡ judged oldLinks (now (bytes .entry)) position room ⌝ }
+    ensures { λ r. ⌜ r ≡ judgedEither (now (bytes .entry)) position room ⌝ }
 {
-    judge(old_form(), bytes, position, room)
+    judge(form_at(bytes, position), bytes, position, room)
 }
 
 // The lesser of two lengths.
@@ -210,15 +226,16 @@ fn lesser(x: usize, y: usize) -> usize
     if y < x { y } else { x }
 }
 
-// The link table at the position, into the lent places: everything is judged before the first store.
+// The link table at the position, in either form, into the lent places: everything is judged before the first store.
 pub fn read_links(bytes: &[u8], position: usize, fars: &mut [u64], costs: &mut [u32]) -> StoredLinks
-    ensures { λ r. ⌜ LeftRows (readOutcome oldLinks (now (bytes .entry)) position (now (fars .entry)) (now (costs .entry))) r (now (fars .exit))
+    ensures { λ r. ⌜ LeftRows (readEither (now (bytes .entry)) position (now (fars .entry)) (now (costs .entry))) r (now (fars .exit))
         (now (costs .exit)) ⌝ }
 {
-    match judge_links(bytes, position, lesser(fars.len(), costs.len())) {
+    let form = form_at(bytes, position);
+    match judge(form, bytes, position, lesser(fars.len(), costs.len())) {
         StoredLinks::Refused(r) => StoredLinks::Refused(r),
         StoredLinks::Table { n, count, used } => {
-            fill(old_form(), n, count, &bytes[position / 8..], fars, costs);
+            fill(form, n, count, &bytes[position / 8..], fars, costs);
             StoredLinks::Table { n, count, used }
         }
     }

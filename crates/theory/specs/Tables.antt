@@ -6,7 +6,11 @@ use lib.ListN.{getD, length}
 
 -- the limit on an entry; a doubled cost is at most twice as much
 abbrev pub limit : ℕ
-limit = 1000000
+limit = 8000000
+
+-- the limit in document 01's stored forms, which readers still keep
+abbrev pub oldLimit : ℕ
+oldLimit = 1000000
 
 -- the entry of i and j in a table of n numbers to a row, row by row
 abbrev pub cost : List ℕ → ℕ → ℕ → ℕ → ℕ

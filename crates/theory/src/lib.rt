@@ -6,7 +6,10 @@ ghost use Rattle.theory.specs.Checks.{imagesCheck};
 ghost use Rattle.theory.specs.FarSides.{inner};
 
 // The limit on an entry, `limit` of specs/Tables.antt; a doubled cost is at most twice as much.
-pub const LIMIT: u32 = 1000000;
+pub const LIMIT: u32 = 8000000;
+
+// The limit in document 01's stored forms, `oldLimit` there.
+pub const OLD_LIMIT: u32 = 1000000;
 
 // What no value of a choice exceeds, two limits added to it: the start of every least value.
 pub const CAP: u32 = 4 * LIMIT;

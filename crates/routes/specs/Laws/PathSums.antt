@@ -52,10 +52,10 @@ path-most M (r ∷ T) i j h =
     let b = h r (List·Memᴰ·head refl) in
     rw suc-mul (cases (apart (r .0) i j) (λ e. rw e (omega arith)) (λ e. rw e (omega arith)))
 
--- at most 125 rows with costs of at most 2,000,000
-pub path-fits : (n N : ℕ) (l v : List ℕ) → Links limit n N l v → (i j : ℕ) → path (rowsOf l v) i j ≤ 250000000
+-- at most 125 rows with costs of at most twice the limit
+pub path-fits : (n N : ℕ) (l v : List ℕ) → Links limit n N l v → (i j : ℕ) → path (rowsOf l v) i j ≤ 250 * limit
 path-fits n N l v t i j =
     let e : length l ≡ length v = omega arith in
     let c = row-count limit n (rowsOf l v) (t .some) (t .table) in
     let k : length (rowsOf l v) ≤ 125 = omega arith in
-    omega (arith, path-most 2000000 (rowsOf l v) i j (t .table .small))
+    omega (arith, path-most (2 * limit) (rowsOf l v) i j (t .table .small))

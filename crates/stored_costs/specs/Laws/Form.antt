@@ -4,12 +4,12 @@ use mathlib.Core.Path.{ap, sym, _∙_, _≡_}
 use Prim.Native.Nat.{ℕ, _*_, _+_}
 use native.Mathlib.Omega.{arith}
 use lib.ListN.{length, length-append}
-use Rattle.bits.specs.Bits.{AllBits, bitsOf}
-use Rattle.bits.specs.Forms.{bytesFor, fieldsOf, fieldBits, fieldBytes}
+use Rattle.bits.specs.Bits.{AllBits, bits, bitsOf}
+use Rattle.bits.specs.Forms.{bytesFor, fieldsOf, fillWidth, fieldBits, fieldBytes}
 use Rattle.bits.specs.Laws.Forms.{all-bits-form}
 use Rattle.bits.specs.Laws.Numbers.{length-bitsOf}
 use Rattle.bits.specs.Laws.OneWidth.{length-fields}
-use Rattle.bits.specs.Laws.Packed.{length-packed}
+use Rattle.bits.specs.Laws.Packed.{bits-packed-then, length-packed}
 use Rattle.stored_costs.specs.Entries.{entries, entryCount}
 use Rattle.stored_costs.specs.Form.{costBytes, costEnd, costFields, costUsed}
 use Rattle.stored_costs.specs.Laws.Entries.{length-entries}
@@ -47,3 +47,14 @@ module _ (form : Form) (n : ℕ) (d : ℕ → ℕ → ℕ) where
   pub length-costs : length (costBytes form n d) ≡ costUsed form n
   unfolding costBytes fieldBytes costBits
   length-costs = length-packed costBits ∙ ap bytesFor length-cost-bits
+
+  -- what follows the bytes follows the fill bits
+  pub bits-costs-then : (behind : List ℕ) → bits (costBytes form n d ++ behind)
+      ≡ (bitsOf (form .head) (form .mark) ++ bitsOf 7 n) ++ (entryBits ++ (bitsOf (fillWidth (costEnd form n)) 0 ++ bits behind))
+  unfolding costBytes fieldBytes costBits
+  bits-costs-then behind =
+      let fill = bitsOf (fillWidth (costEnd form n)) 0 in
+      bits-packed-then costBits all-bits-costs behind
+      ∙ ap (λ (x : ℕ). costBits ++ (bitsOf (fillWidth x) 0 ++ bits behind)) length-cost-bits
+      ∙ ap (λ (x : List ℕ). x ++ (fill ++ bits behind)) cost-parts
+      ∙ append-assoc (bitsOf (form .head) (form .mark) ++ bitsOf 7 n) entryBits (fill ++ bits behind)

@@ -9,8 +9,9 @@ use borrow.Author.Tests.{le-ltb}
 use Rattle.ground.specs.Outcomes.{Outcome, frontIf}
 use Rattle.theory.specs.Tables.{CostTable, cost}
 use Rattle.bits.specs.Bits.{AllBytes}
+use Rattle.bits.specs.Editions.{Marked}
 use Rattle.bits.specs.Laws.Written.{all-bytes-drop}
-use Rattle.stored_costs.specs.Form.{costBytes, costUsed, storedTable, imagesOf, Marked}
+use Rattle.stored_costs.specs.Form.{costBytes, costUsed, storedTable, imagesOf}
 use Rattle.stored_costs.specs.Laws.Passed.{passed-read, table-at}
 use Rattle.stored_costs.specs.Laws.ReadBack.{written-costs-of, written-images, written-readable}
 use Rattle.stored_costs.specs.Laws.WriteBack.{read-written}

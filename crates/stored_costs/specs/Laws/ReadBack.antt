@@ -12,16 +12,15 @@ use borrow.Author.Tests.{ltb-false, ltb-true}
 use borrow.Table.Steps.{cases}
 use Rattle.theory.specs.Tables.{CostTable, cost}
 use Rattle.bits.specs.Bits.{bits, bitsOf, part, valueOf}
-use Rattle.bits.specs.Forms.{fieldValue, fillWidth, fieldBytes}
+use Rattle.bits.specs.Forms.{fieldValue, fillWidth}
 use Rattle.bits.specs.Laws.Numbers.{length-bitsOf, value-bits}
 use Rattle.bits.specs.Laws.OneWidth.{field-value}
-use Rattle.bits.specs.Laws.Packed.{bits-packed-then}
 use Rattle.bits.specs.Laws.Parts.{part-cut}
 use Rattle.bits.specs.Laws.Listed.{listed-at}
 use Rattle.stored_costs.specs.Entries.{entries, entriesTo, entryCount, entryNumber, rowEntries}
 use Rattle.stored_costs.specs.Form.{costBytes, costEnd, storedTable, entryOf, fillOf, imagesOf}
 use Rattle.stored_costs.specs.Laws.Entries.{entry-is, length-entries, length-row, number-lt}
-use Rattle.stored_costs.specs.Laws.Form.{all-bits-costs, cost-parts, costBits, entryBits, length-cost-bits, length-costs, length-entry-bits, length-front}
+use Rattle.stored_costs.specs.Laws.Form.{bits-costs-then, entryBits, length-costs, length-entry-bits, length-front}
 use Rattle.stored_costs.specs.Laws.Tables.{table-is}
 use Rattle.bits.specs.declared.Form.{Form}
 use Rattle.stored_costs.specs.Stored.{Readable}
@@ -57,15 +56,9 @@ module _ (form : Form) (n : ℕ) (t behind : List ℕ) (c : CostTable (form .lim
   fill : List ℕ
   fill = bitsOf (fillWidth (costEnd form n)) 0
 
-  -- the bits: head, n, entries, fill bits, and what follows
   stored-bits : bits stored ≡ (bitsOf (form .head) (form .mark) ++ bitsOf 7 n) ++ (entryBits form n (cost t n) ++ (fill ++ bits behind))
-  unfolding stored costBytes fieldBytes fill costBits
-  stored-bits =
-      let b = costBits form n (cost t n) in
-      bits-packed-then b (all-bits-costs form n (cost t n)) behind
-      ∙ ap (λ (x : ℕ). b ++ (bitsOf (fillWidth x) 0 ++ bits behind)) (length-cost-bits form n (cost t n))
-      ∙ ap (λ (x : List ℕ). x ++ (fill ++ bits behind)) (cost-parts form n (cost t n))
-      ∙ append-assoc (bitsOf (form .head) (form .mark) ++ bitsOf 7 n) (entryBits form n (cost t n)) (fill ++ bits behind)
+  unfolding stored fill
+  stored-bits = bits-costs-then form n (cost t n) behind
 
   images-is : imagesOf form stored ≡ n
   unfolding imagesOf

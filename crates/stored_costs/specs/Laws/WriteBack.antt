@@ -7,6 +7,7 @@ use native.Mathlib.Omega.{arith}
 use lib.ListN.{take}
 use Rattle.theory.specs.Tables.{CostTable, cost}
 use Rattle.bits.specs.Bits.{AllBytes, bits, bitsOf, part}
+use Rattle.bits.specs.Editions.{Marked}
 use Rattle.bits.specs.Forms.{fieldsOf, fillWidth, filled, fieldBits, fieldBytes}
 use Rattle.bits.specs.Laws.Bytes.{length-bits}
 use Rattle.bits.specs.Laws.Numbers.{all-bits-bytes}
@@ -15,7 +16,7 @@ use Rattle.bits.specs.Laws.Packed.{packed-only}
 use Rattle.bits.specs.Laws.Parts.{part-more}
 use Rattle.bits.specs.Laws.Written.{all-bytes-take, bits-take}
 use Rattle.stored_costs.specs.Entries.{entryCount}
-use Rattle.stored_costs.specs.Form.{costBytes, costEnd, costUsed, storedTable, entryOf, fillOf, imagesOf, Marked}
+use Rattle.stored_costs.specs.Form.{costBytes, costEnd, costUsed, storedTable, entryOf, fillOf, imagesOf}
 use Rattle.stored_costs.specs.Laws.Form.{all-bits-costs, cost-parts, costBits, entryBits, length-cost-bits}
 use Rattle.stored_costs.specs.Laws.Tables.{table-entries, table-formed}
 use Rattle.bits.specs.declared.Form.{Form}

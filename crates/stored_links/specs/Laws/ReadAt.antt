@@ -8,6 +8,7 @@ use lib.Seq.{drop-append-seam}
 use borrow.Author.Tests.{le-ltb}
 use Rattle.ground.specs.declared.Check.{Check}
 use Rattle.bits.specs.Bits.{AllBytes}
+use Rattle.bits.specs.Editions.{Marked}
 use Rattle.bits.specs.Laws.Written.{all-bytes-drop}
 use Rattle.links.specs.Links.{Links}
 use Rattle.stored_links.specs.Form.{linkBytes, linkUsed}
@@ -17,7 +18,7 @@ use Rattle.stored_links.specs.Laws.ReadBack.{written-costs, written-fars
 use Rattle.stored_links.specs.Laws.WriteBack.{read-written}
 use Rattle.stored_links.specs.Outcomes.{readOutcome, rowsIf}
 use Rattle.stored_links.specs.Reading.{readChecks, tableAtChecks}
-use Rattle.stored_links.specs.Said.{costsOf, farsOf, Marked}
+use Rattle.stored_links.specs.Said.{costsOf, farsOf}
 use Rattle.bits.specs.declared.Form.{Form}
 use Rattle.stored_links.specs.Stored.{Stored, TableAt, readInto}
 

@@ -6,6 +6,7 @@ use native.Mathlib.Nat.{zero-add}
 use native.Mathlib.Omega.{arith}
 use lib.ListN.{getD, length, take}
 use Rattle.bits.specs.Bits.{AllBytes, bits, bitsOf, part}
+use Rattle.bits.specs.Editions.{Marked}
 use Rattle.bits.specs.Forms.{fillWidth, filled, fieldBits, fieldBytes}
 use Rattle.bits.specs.Laws.Bytes.{length-bits}
 use Rattle.bits.specs.Laws.Numbers.{all-bits-bytes}
@@ -17,7 +18,7 @@ use Rattle.links.specs.Links.{Links}
 use Rattle.stored_links.specs.Form.{linkBytes, linkUsed, rowAt, rowWidth, rowsTo}
 use Rattle.stored_links.specs.Laws.Form.{all-bits-links, allRows, frontBits, length-link-bits, link-parts, linkBits}
 use Rattle.stored_links.specs.Laws.Rows.{rows-same}
-use Rattle.stored_links.specs.Said.{Marked, costAt, costsOf, countOf, farAt, farsOf, fillOf, imagesOf}
+use Rattle.stored_links.specs.Said.{costAt, costsOf, countOf, farAt, farsOf, fillOf, imagesOf}
 use Rattle.bits.specs.declared.Form.{Form}
 use Rattle.stored_links.specs.Stored.{Stored}
 use Rattle.bits.specs.Laws.OneWidth.{part-again}
