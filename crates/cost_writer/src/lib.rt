@@ -1,4 +1,5 @@
-// Writing a stored cost table. The functions below the public call take the form as an argument. Images are counted from 0.
+// Writing a stored cost table. The functions below the public calls take the form as an argument. Images are counted from 0.
+use bits::Edition;
 use bits::Form;
 use ground::Check;
 use ground::Written;
@@ -7,14 +8,17 @@ ghost use mathlib.Core.Path.{_≡_};
 ghost use Prim.Native.Nat.{_*_, _+_, _-_, _<_, _≤_};
 ghost use lib.ListN.{length};
 ghost use Rattle.ground.specs.Buffers.{front};
+ghost use Rattle.ground.specs.Lowest.{checkAll};
 ghost use Rattle.ground.specs.Outcomes.{Left};
+ghost use Rattle.ground.specs.Refusals.{_then_};
 ghost use Rattle.theory.specs.Tables.{cost, CostTable, limit};
+ghost use Rattle.tables.specs.Checks.{costsCheck, sizeCheck};
 ghost use Rattle.bits.specs.Forms.{fieldsOf, fieldBits};
 ghost use Rattle.packer.specs.Gathering.{Put, Room};
 ghost use Rattle.stored_costs.specs.Entries.{entries, entryCount, rowEntries};
-ghost use Rattle.stored_costs.specs.Form.{costBytes, costUsed, oldCosts};
+ghost use Rattle.stored_costs.specs.Form.{costBytes, costForm, costUsed};
 ghost use Rattle.stored_costs.specs.Sizes.{Small};
-ghost use Rattle.cost_writer.specs.Writing.{writeChecks, writeOutcome};
+ghost use Rattle.cost_writer.specs.Writing.{fitCheck, largeCheck, storeChecks, storeOutcome, writeOutcome};
 
 // The entries of row i right of the diagonal, behind what was put.
 fn put_row(g: Gathered, w: usize, n: usize, t: &[u32], i: usize, out: &mut [u8]) -> Gathered
@@ -55,29 +59,90 @@ fn put_form(form: Form, n: usize, t: &[u32], out: &mut [u8]) -> usize
     packer::finish(out, entered)
 }
 
-// Refusals 1, 2, 4, 5, 6 and 3.
-fn check_write(form: Form, n: usize, t: &[u32], room: usize) -> Check
-    requires { ⌜ (form .head ≤ 7) × (form .width ≤ 32) ⌝ }
-    ensures { λ r. ⌜ r ≡ writeChecks form n (now (t .entry)) room ⌝ }
+// Refusal 17 of the entry of i and j.
+fn check_large(most: u32, n: usize, t: &[u32], i: usize, j: usize) -> Check
+    requires { ⌜ CostTable limit n (now t) × (i < n) × (j < n) ⌝ }
+    ensures { λ r. ⌜ r ≡ largeCheck most (cost (now (t .entry)) n) i j ⌝ }
+{
+    ground::refuse_if(most < tables::entry(t, n, i, j), 17, i + 1, j + 1)
+}
+
+// Refusal 17 in row i, right of the diagonal.
+fn check_fit_row(most: u32, n: usize, t: &[u32], i: usize) -> Check
+    requires { ⌜ CostTable limit n (now t) × (i < n) ⌝ }
+    ensures { λ r. ⌜ r ≡ checkAll (largeCheck most (cost (now (t .entry)) n) i) (i + 1) (n - (i + 1)) ⌝ }
+{
+    let mut j = i + 1;
+    while j < n {
+        let c = check_large(most, n, t, i, j);
+        match c {
+            Check::Refused(_) => return c,
+            Check::Passed => j += 1,
+        }
+    }
+    Check::Passed
+}
+
+// Refusal 17. No entry is looked at where the limit is that of cost tables, as in the new form.
+fn check_fit(most: u32, n: usize, t: &[u32]) -> Check
+    requires { ⌜ CostTable limit n (now t) ⌝ }
+    ensures { λ r. ⌜ r ≡ fitCheck most (cost (now (t .entry)) n) n ⌝ }
+{
+    if theory::LIMIT <= most {
+        return Check::Passed;
+    }
+    let mut i = 0;
+    while i < n {
+        let c = check_fit_row(most, n, t, i);
+        match c {
+            Check::Refused(_) => return c,
+            Check::Passed => i += 1,
+        }
+    }
+    Check::Passed
+}
+
+// Refusals 17 and 3.
+fn check_store(form: Form, n: usize, t: &[u32], room: usize) -> Check
+    requires { ⌜ CostTable limit n (now t) × Small form n ⌝ }
+    ensures { λ r. ⌜ r ≡ storeChecks form n (cost (now (t .entry)) n) room ⌝ }
+{
+    let fit = check_fit(form.limit, n, t);
+    let Check::Passed = fit else {
+        return fit;
+    };
+    ground::refuse_if(room < (stored_costs::row_at(form, n, n) + 7) / 8, 3, 0, 0)
+}
+
+// The stored form of a cost table that is known to be one, for those who checked it themselves.
+pub fn store_costs(edition: Edition, n: usize, t: &[u32], out: &mut [u8]) -> Written
+    requires { ⌜ CostTable limit n (now t) ⌝ }
+    ensures { λ r. ⌜ Left (storeOutcome (costForm edition) n (now (t .entry)) (now (out .entry))) r (now (out .exit)) ⌝ }
+{
+    let form = stored_costs::form_of(edition);
+    match check_store(form, n, t, out.len()) {
+        Check::Refused(r) => Written::Refused(r),
+        Check::Passed => Written::Places(put_form(form, n, t, out)),
+    }
+}
+
+// Refusals 1, 2, 4, 5 and 6.
+fn check_table(n: usize, t: &[u32]) -> Check
+    ensures { λ r. ⌜ r ≡ (sizeCheck n (now (t .entry)) then costsCheck limit (cost (now (t .entry)) n) n) ⌝ }
 {
     let size = tables::check_size(n, t);
     let Check::Passed = size else {
         return size;
     };
-    let costs = tables::check_costs(form.limit, n, t);
-    let Check::Passed = costs else {
-        return costs;
-    };
-    ground::refuse_if(room < (stored_costs::row_at(form, n, n) + 7) / 8, 3, 0, 0)
+    tables::check_costs(theory::LIMIT, n, t)
 }
 
-// The stored form of the cost table t at the front of the lent bytes; the answer is the bytes used. No other byte is written.
-pub fn write_costs(n: usize, t: &[u32], out: &mut [u8]) -> Written
-    ensures { λ r. ⌜ Left (writeOutcome oldCosts n (now (t .entry)) (now (out .entry))) r (now (out .exit)) ⌝ }
+// The cost table t at the front of the lent bytes, in the form that is asked for; the answer is the bytes used. No other byte is written.
+pub fn write_costs(edition: Edition, n: usize, t: &[u32], out: &mut [u8]) -> Written
+    ensures { λ r. ⌜ Left (writeOutcome (costForm edition) n (now (t .entry)) (now (out .entry))) r (now (out .exit)) ⌝ }
 {
-    let form = stored_costs::old_form();
-    match check_write(form, n, t, out.len()) {
+    match check_table(n, t) {
         Check::Refused(r) => Written::Refused(r),
-        Check::Passed => Written::Places(put_form(form, n, t, out)),
+        Check::Passed => store_costs(edition, n, t, out),
     }
 }

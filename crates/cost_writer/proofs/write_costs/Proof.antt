@@ -1,42 +1,26 @@
--- `cost_writer::write_costs` meets its contract: the form is put once all checks passed. Assumes nothing.
-use mathlib.Core.Path.{ap, sym, _∙_, _≡_}
-use Prim.Native.Nat.{_≤_}
-use native.Mathlib.Omega.{arith}
-use lib.ListN.{length}
-use Rattle.theory.specs.Tables.{CostTable, limit}
-use Rattle.stored_costs.specs.Form.{costUsed, oldCosts}
-use Rattle.stored_costs.specs.Sizes.{Small}
-use Rattle.cost_writer.specs.Laws.Accepted.{write-passed}
-use Rattle.cost_writer.specs.Writing.{writeChecks}
+-- `cost_writer::write_costs` meets its contract: what is known to be a cost table is stored. Assumes nothing.
+use mathlib.Core.Path.{refl, sym, _∙_, _≡_}
+use Rattle.ground.specs.Refusals.{_then_}
+use Rattle.ground.specs.declared.Check.the-variants.{Passed}
+use Rattle.theory.specs.Tables.{cost, limit}
+use Rattle.tables.specs.Checks.{costsCheck, sizeCheck}
+use Rattle.tables.specs.Laws.Formed.{cost-table}
 use borrow.Author.Needs.{needs}
-use Rattle.ground.specs.Laws.Outcomes.{front-goes, front-stops}
-use Rattle.ground.specs.Laws.Refusals.{if-goes, if-stops}
-use Rattle.ground.specs.declared.Written.the-variants.{Places}
-use Rattle.ground.specs.declared.Written.the-variants as written
 use Rattle.cost_writer.proofs.write_costs.Statement.{statement}
 use Rattle.cost_writer.proofs.write_costs.Tie as tie
 
-abbrev begun : tie.After-enum-told → tie.Start
-begun c = c .before .before .before .before .before .before
+-- where the call started
+abbrev begun : tie.After-check-table → tie.Start
+begun c = c .before .before .before
 
--- the checks are those of document 01's form
-checked : (c : tie.After-check-write)
-    → c .check-write .result ≡ writeChecks oldCosts (c .before .before .before .before .args .n) (c .before .before .before .before .args .t .now)
-    (length (c .before .before .before .before .args .out .now))
-checked c = rw (c .before .old-form .ensures) at (c .check-write .ensures)
+-- the checks of the table passed
+passed : (c : tie.After-enum-told)
+    → (sizeCheck (begun (c .before .before) .args .n) (begun (c .before .before) .args .t .now) then costsCheck limit
+    (cost (begun (c .before .before) .args .t .now) (begun (c .before .before) .args .n)) (begun (c .before .before) .args .n)) ≡ Passed
+passed c = sym (c .before .before .check-table .ensures) ∙ c .enum-told .given .1
 
-told : (c : tie.After-enum-told)
-    → CostTable limit (begun c .args .n) (begun c .args .t .now) × (costUsed oldCosts (begun c .args .n) ≤ length (begun c .args .out .now))
-told c = write-passed oldCosts _ _ _ (sym (checked (c .before .before)) ∙ c .enum-told .given .1)
-
-small : (c : tie.After-enum-told) → Small oldCosts (begun c .args .n)
-small c = record { short = omega arith; narrow = omega arith; few = told c .0 .few }
-
-old-form-requires : tie.Need-old-form-requires
-old-form-requires c κs = search needs
-
-check-write-requires : tie.Need-check-write-requires
-check-write-requires c κs = rw (c .old-form .ensures) (omega arith, omega arith)
+check-table-requires : tie.Need-check-table-requires
+check-table-requires c κs = search needs
 
 enum-known-r : tie.Need-enum-known-r
 enum-known-r c = search needs
@@ -44,42 +28,18 @@ enum-known-r c = search needs
 enum-told : tie.Need-enum-told
 enum-told c = search needs
 
-put-form-requires : tie.Need-put-form-requires
-put-form-requires c κs =
-    let d = c .before in
-    rw (d .before .before .before .old-form .ensures) (told d .0, small d, told d .1)
+store-costs-requires : tie.Need-store-costs-requires
+store-costs-requires c κs = cost-table limit _ _ .0 (passed (c .before))
 
 returns : tie.Need-returns
-returns c =
-    let k = c .before .before .before in
-    record {
-      answered = if-stops written.Refused _ _ (c .before .r .given .1) (checked k);
-      left = front-stops _ _ _ (sym (checked k) ∙ c .before .r .given .1);
-    }
+returns c = let k = c .before .before .before in rw (sym (k .check-table .ensures) ∙ c .before .r .given .1) (record { answered = refl; left = refl })
 
 same-length : tie.Need-same-length
 same-length c = search needs
 
 returns-2 : tie.Need-returns-2
-returns-2 c =
-    let p = c .before .before in
-    let d = p .before .before in
-    let k = d .before .before in
-    let put = rw (k .before .old-form .ensures) at (p .put-form .ensures) in
-    record {
-      answered = if-goes written.Refused _ _ (d .enum-told .given .1) (checked k) (ap Places (put .0));
-      left = front-goes _ _ _ _ (sym (checked k) ∙ d .enum-told .given .1) (put .1);
-    }
+returns-2 c = let p = c .before .before in rw (passed (p .before .before)) (p .store-costs .ensures)
 
 pub write-costs-spec : {M : Type 1} → statement M
 write-costs-spec =
-    tie.close
-    (tie.spec
-    old-form-requires
-    check-write-requires
-    enum-known-r
-    enum-told
-    put-form-requires
-    returns
-    same-length
-    returns-2)
+    tie.close (tie.spec check-table-requires enum-known-r enum-told store-costs-requires returns same-length returns-2)
