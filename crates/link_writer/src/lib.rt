@@ -1,4 +1,5 @@
-// Writing a stored link table. The functions below the public call take the form as an argument. Images and rows are counted from 0.
+// Writing a stored link table. The functions below the public calls take the form as an argument. Images and rows are counted from 0.
+use bits::Edition;
 use bits::Form;
 use ground::Check;
 use ground::Written;
@@ -7,12 +8,17 @@ ghost use mathlib.Core.Path.{_≡_};
 ghost use Prim.Native.Nat.{_*_, _≤_};
 ghost use lib.ListN.{getD, length};
 ghost use Rattle.ground.specs.Buffers.{front};
+ghost use Rattle.ground.specs.First.{first};
 ghost use Rattle.ground.specs.Outcomes.{Left};
+ghost use Rattle.ground.specs.Refusals.{_then_};
+ghost use Rattle.theory.specs.Tables.{limit};
+ghost use Rattle.links.specs.Checks.{rowChecks, sizeChecks};
+ghost use Rattle.links.specs.Links.{Links};
 ghost use Rattle.bits.specs.Forms.{fieldBits};
 ghost use Rattle.packer.specs.Gathering.{Put, Room};
-ghost use Rattle.stored_links.specs.Form.{linkBytes, linkUsed, oldLinks, rowFields, rowWidth, rowsTo};
+ghost use Rattle.stored_links.specs.Form.{linkBytes, linkForm, linkUsed, rowFields, rowWidth, rowsTo};
 ghost use Rattle.stored_links.specs.Sizes.{Small};
-ghost use Rattle.link_writer.specs.Writing.{RoomFor, fitChecks, writeChecks, writeOutcome};
+ghost use Rattle.link_writer.specs.Writing.{RoomFor, fitChecks, large, storeChecks, storeOutcome, writeOutcome};
 
 // One row behind what was put: images n down to 2 are half the far side, and the cost stands behind them.
 fn put_row(g: Gathered, w: usize, n: usize, s: u64, c: u32, out: &mut [u8]) -> Gathered
@@ -59,60 +65,104 @@ fn put_form(form: Form, n: usize, fars: &[u64], costs: &[u32], out: &mut [u8]) -
 }
 
 // The bytes that so many rows over n images use.
-pub fn links_used(n: usize, count: usize) -> usize
-    requires { ⌜ Small oldLinks n count ⌝ }
-    ensures { λ r. ⌜ r ≡ linkUsed oldLinks n count ⌝ }
+pub fn links_used(edition: Edition, n: usize, count: usize) -> usize
+    requires { ⌜ Small (linkForm edition) n count ⌝ }
+    ensures { λ r. ⌜ r ≡ linkUsed (linkForm edition) n count ⌝ }
 {
-    (stored_links::row_at(stored_links::old_form(), n, count) + 7) / 8
+    (stored_links::row_at(stored_links::form_of(edition), n, count) + 7) / 8
 }
 
 // The stored form of a table whose sizes fit, at the front of bytes that have room for it; the answer is the bytes used. Nothing is checked.
-pub fn put_links(n: usize, fars: &[u64], costs: &[u32], out: &mut [u8]) -> usize
-    requires { ⌜ RoomFor oldLinks n (length (now fars)) (length (now out)) × (length (now costs) ≡ length (now fars)) ⌝ }
-    ensures { λ r. ⌜ (r ≡ linkUsed oldLinks n (length (now (fars .entry))))
-        × (now (out .exit) ≡ front (linkBytes oldLinks n (now (fars .entry)) (now (costs .entry))) (now (out .entry))) ⌝ }
+pub fn put_links(edition: Edition, n: usize, fars: &[u64], costs: &[u32], out: &mut [u8]) -> usize
+    requires { ⌜ RoomFor (linkForm edition) n (length (now fars)) (length (now out)) × (length (now costs) ≡ length (now fars)) ⌝ }
+    ensures { λ r. ⌜ (r ≡ linkUsed (linkForm edition) n (length (now (fars .entry))))
+        × (now (out .exit) ≡ front (linkBytes (linkForm edition) n (now (fars .entry)) (now (costs .entry))) (now (out .entry))) ⌝ }
 {
-    put_form(stored_links::old_form(), n, fars, costs, out)
+    put_form(stored_links::form_of(edition), n, fars, costs, out)
 }
 
-// Refusals 12, 13 and 3 of rows as many as counted.
-fn check_fit(form: Form, n: usize, fars: &[u64], costs: &[u32], room: usize) -> Check
-    requires { ⌜ Small form n (length (now fars)) × (length (now costs) ≡ length (now fars)) ⌝ }
-    ensures { λ r. ⌜ r ≡ fitChecks form n (now (fars .entry)) (now (costs .entry)) room ⌝ }
+// The first row with a cost above twice the limit, from 0, else the number of rows.
+fn first_large(most: u32, costs: &[u32]) -> usize
+    requires { ⌜ most ≤ limit ⌝ }
+    ensures { λ r. ⌜ r ≡ first (large most (now (costs .entry))) (length (now (costs .entry))) ⌝ }
 {
-    let rows = links::check_rows(form.limit, n, fars, costs);
-    let Check::Passed = rows else {
-        return rows;
+    let mut k = 0;
+    while k < costs.len() {
+        if 2 * most < costs[k] {
+            return k;
+        }
+        k += 1;
+    }
+    k
+}
+
+// Refusals 17 and 3 of rows as many as counted.
+fn check_store(form: Form, n: usize, fars: &[u64], costs: &[u32], room: usize) -> Check
+    requires { ⌜ Small form n (length (now fars)) × (form .limit ≤ limit) × (length (now costs) ≡ length (now fars)) ⌝ }
+    ensures { λ r. ⌜ r ≡ storeChecks form n (now (fars .entry)) (now (costs .entry)) room ⌝ }
+{
+    let row = first_large(form.limit, costs);
+    let fit = ground::refuse_if(row < costs.len(), 17, row + 1, 0);
+    let Check::Passed = fit else {
+        return fit;
     };
     let end = stored_links::row_at(form, n, fars.len());
     ground::refuse_if(room < (end + 7) / 8, 3, 0, 0)
 }
 
-// The same in the form of document 01, for those who counted the rows themselves.
-pub fn check_links(n: usize, fars: &[u64], costs: &[u32], room: usize) -> Check
-    requires { ⌜ Small oldLinks n (length (now fars)) × (length (now costs) ≡ length (now fars)) ⌝ }
-    ensures { λ r. ⌜ r ≡ fitChecks oldLinks n (now (fars .entry)) (now (costs .entry)) room ⌝ }
+// Refusals 12, 13, 17 and 3, for those who counted the rows themselves.
+pub fn check_links(edition: Edition, n: usize, fars: &[u64], costs: &[u32], room: usize) -> Check
+    requires { ⌜ Small (linkForm edition) n (length (now fars)) × (length (now costs) ≡ length (now fars)) ⌝ }
+    ensures { λ r. ⌜ r ≡ fitChecks (linkForm edition) n (now (fars .entry)) (now (costs .entry)) room ⌝ }
 {
-    check_fit(stored_links::old_form(), n, fars, costs, room)
+    let rows = links::check_rows(theory::LIMIT, n, fars, costs);
+    let Check::Passed = rows else {
+        return rows;
+    };
+    check_store(stored_links::form_of(edition), n, fars, costs, room)
 }
 
-// Refusals 1, 10, 2, 12, 13 and 3.
-fn check_write(n: usize, count: usize, fars: &[u64], costs: &[u32], room: usize) -> Check
-    ensures { λ r. ⌜ r ≡ writeChecks oldLinks n count (now (fars .entry)) (now (costs .entry)) room ⌝ }
+// The stored form of a link table that is known to be one, for those who checked it themselves.
+pub fn store_links(
+    edition: Edition,
+    n: usize,
+    fars: &[u64],
+    costs: &[u32],
+    out: &mut [u8],
+) -> Written
+    requires { ⌜ Links limit n (length (now fars)) (now fars) (now costs) ⌝ }
+    ensures { λ r. ⌜ Left (storeOutcome (linkForm edition) n (now (fars .entry)) (now (costs .entry)) (now (out .entry))) r (now (out .exit)) ⌝ }
+{
+    match check_store(stored_links::form_of(edition), n, fars, costs, out.len()) {
+        Check::Refused(r) => Written::Refused(r),
+        Check::Passed => Written::Places(put_links(edition, n, fars, costs, out)),
+    }
+}
+
+// Refusals 1, 10, 2, 12 and 13.
+fn check_table(n: usize, count: usize, fars: &[u64], costs: &[u32]) -> Check
+    ensures { λ r. ⌜ r ≡ (sizeChecks n count (now (fars .entry)) (now (costs .entry)) then rowChecks limit n (now (fars .entry)) (now (costs .entry))) ⌝ }
 {
     let sizes = links::check_rows_size(n, count, fars, costs);
     let Check::Passed = sizes else {
         return sizes;
     };
-    check_links(n, fars, costs, room)
+    links::check_rows(theory::LIMIT, n, fars, costs)
 }
 
-// The stored form of a link table at the front of the lent bytes; the answer is the bytes used. No other byte is written.
-pub fn write_links(n: usize, count: usize, fars: &[u64], costs: &[u32], out: &mut [u8]) -> Written
-    ensures { λ r. ⌜ Left (writeOutcome oldLinks n count (now (fars .entry)) (now (costs .entry)) (now (out .entry))) r (now (out .exit)) ⌝ }
+// A link table at the front of the lent bytes, in the form that is asked for; the answer is the bytes used. No other byte is written.
+pub fn write_links(
+    edition: Edition,
+    n: usize,
+    count: usize,
+    fars: &[u64],
+    costs: &[u32],
+    out: &mut [u8],
+) -> Written
+    ensures { λ r. ⌜ Left (writeOutcome (linkForm edition) n count (now (fars .entry)) (now (costs .entry)) (now (out .entry))) r (now (out .exit)) ⌝ }
 {
-    match check_write(n, count, fars, costs, out.len()) {
+    match check_table(n, count, fars, costs) {
         Check::Refused(r) => Written::Refused(r),
-        Check::Passed => Written::Places(put_links(n, fars, costs, out)),
+        Check::Passed => store_links(edition, n, fars, costs, out),
     }
 }

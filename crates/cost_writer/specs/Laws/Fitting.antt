@@ -51,5 +51,8 @@ module _ (L M n : ℕ) (t : List ℕ) where
           cases (ltb i j) (λ h. fit-passed L (cost t n) n e i j (ltb-true i j h) hj)
           (λ h. cases (eqb i j)
           (λ q. let z : cost t n i j ≡ 0 = ap (λ (x : ℕ). cost t n x j) (eqb-true i j q) ∙ c .formed .self {i = j} hj in omega (arith, z))
-          (λ q. omega (arith, c .formed .same {i = i} {j = j} hi hj,
-          fit-passed L (cost t n) n e j i (omega (arith, ltb-false i j h, eqb-false i j q)) hi)))
+          (λ q. omega (
+            arith,
+            c .formed .same {i = i} {j = j} hi hj,
+            fit-passed L (cost t n) n e j i (omega (arith, ltb-false i j h, eqb-false i j q)) hi,
+          )))

@@ -1,19 +1,29 @@
--- `link_writer::write_links` meets its contract: the form is put once all checks passed. Assumes nothing.
-use mathlib.Core.Path.{ap, sym, _∙_}
-use native.Mathlib.Omega.{arith}
-use lib.ListN.{length}
-use Rattle.link_writer.specs.Laws.Accepted.{passed-room}
+-- `link_writer::write_links` meets its contract: what is known to be a link table is stored. Assumes nothing.
+use mathlib.Core.Path.{refl, subst, sym, _∙_, _≡_}
+use Prim.Native.Nat.{ℕ}
+use Rattle.ground.specs.Refusals.{_then_}
+use Rattle.ground.specs.declared.Check.the-variants.{Passed}
+use Rattle.theory.specs.Tables.{limit}
+use Rattle.links.specs.Checks.{rowChecks, sizeChecks}
+use Rattle.links.specs.Laws.LinkChecks.{link-checks}
+use Rattle.links.specs.Links.{Links}
 use borrow.Author.Needs.{needs}
-use Rattle.ground.specs.Laws.Outcomes.{front-goes, front-stops}
-use Rattle.ground.specs.Laws.Refusals.{if-goes, if-stops}
-use Rattle.ground.specs.declared.Written.the-variants.{Places}
-use Rattle.ground.specs.declared.Written.the-variants as written
 use Rattle.link_writer.proofs.write_links.Statement.{statement}
-use Rattle.stored_links.specs.Form.{oldLinks}
 use Rattle.link_writer.proofs.write_links.Tie as tie
 
-check-write-requires : tie.Need-check-write-requires
-check-write-requires c κs = search needs
+-- where the call started
+abbrev begun : tie.After-check-table → tie.Start
+begun c = c .before .before .before .before
+
+-- the checks of the table passed
+passed : (c : tie.After-enum-told)
+    → (sizeChecks (begun (c .before .before) .args .n) (begun (c .before .before) .args .count) (begun (c .before .before) .args .fars .now)
+    (begun (c .before .before) .args .costs .now) then rowChecks limit (begun (c .before .before) .args .n) (begun (c .before .before) .args .fars .now)
+    (begun (c .before .before) .args .costs .now)) ≡ Passed
+passed c = sym (c .before .before .check-table .ensures) ∙ c .enum-told .given .1
+
+check-table-requires : tie.Need-check-table-requires
+check-table-requires c κs = search needs
 
 enum-known-r : tie.Need-enum-known-r
 enum-known-r c = search needs
@@ -21,43 +31,22 @@ enum-known-r c = search needs
 enum-told : tie.Need-enum-told
 enum-told c = search needs
 
-put-links-requires : tie.Need-put-links-requires
-put-links-requires c κs =
+store-links-requires : tie.Need-store-links-requires
+store-links-requires c κs =
     let d = c .before in
-    let k = d .before .before in
-    let a = k .before .before .before .before .args in
-    passed-room oldLinks (a .n) (a .count) (a .fars .now) (a .costs .now) (length (a .out .now)) (omega arith) (omega arith)
-    (sym (k .check-write .ensures) ∙ d .enum-told .given .1)
+    let a = begun (d .before .before) .args in
+    let t = link-checks limit (a .n) (a .count) (a .fars .now) (a .costs .now) .0 (passed d) in
+    subst (λ (x : ℕ). Links limit (a .n) x (a .fars .now) (a .costs .now)) (sym (t .counted)) t
 
 returns : tie.Need-returns
-returns c =
-    let k = c .before .before .before .check-write in
-    record {
-      answered = if-stops written.Refused _ _ (c .before .r .given .1) (k .ensures);
-      left = front-stops _ _ _ (sym (k .ensures) ∙ c .before .r .given .1);
-    }
+returns c = let k = c .before .before .before in rw (sym (k .check-table .ensures) ∙ c .before .r .given .1) (record { answered = refl; left = refl })
 
 same-length : tie.Need-same-length
 same-length c = search needs
 
 returns-2 : tie.Need-returns-2
-returns-2 c =
-    let p = c .before .before in
-    let d = p .before .before in
-    let k = d .before .before .check-write in
-    record {
-      answered = if-goes written.Refused _ _ (d .enum-told .given .1) (k .ensures) (ap Places (p .put-links .ensures .0));
-      left = front-goes _ _ _ _ (sym (k .ensures) ∙ d .enum-told .given .1) (p .put-links .ensures .1);
-    }
+returns-2 c = let p = c .before .before in rw (passed (p .before .before)) (p .store-links .ensures)
 
 pub write-links-spec : {M : Type 1} → statement M
 write-links-spec =
-    tie.close
-    (tie.spec
-    check-write-requires
-    enum-known-r
-    enum-told
-    put-links-requires
-    returns
-    same-length
-    returns-2)
+    tie.close (tie.spec check-table-requires enum-known-r enum-told store-links-requires returns same-length returns-2)
