@@ -3,7 +3,8 @@ use mathlib.Core.Path.{refl, _≡_}
 use Rattle.text.specs.Decimal.{decimal, digits}
 use Rattle.text.specs.Fields.{field, fields}
 use Rattle.text.specs.Words.{bytesOf}
-use Rattle.refusal_text.specs.Sayings.{firstSayings, furtherSayings, sayingIn}
+use Rattle.refusal_text.specs.Saying.{sayingIn}
+use Rattle.refusal_text.specs.Sayings.{firstSayings, furtherSayings, laterSayings}
 use Rattle.refusal_text.specs.Text.{aboutTable, refusalText, saidOf, sayingText}
 
 -- 0 names neither table nor places
@@ -29,9 +30,18 @@ unfolding refusalText aboutTable saidOf sayingText sayingIn firstSayings further
 bad-far-side = refl
 
 pub bad-table-count : refusalText 16 0 0 0 0 0 ≡ bytesOf "no tables or more than sixteen"
-unfolding refusalText aboutTable saidOf sayingText sayingIn firstSayings furtherSayings bytesOf fields
+unfolding refusalText aboutTable saidOf sayingText sayingIn firstSayings furtherSayings laterSayings bytesOf fields
 bad-table-count = refl
 
+-- 17 of a link table's row, and of a cost table's row and column
+pub above-old-row : refusalText 17 2 40 0 0 0 ≡ bytesOf "table 2: number above the old limits: row 40"
+unfolding refusalText aboutTable saidOf sayingText sayingIn firstSayings furtherSayings laterSayings bytesOf fields field decimal digits
+above-old-row = refl
+
+pub above-old-entry : refusalText 17 0 3 12 0 0 ≡ bytesOf "number above the old limits: row and column 3 12"
+unfolding refusalText aboutTable saidOf sayingText sayingIn firstSayings furtherSayings laterSayings bytesOf fields field decimal digits
+above-old-entry = refl
+
 pub no-such : refusalText 99 0 1 2 3 4 ≡ bytesOf "no such refusal: number 99"
-unfolding refusalText aboutTable saidOf sayingText sayingIn firstSayings furtherSayings bytesOf fields field decimal digits
+unfolding refusalText aboutTable saidOf sayingText sayingIn firstSayings furtherSayings laterSayings bytesOf fields field decimal digits
 no-such = refl

@@ -4,4 +4,5 @@ pub mod Said
 pub mod Lengths
 pub mod Zeros
 pub mod Parted
+pub mod Phrases
 pub mod Differ

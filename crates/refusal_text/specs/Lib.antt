@@ -1,4 +1,5 @@
 -- What is said of each refusal, and the text of one.
+pub mod Saying
 pub mod Sayings
 pub mod Text
 -- Its check by its number.

@@ -10,7 +10,8 @@ use Rattle.ground.specs.declared.Check.{Check}
 use Rattle.ground.specs.declared.Written.{Written}
 use Rattle.text.specs.Fields.{field, fields}
 use Rattle.text.specs.Words.{bytesOf}
-use Rattle.refusal_text.specs.Sayings.{Saying, sayingIn, sayings}
+use Rattle.refusal_text.specs.Saying.{Saying, sayingIn}
+use Rattle.refusal_text.specs.Sayings.{sayings}
 
 -- the words, and each place behind one blank
 unfoldable pub sayingText : Saying → List ℕ

@@ -7,7 +7,8 @@ ghost use lib.ListN.{length};
 ghost use Rattle.ground.specs.Outcomes.{Left};
 ghost use Rattle.text.specs.Fields.{fields};
 ghost use Rattle.text.specs.Putting.{Put};
-ghost use Rattle.refusal_text.specs.Sayings.{badRow, furtherSayings, sayingIn};
+ghost use Rattle.refusal_text.specs.Saying.{sayingIn};
+ghost use Rattle.refusal_text.specs.Sayings.{aboveOld, badRow, furtherSayings, laterSayings};
 ghost use Rattle.refusal_text.specs.Text.{aboutTable, refusalTextOutcome, saidOf, sayingText};
 
 // Words, and one place behind them.
@@ -60,10 +61,42 @@ fn put_bad_row(out: &mut [u8], at: usize, row: usize) -> usize
     put_one(out, at, b"bad far side or bad row: row", row)
 }
 
-// What is said of a refusal from 8 on, and of a number that no refusal has.
-fn put_further(out: &mut [u8], at: usize, number: usize, a: usize) -> usize
+// Refusal 17, whose column is 0 where a link table's row has the number.
+fn put_above_old(out: &mut [u8], at: usize, row: usize, column: usize) -> usize
     requires { ⌜ at + 163 ≤ length (now out) ⌝ }
-    ensures { λ r. ⌜ Put (sayingText (sayingIn number (furtherSayings a))) at (now (out .entry)) r (now (out .exit)) ⌝ }
+    ensures { λ r. ⌜ Put (sayingText (aboveOld row column)) at (now (out .entry)) r (now (out .exit)) ⌝ }
+{
+    if column == 0 {
+        return put_one(out, at, b"number above the old limits: row", row);
+    }
+    put_two(
+        out,
+        at,
+        b"number above the old limits: row and column",
+        row,
+        column,
+    )
+}
+
+// What is said of a refusal from 14 on, and of a number that no refusal has.
+fn put_later(out: &mut [u8], at: usize, number: usize, a: usize, b: usize) -> usize
+    requires { ⌜ at + 163 ≤ length (now out) ⌝ }
+    ensures { λ r. ⌜ Put (sayingText (sayingIn number (laterSayings a b))) at (now (out .entry)) r (now (out .exit)) ⌝ }
+{
+    match number {
+        14 => text::put_word(out, at, b"neither table includes the other"),
+        15 => text::put_word(out, at, b"stored tables of different n"),
+        16 => text::put_word(out, at, b"no tables or more than sixteen"),
+        17 => put_above_old(out, at, a, b),
+        _ => put_one(out, at, b"no such refusal: number", number),
+    }
+}
+
+// What is said of a refusal from 8 on, and of a number that no refusal has. What comes from 14 on is a function of its own, since the time
+// of a proof grows faster than the arms of its match.
+fn put_further(out: &mut [u8], at: usize, number: usize, a: usize, b: usize) -> usize
+    requires { ⌜ at + 163 ≤ length (now out) ⌝ }
+    ensures { λ r. ⌜ Put (sayingText (sayingIn number (furtherSayings a ++ laterSayings a b))) at (now (out .entry)) r (now (out .exit)) ⌝ }
 {
     match number {
         8 => text::put_word(out, at, b"image outside 1..n, or first and last the same"),
@@ -72,10 +105,7 @@ fn put_further(out: &mut [u8], at: usize, number: usize, a: usize) -> usize
         11 => text::put_word(out, at, b"fill bits not zero"),
         12 => put_bad_row(out, at, a),
         13 => put_one(out, at, b"an own link is missing: image", a),
-        14 => text::put_word(out, at, b"neither table includes the other"),
-        15 => text::put_word(out, at, b"stored tables of different n"),
-        16 => text::put_word(out, at, b"no tables or more than sixteen"),
-        _ => put_one(out, at, b"no such refusal: number", number),
+        _ => put_later(out, at, number, a, b),
     }
 }
 
@@ -97,11 +127,11 @@ fn put_said(
         1 => put_one(out, at, b"n outside 3..64: n", a),
         2 => text::put_word(out, at, b"a length does not fit n or the row count"),
         3 => text::put_word(out, at, b"too little room"),
-        4 => put_two(out, at, b"entry above 1,000,000: row and column", a, b),
+        4 => put_two(out, at, b"entry above the limit: row and column", a, b),
         5 => put_one(out, at, b"diagonal not zero: image", a),
         6 => put_two(out, at, b"asymmetric: row and column", a, b),
         7 => put_four(out, at, b"no wiring: images", a, b, c, d),
-        _ => put_further(out, at, number, a),
+        _ => put_further(out, at, number, a, b),
     }
 }
 

@@ -3,7 +3,8 @@ use borrow.Author.Needs.{needs}
 use borrow.Author.Tests.{ne-eqb}
 use Rattle.text.specs.Fields.{fields}
 use Rattle.text.specs.Words.{bytesOf}
-use Rattle.refusal_text.specs.Sayings.{furtherSayings, sayingIn}
+use Rattle.refusal_text.specs.Saying.{sayingIn}
+use Rattle.refusal_text.specs.Sayings.{furtherSayings}
 use Rattle.refusal_text.specs.Text.{sayingText}
 use Rattle.refusal_text.proofs.put_further.Statement.{statement}
 use Rattle.refusal_text.proofs.put_further.Tie as tie
@@ -33,25 +34,10 @@ unfolding sayingText sayingIn furtherSayings bytesOf fields
 returns-6 c = rw (c .before .before .before .before .before .match .keys6) (c .before .before .put-one2 .ensures)
 
 returns-7 : tie.Need-returns-7
-unfolding sayingText sayingIn furtherSayings bytesOf fields
-returns-7 c = rw (c .before .before .before .before .before .match .keys7) (c .before .before .put-word4 .ensures)
-
-returns-8 : tie.Need-returns-8
-unfolding sayingText sayingIn furtherSayings bytesOf fields
-returns-8 c = rw (c .before .before .before .before .before .match .keys8) (c .before .before .put-word5 .ensures)
-
-returns-9 : tie.Need-returns-9
-unfolding sayingText sayingIn furtherSayings bytesOf fields
-returns-9 c = rw (c .before .before .before .before .before .match .keys9) (c .before .before .put-word6 .ensures)
-
-returns-10 : tie.Need-returns-10
-unfolding sayingText sayingIn furtherSayings bytesOf fields
-returns-10 c =
-    let m = c .before .before .before .before .before .match .rest in
+unfolding sayingIn furtherSayings
+returns-7 c =
+    let m = c .before .before .before .before .match .rest in
     rw (
-      ne-eqb _ _ (m .0 .0 .0 .0 .0 .0 .0 .0 .1),
-      ne-eqb _ _ (m .0 .0 .0 .0 .0 .0 .0 .1),
-      ne-eqb _ _ (m .0 .0 .0 .0 .0 .0 .1),
       ne-eqb _ _ (m .0 .0 .0 .0 .0 .1),
       ne-eqb _ _ (m .0 .0 .0 .0 .1),
       ne-eqb _ _ (m .0 .0 .0 .1),
@@ -59,7 +45,7 @@ returns-10 c =
       ne-eqb _ _ (m .0 .1),
       ne-eqb _ _ (m .1),
     )
-    (c .before .before .put-one3 .ensures)
+    (c .before .before .put-later .ensures)
 
 -- in order: for each arm that its words are lent whole and fit, then for each arm that the length stays and that its text is the number's
 pub put-further-spec : {M : Type 1} → statement M
@@ -72,17 +58,11 @@ put-further-spec =
     (λ c. search needs) (λ c κs. search needs)
     (λ c κs. search needs)
     (λ c. search needs) (λ c κs. search needs)
-    (λ c. search needs) (λ c κs. search needs)
-    (λ c. search needs) (λ c κs. search needs)
-    (λ c. search needs) (λ c κs. search needs)
-    (λ c. search needs) (λ c κs. search needs)
+    (λ c κs. search needs)
     (λ c. search needs) returns
     (λ c. search needs) returns-2
     (λ c. search needs) returns-3
     (λ c. search needs) returns-4
     (λ c. search needs) returns-5
     (λ c. search needs) returns-6
-    (λ c. search needs) returns-7
-    (λ c. search needs) returns-8
-    (λ c. search needs) returns-9
-    (λ c. search needs) returns-10)
+    (λ c. search needs) returns-7)

@@ -3,7 +3,8 @@ use borrow.Author.Needs.{needs}
 use borrow.Author.Tests.{ne-eqb}
 use Rattle.text.specs.Fields.{fields}
 use Rattle.text.specs.Words.{bytesOf}
-use Rattle.refusal_text.specs.Sayings.{firstSayings, sayingIn}
+use Rattle.refusal_text.specs.Saying.{sayingIn}
+use Rattle.refusal_text.specs.Sayings.{firstSayings}
 use Rattle.refusal_text.specs.Text.{saidOf, sayingText}
 use Rattle.refusal_text.proofs.put_said.Statement.{statement}
 use Rattle.refusal_text.proofs.put_said.Tie as tie

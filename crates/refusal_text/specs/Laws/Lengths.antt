@@ -3,16 +3,16 @@ use mathlib.Core.Bool.{Bool, true}
 use mathlib.Core.Path.{refl, _≡_}
 use Prim.Native.Nat.{ℕ, _*_, _+_, _≤_}
 use native.Mathlib.Omega.{arith}
-use lib.Dec.{eqb, leb}
+use lib.Dec.{leb}
 use lib.ListN.{length, length-append}
 use borrow.Author.Tests.{leb-true}
-use borrow.Table.Steps.{cases}
 use Rattle.text.specs.Fields.{fields}
 use Rattle.text.specs.Laws.Lengths.{fields-most}
 use Rattle.text.specs.Words.{bytesOf}
 use Rattle.refusal_text.specs.Laws.About.{about-most}
-use Rattle.refusal_text.specs.Laws.Said.{allPass, said-passes}
-use Rattle.refusal_text.specs.Sayings.{Saying, firstSayings, furtherSayings, sayingIn, sayings}
+use Rattle.refusal_text.specs.Laws.Said.{allPass, by-zeros, said-passes}
+use Rattle.refusal_text.specs.Saying.{Saying, sayingIn}
+use Rattle.refusal_text.specs.Sayings.{firstSayings, furtherSayings, laterSayings, sayings}
 use Rattle.refusal_text.specs.Text.{refusalBytes, refusalText, room, saidOf, sayingText}
 
 -- with the longest numbers it is no longer than what the room leaves behind the table and before the zero byte
@@ -20,8 +20,9 @@ abbrev short : Saying → Bool
 short s = leb (length (bytesOf (s .words)) + 21 * length (s .places)) 163
 
 sayings-short : (a b c d : ℕ) → allPass short (sayings a b c d) ≡ true
-unfolding firstSayings furtherSayings bytesOf
-sayings-short a b c d = cases (eqb a 0) (λ e. rw e refl) (λ e. rw e refl)
+unfolding firstSayings furtherSayings laterSayings bytesOf
+sayings-short a b c d =
+    by-zeros a b (λ e f. rw (e, f) refl) (λ e f. rw (e, f) refl) (λ e f. rw (e, f) refl) (λ e f. rw (e, f) refl)
 
 saying-most : (s : Saying) → short s ≡ true → length (sayingText s) ≤ 163
 unfolding sayingText

@@ -8,7 +8,7 @@ use borrow.Author.Tests.{eqb-false, eqb-true}
 use borrow.Table.Steps.{cases}
 use Rattle.text.specs.Fields.{fields}
 use Rattle.text.specs.Words.{bytesOf}
-use Rattle.refusal_text.specs.Sayings.{Saying}
+use Rattle.refusal_text.specs.Saying.{Saying}
 use Rattle.refusal_text.specs.Text.{sayingText}
 
 abbrev pub parted : List ℕ → List ℕ → Bool
@@ -22,13 +22,14 @@ parted-differ (a ∷ l) [] x y e f = false≢true e
 parted-differ (a ∷ l) (b ∷ m) x y e f =
     cases (eqb a b) (λ h. parted-differ l m x y (rw h at e) (cc)) (λ h. eqb-false a b h (cc))
 
--- of two sayings, that they are parted or of one number
+-- of two sayings, that they are of one number or parted; the numbers come first, so that the two shapes of one saying are not compared
 abbrev pub apart : Saying → Saying → Bool
-apart s t = parted (bytesOf (s .words)) (bytesOf (t .words)) || eqb (s .number) (t .number)
+apart s t = eqb (s .number) (t .number) || parted (bytesOf (s .words)) (bytesOf (t .words))
 
 pub apart-same : (s t : Saying) → apart s t ≡ true → sayingText s ≡ sayingText t → s .number ≡ t .number
 unfolding sayingText
 apart-same s t e f =
     let v = bytesOf (s .words) in
     let w = bytesOf (t .words) in
-    cases (parted v w) (λ h. absurd (parted-differ v w (fields (s .places)) (fields (t .places)) h f)) (λ h. eqb-true (s .number) (t .number) (rw h at e))
+    cases (eqb (s .number) (t .number)) (λ h. eqb-true (s .number) (t .number) h)
+    (λ h. absurd (parted-differ v w (fields (s .places)) (fields (t .places)) (rw h at e) f))

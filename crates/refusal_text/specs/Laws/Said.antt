@@ -8,11 +8,18 @@ use lib.Dec.{eqb}
 use borrow.Author.Tests.{eqb-true}
 use borrow.Table.Steps.{cases}
 use Rattle.ground.specs.Laws.Tests.{and-l, and-r}
-use Rattle.refusal_text.specs.Sayings.{Saying, sayingIn, sayings, unknown}
+use Rattle.refusal_text.specs.Saying.{Saying, sayingIn, unknown}
+use Rattle.refusal_text.specs.Sayings.{sayings}
 
 abbrev pub allPass : (Saying → Bool) → List Saying → Bool
 allPass p [] = true
 allPass p (s ∷ l) = p s && allPass p l
+
+-- by whether the places a and b are 0, which the words of some refusals depend on
+pub by-zeros : {X : Type 0} (a b : ℕ) → (eqb a 0 ≡ true → eqb b 0 ≡ true → X) → (eqb a 0 ≡ true → eqb b 0 ≡ false → X)
+    → (eqb a 0 ≡ false → eqb b 0 ≡ true → X) → (eqb a 0 ≡ false → eqb b 0 ≡ false → X) → X
+by-zeros a b both row column neither =
+    cases (eqb a 0) (λ e. cases (eqb b 0) (both e) (row e)) (λ e. cases (eqb b 0) (column e) (neither e))
 
 pub said-passes : (p : Saying → Bool) (k : ℕ) (l : List Saying) → allPass p l ≡ true → p (unknown k) ≡ true → p (sayingIn k l) ≡ true
 unfolding sayingIn

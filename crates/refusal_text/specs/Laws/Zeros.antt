@@ -12,8 +12,9 @@ use Rattle.text.specs.Fields.{field, fields}
 use Rattle.text.specs.Laws.Zeros.{field-no-zero, fields-no-zero, no-zero-join}
 use Rattle.text.specs.Words.{bytesOf}
 use Rattle.text.specs.Zeros.{noZero}
-use Rattle.refusal_text.specs.Laws.Said.{allPass, said-passes}
-use Rattle.refusal_text.specs.Sayings.{Saying, firstSayings, furtherSayings, sayingIn, sayings}
+use Rattle.refusal_text.specs.Laws.Said.{allPass, by-zeros, said-passes}
+use Rattle.refusal_text.specs.Saying.{Saying, sayingIn}
+use Rattle.refusal_text.specs.Sayings.{firstSayings, furtherSayings, laterSayings, sayings}
 use Rattle.refusal_text.specs.Text.{aboutTable, refusalText, saidOf, sayingText}
 
 abbrev some : Saying → Bool
@@ -27,12 +28,12 @@ module _ (number table a b c d : ℕ) where
   all = sayings a b c d
 
   all-some : allPass some all ≡ true
-  unfolding firstSayings furtherSayings bytesOf
-  all-some = cases (eqb a 0) (λ e. rw e refl) (λ e. rw e refl)
+  unfolding firstSayings furtherSayings laterSayings bytesOf
+  all-some = by-zeros a b (λ e f. rw (e, f) refl) (λ e f. rw (e, f) refl) (λ e f. rw (e, f) refl) (λ e f. rw (e, f) refl)
 
   all-plain : allPass plain all ≡ true
-  unfolding firstSayings furtherSayings bytesOf
-  all-plain = cases (eqb a 0) (λ e. rw e refl) (λ e. rw e refl)
+  unfolding firstSayings furtherSayings laterSayings bytesOf
+  all-plain = by-zeros a b (λ e f. rw (e, f) refl) (λ e f. rw (e, f) refl) (λ e f. rw (e, f) refl) (λ e f. rw (e, f) refl)
 
   pub text-some : 0 < length (refusalText number table a b c d)
   unfolding refusalText saidOf sayingText bytesOf
