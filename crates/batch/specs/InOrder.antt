@@ -80,7 +80,7 @@ batch-unaltered form ns counts l v out s q f =
 
 -- the link writer's
 abbrev pub tableNumbers : ℕ → List (ℕ × ℕ)
-tableNumbers k = ofTable k (1 ∷ 10 ∷ 2 ∷ 12 ∷ 13 ∷ 3 ∷ [])
+tableNumbers k = ofTable k (1 ∷ 10 ∷ 2 ∷ 12 ∷ 13 ∷ 17 ∷ 3 ∷ [])
 
 from-numbers : (form : Form) (k : ℕ) (ts : List Table) (l v : List ℕ) (room : ℕ)
     → numbersOf (stepsFrom form k ts l v room) ≡ gather (from (suc k) (length ts)) tableNumbers ++ ofTable (k + length ts) (2 ∷ [])

@@ -28,6 +28,6 @@ runOutChecks N l v = refuseIf (ltb (length l) N) (refusal 2 0 0 0 0) then refuse
 abbrev pub leftOverChecks : List ℕ → List ℕ → Check
 leftOverChecks l v = refuseIf (ltb 0 (length l)) (refusal 2 0 0 0 0) then refuseIf (ltb 0 (length v)) (refusal 2 0 0 0 0)
 
--- 1, 10, 2, 12, 13, 3: the link writer's checks of the table that has the first N rows, in the room that is left
+-- 1, 10, 2, 12, 13, 17, 3: the link writer's checks of the table that has the first N rows, in the room that is left
 abbrev pub nextChecks : Form → ℕ → ℕ → List ℕ → List ℕ → ℕ → Check
 nextChecks form n N l v room = countChecks n N then runOutChecks N l v then fitChecks form n (take N l) (take N v) room

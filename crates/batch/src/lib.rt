@@ -1,4 +1,5 @@
-// Link tables written one after another, each into the rest of the lent buffer. Tables are numbered from 1; i counts those already passed.
+// Link tables written one after another in one form, each into the rest of the lent buffer. Tables are numbered from 1; i counts those already passed.
+use bits::Edition;
 use ground::Check;
 use ground::Refusal;
 ghost use mathlib.Core.Path.{_≡_};
@@ -6,7 +7,7 @@ ghost use Prim.Native.Nat.{_≤_, _<_};
 ghost use lib.ListN.{drop, getD, length, take};
 ghost use Rattle.ground.specs.Buffers.{front};
 ghost use Rattle.ground.specs.Outcomes.{Left};
-ghost use Rattle.stored_links.specs.Form.{linkBytes, linkUsed, oldLinks};
+ghost use Rattle.stored_links.specs.Form.{linkBytes, linkForm, linkUsed};
 ghost use Rattle.batch.specs.Tables.{leftOverChecks, nextChecks, runOutChecks, tables};
 ghost use Rattle.batch.specs.Batch.{batchAnswer, batchBytes, batchFrom, batchOutcome, numbered};
 ghost use Rattle.batch.specs.Fitting.{BatchFits, NextFits};
@@ -40,9 +41,16 @@ fn check_left_over(fars: &[u64], costs: &[u32]) -> Check
     ground::refuse_if(0 < costs.len(), 2, 0, 0)
 }
 
-// Refusals 1, 10, 2, 12, 13 and 3 of the table whose rows stand at the front of the rows left.
-fn check_next(n: usize, count: usize, fars: &[u64], costs: &[u32], room: usize) -> Check
-    ensures { λ r. ⌜ r ≡ nextChecks oldLinks n count (now (fars .entry)) (now (costs .entry)) room ⌝ }
+// Refusals 1, 10, 2, 12, 13, 17 and 3 of the table whose rows stand at the front of the rows left.
+fn check_next(
+    edition: Edition,
+    n: usize,
+    count: usize,
+    fars: &[u64],
+    costs: &[u32],
+    room: usize,
+) -> Check
+    ensures { λ r. ⌜ r ≡ nextChecks (linkForm edition) n count (now (fars .entry)) (now (costs .entry)) room ⌝ }
 {
     let sizes = links::check_count(n, count);
     let Check::Passed = sizes else {
@@ -52,11 +60,12 @@ fn check_next(n: usize, count: usize, fars: &[u64], costs: &[u32], room: usize) 
     let Check::Passed = supply else {
         return supply;
     };
-    link_writer::check_links(n, &fars[..count], &costs[..count], room)
+    link_writer::check_links(edition, n, &fars[..count], &costs[..count], room)
 }
 
 // The same of the table whose rows begin at place `rows` of the joined slices.
 fn check_from(
+    edition: Edition,
     n: usize,
     count: usize,
     rows: usize,
@@ -65,9 +74,9 @@ fn check_from(
     room: usize,
 ) -> Check
     requires { ⌜ (rows ≤ length (now fars)) × (rows ≤ length (now costs)) ⌝ }
-    ensures { λ r. ⌜ r ≡ nextChecks oldLinks n count (drop rows (now (fars .entry))) (drop rows (now (costs .entry))) room ⌝ }
+    ensures { λ r. ⌜ r ≡ nextChecks (linkForm edition) n count (drop rows (now (fars .entry))) (drop rows (now (costs .entry))) room ⌝ }
 {
-    check_next(n, count, &fars[rows..], &costs[rows..], room)
+    check_next(edition, n, count, &fars[rows..], &costs[rows..], room)
 }
 
 // The answer once all i tables passed: nothing may be left over from place `rows` on.
@@ -90,9 +99,16 @@ fn number_at(list: &[u32], i: usize) -> usize
 }
 
 // The answer for two lists of one length: table by table, with the rows and the room that the tables before left.
-fn check_tables(ns: &[u32], counts: &[u32], fars: &[u64], costs: &[u32], room: usize) -> Batched
+fn check_tables(
+    edition: Edition,
+    ns: &[u32],
+    counts: &[u32],
+    fars: &[u64],
+    costs: &[u32],
+    room: usize,
+) -> Batched
     requires { ⌜ length (now ns) ≡ length (now counts) ⌝ }
-    ensures { λ r. ⌜ r ≡ batchFrom oldLinks 0 0 (tables (now (ns .entry)) (now (counts .entry))) (now (fars .entry)) (now (costs .entry)) room ⌝ }
+    ensures { λ r. ⌜ r ≡ batchFrom (linkForm edition) 0 0 (tables (now (ns .entry)) (now (counts .entry))) (now (fars .entry)) (now (costs .entry)) room ⌝ }
 {
     let mut used = 0;
     let mut rows = 0;
@@ -100,11 +116,11 @@ fn check_tables(ns: &[u32], counts: &[u32], fars: &[u64], costs: &[u32], room: u
     while i < ns.len() {
         let n = number_at(ns, i);
         let count = number_at(counts, i);
-        match check_from(n, count, rows, fars, costs, room - used) {
+        match check_from(edition, n, count, rows, fars, costs, room - used) {
             Check::Refused(r) => return Batched::Refused(i + 1, r),
             Check::Passed => {}
         }
-        used += link_writer::links_used(n, count);
+        used += link_writer::links_used(edition, n, count);
         rows += count;
         i += 1;
     }
@@ -112,18 +128,26 @@ fn check_tables(ns: &[u32], counts: &[u32], fars: &[u64], costs: &[u32], room: u
 }
 
 // The answer, and nothing written: 2 with table number 0 where the two lists differ in length.
-fn check_batch(ns: &[u32], counts: &[u32], fars: &[u64], costs: &[u32], room: usize) -> Batched
-    ensures { λ r. ⌜ r ≡ batchAnswer oldLinks (now (ns .entry)) (now (counts .entry)) (now (fars .entry)) (now (costs .entry)) room ⌝ }
+fn check_batch(
+    edition: Edition,
+    ns: &[u32],
+    counts: &[u32],
+    fars: &[u64],
+    costs: &[u32],
+    room: usize,
+) -> Batched
+    ensures { λ r. ⌜ r ≡ batchAnswer (linkForm edition) (now (ns .entry)) (now (counts .entry)) (now (fars .entry)) (now (costs .entry)) room ⌝ }
 {
     match ground::refuse_if(ns.len() != counts.len(), 2, 0, 0) {
         Check::Refused(r) => Batched::Refused(0, r),
-        Check::Passed => check_tables(ns, counts, fars, costs, room),
+        Check::Passed => check_tables(edition, ns, counts, fars, costs, room),
     }
 }
 
 // The stored form of the table whose rows begin at place `rows`, at the front of the bytes; the answer is the bytes used. The writer gets the
 // part of the joined slices that belongs to the table.
 fn put_next(
+    edition: Edition,
     n: usize,
     count: usize,
     rows: usize,
@@ -131,18 +155,25 @@ fn put_next(
     costs: &[u32],
     out: &mut [u8],
 ) -> usize
-    requires { ⌜ NextFits oldLinks n count (drop rows (now fars)) (drop rows (now costs)) (length (now out)) ⌝ }
-    ensures { λ r. ⌜ (r ≡ linkUsed oldLinks n count) × (now (out .exit) ≡ front
-        (linkBytes oldLinks n (take count (drop rows (now (fars .entry)))) (take count (drop rows (now (costs .entry))))) (now (out .entry))) ⌝ }
+    requires { ⌜ NextFits (linkForm edition) n count (drop rows (now fars)) (drop rows (now costs)) (length (now out)) ⌝ }
+    ensures { λ r. ⌜ (r ≡ linkUsed (linkForm edition) n count) × (now (out .exit) ≡ front
+        (linkBytes (linkForm edition) n (take count (drop rows (now (fars .entry)))) (take count (drop rows (now (costs .entry))))) (now (out .entry))) ⌝ }
 {
     let end = rows + count;
-    link_writer::put_links(n, &fars[rows..end], &costs[rows..end], out)
+    link_writer::put_links(edition, n, &fars[rows..end], &costs[rows..end], out)
 }
 
 // The tables' stored forms, joined, at the front of the lent bytes: each is written into the rest that the tables before left.
-fn put_tables(ns: &[u32], counts: &[u32], fars: &[u64], costs: &[u32], out: &mut [u8])
-    requires { ⌜ (length (now ns) ≡ length (now counts)) × BatchFits oldLinks (tables (now ns) (now counts)) (now fars) (now costs) (length (now out)) ⌝ }
-    ensures { λ r. ⌜ now (out .exit) ≡ front (batchBytes oldLinks (tables (now (ns .entry)) (now (counts .entry))) (now (fars .entry))
+fn put_tables(
+    edition: Edition,
+    ns: &[u32],
+    counts: &[u32],
+    fars: &[u64],
+    costs: &[u32],
+    out: &mut [u8],
+)
+    requires { ⌜ (length (now ns) ≡ length (now counts)) × BatchFits (linkForm edition) (tables (now ns) (now counts)) (now fars) (now costs) (length (now out)) ⌝ }
+    ensures { λ r. ⌜ now (out .exit) ≡ front (batchBytes (linkForm edition) (tables (now (ns .entry)) (now (counts .entry))) (now (fars .entry))
         (now (costs .entry))) (now (out .entry)) ⌝ }
 {
     let mut used = 0;
@@ -151,28 +182,30 @@ fn put_tables(ns: &[u32], counts: &[u32], fars: &[u64], costs: &[u32], out: &mut
     while table < ns.len() {
         let n = number_at(ns, table);
         let count = number_at(counts, table);
-        used += put_next(n, count, rows, fars, costs, &mut out[used..]);
+        used += put_next(edition, n, count, rows, fars, costs, &mut out[used..]);
         rows += count;
         table += 1;
     }
 }
 
-// Link tables over the images ns, with so many rows each, one after another at the front of the lent bytes; the answer is the bytes used.
+// Link tables over the images ns, with so many rows each, one after another at the front of the lent bytes, all in the form that is asked for;
+// the answer is the bytes used.
 // Everything is checked before the first byte is written.
 pub fn write_batch(
+    edition: Edition,
     ns: &[u32],
     counts: &[u32],
     fars: &[u64],
     costs: &[u32],
     out: &mut [u8],
 ) -> Batched
-    ensures { λ r. ⌜ Left (batchOutcome oldLinks (now (ns .entry)) (now (counts .entry)) (now (fars .entry)) (now (costs .entry))
+    ensures { λ r. ⌜ Left (batchOutcome (linkForm edition) (now (ns .entry)) (now (counts .entry)) (now (fars .entry)) (now (costs .entry))
         (now (out .entry))) r (now (out .exit)) ⌝ }
 {
-    match check_batch(ns, counts, fars, costs, out.len()) {
+    match check_batch(edition, ns, counts, fars, costs, out.len()) {
         Batched::Refused(k, r) => Batched::Refused(k, r),
         Batched::Bytes(used) => {
-            put_tables(ns, counts, fars, costs, out);
+            put_tables(edition, ns, counts, fars, costs, out);
             Batched::Bytes(used)
         }
     }

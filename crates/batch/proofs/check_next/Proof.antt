@@ -4,6 +4,7 @@ use native.Mathlib.Omega.{arith}
 use lib.ListN.{take}
 use Rattle.ground.specs.Laws.Refusals.{then-goes, then-stops}
 use Rattle.links.specs.Laws.LinkChecks.{LinksSized}
+use Rattle.stored_links.specs.Laws.Told.{form-small}
 use Rattle.batch.specs.Laws.Next.{next-sized}
 use borrow.Author.Needs.{needs}
 use Rattle.batch.proofs.check_next.Statement.{statement}
@@ -58,8 +59,9 @@ slice-aggregate-check-links-2 c = sym (sized (c .before .before) .costed)
 
 check-links-requires : tie.Need-check-links-requires
 check-links-requires c κs =
-    let s = sized (c .before .before) in (
-      record { short = omega arith; narrow = omega arith; some = s .some; few = s .few; rows = omega (arith, s .few, s .most, s .counted) },
+    let s = sized (c .before .before) in
+    let f = form-small (begun (c .before .before) .args .edition) in (
+      record { short = f .0; narrow = f .1; some = s .some; few = s .few; rows = omega (arith, s .few, s .most, s .counted) },
       s .costed
           ∙ sym (s .counted),
     )

@@ -10,16 +10,17 @@ use Rattle.batch.specs.Laws.Steps.{answer-end, answer-goes, answer-start
 use Rattle.batch.specs.Tables.{tables}
 use borrow.Author.Needs.{needs}
 use Rattle.batch.proofs.check_tables.Statement.{statement}
-use Rattle.stored_links.specs.Form.{oldLinks}
+use Rattle.stored_links.specs.Form.{linkForm}
+use Rattle.stored_links.specs.Laws.Told.{form-small}
 use Rattle.batch.proofs.check_tables.Tie as tie
 
 abbrev Inv-loop : tie.InvT-loop
-Inv-loop ns counts fars costs room used₀ rows₀ i₀ used rows i =
+Inv-loop edition ns counts fars costs room used₀ rows₀ i₀ used rows i =
     (i ≤ length ns) × (rows ≤ length fars) × (rows ≤ length costs) × (used ≤ room)
-    × (batchFrom oldLinks 0 0 (tables ns counts) fars costs room ≡ answerAt oldLinks ns counts fars costs room used rows i)
+    × (batchFrom (linkForm edition) 0 0 (tables ns counts) fars costs room ≡ answerAt (linkForm edition) ns counts fars costs room used rows i)
 
 abbrev μ-loop : tie.MeasureT-loop
-μ-loop ns counts fars costs room used₀ rows₀ i₀ used rows i = length ns - i
+μ-loop edition ns counts fars costs room used₀ rows₀ i₀ used rows i = length ns - i
 
 abbrev begun : tie.In-loop Inv-loop μ-loop → tie.Start Inv-loop μ-loop
 begun c = c .before .before .before .before .before .before
@@ -33,14 +34,14 @@ turn c = c .before .before .before
 
 -- the table passed
 passed : (c : tie.After-enum-told Inv-loop μ-loop)
-    → NextFits oldLinks (looked c .before .before .number-at .result) (looked c .before .number-at2 .result)
+    → NextFits (linkForm (begun (turn (looked c)) .args .edition)) (looked c .before .before .number-at .result) (looked c .before .number-at2 .result)
     (drop (turn (looked c) .before .loop .rows) (begun (turn (looked c)) .args .fars .now))
     (drop (turn (looked c) .before .loop .rows) (begun (turn (looked c)) .args .costs .now))
     (begun (turn (looked c)) .args .room - turn (looked c) .before .loop .used)
-passed c = next-passed oldLinks _ _ _ _ _ (sym (looked c .check-from .ensures) ∙ c .enum-told .given .1)
+passed c = next-passed _ _ _ _ _ _ (sym (looked c .check-from .ensures) ∙ c .enum-told .given .1)
 
 loop-holds : tie.Need-loop-holds Inv-loop μ-loop
-loop-holds c = (search needs, search needs, search needs, search needs, answer-start oldLinks _ _ _ _ _)
+loop-holds c = (search needs, search needs, search needs, search needs, answer-start _ _ _ _ _ _)
 
 number-at-requires : tie.Need-number-at-requires Inv-loop μ-loop
 number-at-requires c κs = search needs
@@ -57,8 +58,8 @@ check-from-requires c κs = search needs
 enum-known-r : tie.Need-enum-known-r Inv-loop μ-loop
 enum-known-r c = search needs
 
-add-t15 : tie.Need-add-t15 Inv-loop μ-loop
-add-t15 c = search needs
+add-t16 : tie.Need-add-t16 Inv-loop μ-loop
+add-t16 c = search needs
 
 returns : tie.Need-returns Inv-loop μ-loop
 returns c =
@@ -67,7 +68,7 @@ returns c =
     let t = turn k in
     let a = begun t .args in
     let l = t .before .loop in
-    answer-stops oldLinks (a .ns .now) (a .counts .now) (a .fars .now) (a .costs .now) (a .room) (l .used) (l .rows) (l .i) _ _ (begun t .pre)
+    answer-stops (linkForm (a .edition)) (a .ns .now) (a .counts .now) (a .fars .now) (a .costs .now) (a .room) (l .used) (l .rows) (l .i) _ _ (begun t .pre)
     (t .loop-test .taken) (sym (k .before .before .number-at .ensures)) (sym (k .before .number-at2 .ensures)) (r .r .given .1) (k .check-from .ensures)
     ∙ sym (l .inv .4)
 
@@ -75,7 +76,7 @@ enum-told : tie.Need-enum-told Inv-loop μ-loop
 enum-told c = search needs
 
 links-used-requires : tie.Need-links-used-requires Inv-loop μ-loop
-links-used-requires c κs = next-room oldLinks _ _ _ _ _ (omega arith) (omega arith) (passed c) .small
+links-used-requires c κs = let f = form-small (begun (turn (looked c)) .args .edition) in next-room _ _ _ _ _ _ (f .0) (f .1) (passed c) .small
 
 add-used : tie.Need-add-used Inv-loop μ-loop
 add-used c =
@@ -86,7 +87,7 @@ add-rows : tie.Need-add-rows Inv-loop μ-loop
 add-rows c =
     let t = turn (looked (c .before)) in
     let l = t .before .loop in
-    let z = next-length oldLinks _ _ _ _ _ (passed (c .before)) in
+    let z = next-length _ _ _ _ _ _ (passed (c .before)) in
     omega (arith, z .0, length-drop (l .rows) (begun t .args .fars .now), l .inv .1, begun t .good)
 
 add-i : tie.Need-add-i Inv-loop μ-loop
@@ -103,16 +104,16 @@ loop-again c =
     let l = t .before .loop in
     let N = k .before .number-at2 .result in
     let p = passed (c .before) in
-    let z = next-length oldLinks _ _ _ _ _ p in (
+    let z = next-length _ _ _ _ _ _ p in (
       search needs,
       omega (arith, z .0, length-drop (l .rows) (a .fars .now), l .inv .1),
       omega (arith, z .1, length-drop (l .rows) (a .costs .now), l .inv .2),
       omega (arith, c .links-used .ensures, p .fits, l .inv .3),
       l .inv .4
-          ∙ answer-goes oldLinks (a .ns .now) (a .counts .now) (a .fars .now) (a .costs .now) (a .room) (l .used) (l .rows) (l .i) _ _ (begun t .pre)
+          ∙ answer-goes (linkForm (a .edition)) (a .ns .now) (a .counts .now) (a .fars .now) (a .costs .now) (a .room) (l .used) (l .rows) (l .i) _ _ (begun t .pre)
           (t .loop-test .taken) (sym (k .before .before .number-at .ensures)) (sym (k .before .number-at2 .ensures)) (c .before .enum-told .given .1)
           (k .check-from .ensures)
-          ∙ ap (λ (x : ℕ). answerAt oldLinks (a .ns .now) (a .counts .now) (a .fars .now) (a .costs .now) (a .room) (l .used + x) (l .rows + N) (l .i + 1))
+          ∙ ap (λ (x : ℕ). answerAt (linkForm (a .edition)) (a .ns .now) (a .counts .now) (a .fars .now) (a .costs .now) (a .room) (l .used + x) (l .rows + N) (l .i + 1))
           (sym (c .links-used .ensures)),
     )
 
@@ -127,10 +128,10 @@ returns-2 c =
     let a = s .args in
     c .check-end .ensures
     ∙ sym (l .inv .4
-    ∙ answer-end oldLinks (a .ns .now) (a .counts .now) (a .fars .now) (a .costs .now) (a .room) (l .used) (l .rows) (l .i) (s .pre) (d .loop-test .left))
+    ∙ answer-end (linkForm (a .edition)) (a .ns .now) (a .counts .now) (a .fars .now) (a .costs .now) (a .room) (l .used) (l .rows) (l .i) (s .pre) (d .loop-test .left))
 
 pub check-tables-spec : {M : Type 1} → statement M
 check-tables-spec =
     tie.close
-    (tie.spec Inv-loop μ-loop loop-holds number-at-requires number-at-requires-2 sub-check-from check-from-requires enum-known-r add-t15 returns
+    (tie.spec Inv-loop μ-loop loop-holds number-at-requires number-at-requires-2 sub-check-from check-from-requires enum-known-r add-t16 returns
     enum-told links-used-requires add-used add-rows add-i loop-less loop-again check-end-requires returns-2)

@@ -3,7 +3,8 @@ use mathlib.Core.Path.{ap, refl, _∙_, _≡_}
 use Prim.Native.Nat.{ℕ, _+_, _-_, _≤_}
 use native.Mathlib.Omega.{arith}
 use lib.ListN.{length, length-drop}
-use Rattle.stored_links.specs.Form.{linkUsed, oldLinks}
+use Rattle.stored_links.specs.Form.{linkForm, linkUsed}
+use Rattle.stored_links.specs.Laws.Told.{form-small}
 use Rattle.batch.specs.Laws.Next.{next-count, next-length, next-room}
 use borrow.Author.Needs.{needs}
 use Rattle.batch.proofs.put_next.Statement.{statement}
@@ -18,8 +19,8 @@ there : (c : tie.After-slice-known)
     × (begun c .args .rows + begun c .args .count ≤ length (begun c .args .costs .now))
 there c =
     let a = begun c .args in
-    let z = next-length oldLinks _ _ _ _ _ (begun c .pre) in
-    let k = next-count oldLinks _ _ _ _ _ (begun c .pre) in
+    let z = next-length _ _ _ _ _ _ (begun c .pre) in
+    let k = next-count _ _ _ _ _ _ (begun c .pre) in
     (omega (arith, z .0, k .0, k .2, length-drop (a .rows) (a .fars .now)), omega (arith, z .1, k .0, k .2, length-drop (a .rows) (a .costs .now)))
 
 add-end : tie.Need-add-end
@@ -54,7 +55,8 @@ put-links-requires c κs =
     let s = begun (c .before .before .before) in
     let a = s .args in
     let e : a .rows + a .count - a .rows ≡ a .count = omega arith in
-    rw (e, s .pre .links .counted, s .pre .links .costed) (next-room oldLinks _ _ _ _ _ (omega arith) (omega arith) (s .pre), refl)
+    let f = form-small (a .edition) in
+    rw (e, s .pre .links .counted, s .pre .links .costed) (next-room _ _ _ _ _ _ (f .0) (f .1) (s .pre), refl)
 
 same-length : tie.Need-same-length
 same-length c = search needs
@@ -66,7 +68,7 @@ returns c =
     let a = s .args in
     let e : a .rows + a .count - a .rows ≡ a .count = omega arith in
     let w = rw e at (p .put-links .ensures) in
-    (w .0 ∙ ap (λ (x : ℕ). linkUsed oldLinks (a .n) x) (s .pre .links .counted), w .1)
+    (w .0 ∙ ap (λ (x : ℕ). linkUsed (linkForm (a .edition)) (a .n) x) (s .pre .links .counted), w .1)
 
 pub put-next-spec : {M : Type 1} → statement M
 put-next-spec =

@@ -5,7 +5,8 @@ use native.Mathlib.Omega.{arith}
 use lib.ListN.{drop, length, length-drop}
 use Rattle.ground.specs.Buffers.{front}
 use Rattle.ground.specs.Laws.Buffers.{rest-part}
-use Rattle.stored_links.specs.Form.{linkUsed, oldLinks}
+use Rattle.stored_links.specs.Form.{linkForm, linkUsed}
+use Rattle.bits.specs.declared.Form.{Form}
 use Rattle.batch.specs.Batch.{batchBytes}
 use Rattle.batch.specs.Fitting.{BatchFits, NextFits}
 use Rattle.batch.specs.Laws.Joined.{joined-end, joined-more, joined-start, joinedAt}
@@ -17,19 +18,22 @@ use Rattle.batch.proofs.put_tables.Statement.{statement}
 use Rattle.batch.proofs.put_tables.Tie as tie
 
 abbrev Inv-loop : tie.InvT-loop
-Inv-loop ns counts fars costs out₀ used₀ rows₀ i₀ out used rows i =
+Inv-loop edition ns counts fars costs out₀ used₀ rows₀ i₀ out used rows i =
     (i ≤ length ns) × (length out ≡ length out₀) × (used ≤ length out₀) × (rows ≤ length fars)
-    × BatchFits oldLinks (drop i (tables ns counts)) (drop rows fars) (drop rows costs) (length out₀ - used)
-    × (front (batchBytes oldLinks (tables ns counts) fars costs) out₀ ≡ joinedAt oldLinks ns counts fars costs out used rows i)
+    × BatchFits (linkForm edition) (drop i (tables ns counts)) (drop rows fars) (drop rows costs) (length out₀ - used)
+    × (front (batchBytes (linkForm edition) (tables ns counts) fars costs) out₀ ≡ joinedAt (linkForm edition) ns counts fars costs out used rows i)
 
 abbrev μ-loop : tie.MeasureT-loop
-μ-loop ns counts fars costs out₀ used₀ rows₀ i₀ out used rows i = length ns - i
+μ-loop edition ns counts fars costs out₀ used₀ rows₀ i₀ out used rows i = length ns - i
 
 abbrev begun : tie.After-number-at2 Inv-loop μ-loop → tie.Start Inv-loop μ-loop
 begun c = c .before .before .before .before .before .before .before .before .before
 
 abbrev turn : tie.After-number-at2 Inv-loop μ-loop → tie.In-loop Inv-loop μ-loop
 turn c = c .before .before
+
+abbrev form : tie.After-number-at2 Inv-loop μ-loop → Form
+form c = linkForm (begun c .args .edition)
 
 abbrev images : tie.After-number-at2 Inv-loop μ-loop → ℕ
 images c = c .before .number-at .result
@@ -39,23 +43,23 @@ count c = c .number-at2 .result
 
 -- the table of this turn, and the tables after it
 next : (c : tie.After-number-at2 Inv-loop μ-loop)
-    → NextFits oldLinks (images c) (count c) (drop (turn c .before .loop .rows) (begun c .args .fars .now))
+    → NextFits (form c) (images c) (count c) (drop (turn c .before .loop .rows) (begun c .args .fars .now))
     (drop (turn c .before .loop .rows) (begun c .args .costs .now)) (length (begun c .args .out .now) - turn c .before .loop .used)
-    × BatchFits oldLinks (drop (turn c .before .loop .table + 1) (tables (begun c .args .ns .now) (begun c .args .counts .now)))
+    × BatchFits (form c) (drop (turn c .before .loop .table + 1) (tables (begun c .args .ns .now) (begun c .args .counts .now)))
     (drop (turn c .before .loop .rows + count c) (begun c .args .fars .now)) (drop (turn c .before .loop .rows + count c) (begun c .args .costs .now))
-    (length (begun c .args .out .now) - (turn c .before .loop .used + linkUsed oldLinks (images c) (count c)))
+    (length (begun c .args .out .now) - (turn c .before .loop .used + linkUsed (form c) (images c) (count c)))
 next c =
     let a = begun c .args in
     let l = turn c .before .loop in
-    fits-step oldLinks (a .ns .now) (a .counts .now) (a .fars .now) (a .costs .now) (length (a .out .now)) (l .used) (l .rows) (l .table) (images c)
+    fits-step (linkForm (a .edition)) (a .ns .now) (a .counts .now) (a .fars .now) (a .costs .now) (length (a .out .now)) (l .used) (l .rows) (l .table) (images c)
     (count c) (begun c .pre .0) (turn c .loop-test .taken) (sym (c .before .number-at .ensures)) (sym (c .number-at2 .ensures)) (l .inv .4)
 
 rows-there : (c : tie.After-number-at2 Inv-loop μ-loop) → turn c .before .loop .rows + count c ≤ length (begun c .args .fars .now)
 rows-there c =
     let l = turn c .before .loop in
-    omega (arith, next-length oldLinks _ _ _ _ _ (next c .0) .0, length-drop (l .rows) (begun c .args .fars .now), l .inv .3)
+    omega (arith, next-length _ _ _ _ _ _ (next c .0) .0, length-drop (l .rows) (begun c .args .fars .now), l .inv .3)
 
-within : (c : tie.After-number-at2 Inv-loop μ-loop) → turn c .before .loop .used + linkUsed oldLinks (images c) (count c) ≤ length (begun c .args .out .now)
+within : (c : tie.After-number-at2 Inv-loop μ-loop) → turn c .before .loop .used + linkUsed (form c) (images c) (count c) ≤ length (begun c .args .out .now)
 within c = omega (arith, next c .0 .fits, turn c .before .loop .inv .2)
 
 loop-holds : tie.Need-loop-holds Inv-loop μ-loop
@@ -66,8 +70,8 @@ loop-holds c =
       refl,
       search needs,
       search needs,
-      fits-start oldLinks (a .ns .now) (a .counts .now) (a .fars .now) (a .costs .now) (length (a .out .now)) (s .pre .1),
-      joined-start oldLinks (a .ns .now) (a .counts .now) (a .fars .now) (a .costs .now) (a .out .now),
+      fits-start (linkForm (a .edition)) (a .ns .now) (a .counts .now) (a .fars .now) (a .costs .now) (length (a .out .now)) (s .pre .1),
+      joined-start (linkForm (a .edition)) (a .ns .now) (a .counts .now) (a .fars .now) (a .costs .now) (a .out .now),
     )
 
 number-at-requires : tie.Need-number-at-requires Inv-loop μ-loop
@@ -118,7 +122,7 @@ loop-again c =
       omega (arith, w .0, within t),
       rows-there t,
       rw (w .0) (next t .1),
-      joined-more oldLinks (a .ns .now) (a .counts .now) (a .fars .now) (a .costs .now) (length (a .out .now)) (l .used) (l .rows) (l .table) (images t)
+      joined-more (linkForm (a .edition)) (a .ns .now) (a .counts .now) (a .fars .now) (a .costs .now) (length (a .out .now)) (l .used) (l .rows) (l .table) (images t)
           (count t) (begun t .pre .0) (turn t .loop-test .taken) (sym (t .before .number-at .ensures)) (sym (t .number-at2 .ensures)) (next t .0) _
           (l .out) _ _ (omega (arith, l .inv .1, l .inv .2)) (w .0) (w .1) (l .inv .5),
     )
@@ -131,7 +135,7 @@ returns c =
     let l = c .before .loop in
     let s = c .before .before .before .before .before .before .before in
     let a = s .args in
-    joined-end oldLinks (a .ns .now) (a .counts .now) (a .fars .now) (a .costs .now) _ (l .out) (l .used) (l .rows) (l .table) (s .pre .0)
+    joined-end (linkForm (a .edition)) (a .ns .now) (a .counts .now) (a .fars .now) (a .costs .now) _ (l .out) (l .used) (l .rows) (l .table) (s .pre .0)
     (c .loop-test .left) (l .inv .5)
 
 pub put-tables-spec : {M : Type 1} → statement M

@@ -3,7 +3,8 @@ use mathlib.Core.Path.{sym, _∙_}
 use lib.ListN.{length}
 use Rattle.batch.specs.Laws.Answers.{batch-accepted, by-goes, by-stops}
 use borrow.Author.Needs.{needs}
-use Rattle.stored_links.specs.Form.{oldLinks}
+use Rattle.stored_links.specs.Form.{linkForm}
+use Rattle.stored_links.specs.Laws.Told.{form-limit}
 use Rattle.batch.proofs.write_batch.Statement.{statement}
 use Rattle.batch.proofs.write_batch.Tie as tie
 
@@ -21,7 +22,7 @@ put-tables-requires c κs =
     let u = c .before .before in
     let k = u .before .before in
     let a = k .before .before .before .before .before .before .args in
-    let q = batch-accepted oldLinks (a .ns .now) (a .counts .now) (a .fars .now) (a .costs .now) (length (a .out .now)) _ .0
+    let q = batch-accepted (linkForm (a .edition)) (a .ns .now) (a .counts .now) (a .fars .now) (a .costs .now) (form-limit (a .edition)) (length (a .out .now)) _ .0
     (sym (k .check-batch .ensures) ∙ u .used .given .1) in
     (q .0, q .1)
 

@@ -4,7 +4,7 @@ use mathlib.Core.Bool.{not}
 use mathlib.Core.List.{List, [], _∷_}
 use mathlib.Core.Logic.{_↔_}
 use mathlib.Core.Path.{ap, _∙_, _≡_}
-use Prim.Native.Nat.{ℕ, _+_, _-_}
+use Prim.Native.Nat.{ℕ, _+_, _-_, _≤_}
 use native.Mathlib.Omega.{arith}
 use lib.Dec.{eqb}
 use lib.ListN.{drop, length, length-append, take}
@@ -18,6 +18,7 @@ use Rattle.ground.specs.declared.Check.{Check}
 use Rattle.ground.specs.declared.Check.the-variants.{Passed}
 use Rattle.ground.specs.declared.Refusal.{Refusal}
 use Rattle.ground.specs.Laws.Refusals.{if-accepted}
+use Rattle.theory.specs.Tables.{limit}
 use Rattle.stored_links.specs.Form.{linkBytes, linkUsed}
 use Rattle.batch.specs.Batch.{batchAnswer, batchBytes, batchFrom, batchOutcome, frontBy, numbered}
 use Rattle.batch.specs.Fitting.{BatchFits}
@@ -62,22 +63,22 @@ module _ (form : Form) where
       let r = from-fits (k + 1) (used + x) ts (drop (t .1) l) (drop (t .1) v) (room - x) u (p .1) in
       ((s, r .0), omega (arith, r .1, length-next form (t .0) (t .1) l v room s, length-append m (batchBytes form ts (drop (t .1) l) (drop (t .1) v))))
 
-  pub fits-from : (k used : ℕ) (ts : List Table) (l v : List ℕ) (room : ℕ) → BatchFits form ts l v room
+  pub fits-from : form .limit ≤ limit → (k used : ℕ) (ts : List Table) (l v : List ℕ) (room : ℕ) → BatchFits form ts l v room
       → batchFrom form k used ts l v room ≡ Bytes (used + length (batchBytes form ts l v))
   unfolding batchFrom batchBytes BatchFits
-  fits-from k used [] l v room f = rw (f .0, f .1) (ap Bytes (omega arith))
-  fits-from k used (t ∷ ts) l v room f =
+  fits-from w k used [] l v room f = rw (f .0, f .1) (ap Bytes (omega arith))
+  fits-from w k used (t ∷ ts) l v room f =
       let x = linkUsed form (t .0) (t .1) in
       let m = linkBytes form (t .0) (take (t .1) l) (take (t .1) v) in
-      let ih = fits-from (k + 1) (used + x) ts (drop (t .1) l) (drop (t .1) v) (room - x) (f .1) in
-      rw (passed-next form (t .0) (t .1) l v room (f .0))
+      let ih = fits-from w (k + 1) (used + x) ts (drop (t .1) l) (drop (t .1) v) (room - x) (f .1) in
+      rw (passed-next form (t .0) (t .1) l v room w (f .0))
       (ih ∙ ap Bytes (omega (arith, length-next form (t .0) (t .1) l v room (f .0), length-append m (batchBytes form ts (drop (t .1) l) (drop (t .1) v)))))
 
   module _ (ns counts l v : List ℕ) where
     -- accepted, with these bytes: two lists of one length, every table a link table that has its rows and room, and nothing left over
-    pub batch-accepted : (room u : ℕ) → (batchAnswer form ns counts l v room ≡ Bytes u)
+    pub batch-accepted : form .limit ≤ limit → (room u : ℕ) → (batchAnswer form ns counts l v room ≡ Bytes u)
         ↔ ((length ns ≡ length counts) × BatchFits form (tables ns counts) l v room × (u ≡ length (batchBytes form (tables ns counts) l v)))
-    batch-accepted room u = (into, out)
+    batch-accepted w room u = (into, out)
       where
         into : batchAnswer form ns counts l v room ≡ Bytes u
             → (length ns ≡ length counts) × BatchFits form (tables ns counts) l v room × (u ≡ length (batchBytes form (tables ns counts) l v))
@@ -89,7 +90,7 @@ module _ (form : Form) where
 
         out : (length ns ≡ length counts) × BatchFits form (tables ns counts) l v room × (u ≡ length (batchBytes form (tables ns counts) l v))
             → batchAnswer form ns counts l v room ≡ Bytes u
-        out t = rw (eq-eqb (length ns) (length counts) (t .0)) (fits-from 0 0 (tables ns counts) l v room (t .1) ∙ ap Bytes (omega (arith, t .2)))
+        out t = rw (eq-eqb (length ns) (length counts) (t .0)) (fits-from w 0 0 (tables ns counts) l v room (t .1) ∙ ap Bytes (omega (arith, t .2)))
 
     -- accepted, the tables' stored forms stand joined at the front, and no other byte is written
     pub accepted-writes : (out : List ℕ) (u : ℕ) → batchAnswer form ns counts l v (length out) ≡ Bytes u

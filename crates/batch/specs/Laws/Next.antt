@@ -10,12 +10,15 @@ use borrow.Author.Tests.{le-ltb, ltb-false}
 use Rattle.ground.specs.Refusals.{refusal, refuseIf, _then_}
 use Rattle.ground.specs.Laws.Refusals.{refuseIf-passed, then-passed}
 use Rattle.ground.specs.declared.Check.the-variants.{Passed}
-use Rattle.links.specs.Checks.{countChecks, lengthChecks, sizeChecks}
-use Rattle.links.specs.Laws.LinkChecks.{LinksSized, count-passed, passed-sizes}
+use Rattle.theory.specs.Laws.RowCount.{row-count}
+use Rattle.theory.specs.LinkTables.{rowsOf}
+use Rattle.theory.specs.Tables.{limit}
+use Rattle.links.specs.Checks.{countChecks, lengthChecks, rowChecks, sizeChecks}
+use Rattle.links.specs.Laws.LinkChecks.{LinksSized, count-passed, passed-sizes, rows-length}
 use Rattle.stored_links.specs.Form.{linkBytes, linkUsed}
 use Rattle.stored_links.specs.Laws.Form.{length-links}
 use Rattle.link_writer.specs.Laws.Accepted.{passed-write, write-passed}
-use Rattle.link_writer.specs.Writing.{RoomFor, fitChecks}
+use Rattle.link_writer.specs.Writing.{RoomFor, fitChecks, storeChecks}
 use Rattle.batch.specs.Fitting.{NextFits}
 use Rattle.batch.specs.Tables.{leftOverChecks, nextChecks, runOutChecks}
 use Rattle.bits.specs.declared.Form.{Form}
@@ -46,24 +49,29 @@ module _ (form : Form) (n N : ℕ) (l v : List ℕ) (room : ℕ) where
       let q = then-passed (runOutChecks N l v) f (p .1) in
       let s = next-sized n N l v (p .0) (q .0) in
       let r = write-passed form n N (take N l) (take N v) room (rw (passed-sizes n N (take N l) (take N v) s) (q .1)) in
-      record { links = r .0; fits = subst (λ (x : ℕ). linkUsed form n x ≤ room) (s .counted) (r .3) }
+      record { links = r .0; fits = subst (λ (x : ℕ). linkUsed form n x ≤ room) (s .counted) (r .1) }
 
   -- its rows are there
   pub next-length : NextFits form n N l v room → (N ≤ length l) × (N ≤ length v)
   next-length t = (omega (arith, t .links .counted, length-take N l), omega (arith, t .links .costed, length-take N v))
 
-  pub passed-next : NextFits form n N l v room → nextChecks form n N l v room ≡ Passed
-  passed-next t =
-      let f = fitChecks form n (take N l) (take N v) room in
-      let e = passed-write form n N (take N l) (take N v) room (t .links) (subst (λ (x : ℕ). linkUsed form n x ≤ room) (sym (t .links .counted)) (t .fits)) in
-      let p = then-passed (sizeChecks n N (take N l) (take N v)) f e in
-      let q = then-passed (countChecks n N) (lengthChecks N (take N l) (take N v)) (p .0) in
-      let b = next-length t in
-      rw (q .0, le-ltb (length l) N (b .0), le-ltb (length v) N (b .1)) (p .1)
-
   pub next-count : NextFits form n N l v room → (3 ≤ n) × (n ≤ 64) × (n ≤ N) × (N ≤ 2 * n - 3)
   next-count t =
-      count-passed n N (then-passed (countChecks n N) (runOutChecks N l v then fitChecks form n (take N l) (take N v) room) (passed-next t) .0)
+      let k = t .links in
+      let c = row-count (form .limit) n (rowsOf (take N l) (take N v)) (k .some) (k .table) in
+      let q = rows-length (take N l) (take N v) (k .counted ∙ sym (k .costed)) in
+      (k .some, k .few, omega (arith, c .0, q, k .counted), omega (arith, c .1, q, k .counted))
+
+  pub passed-next : form .limit ≤ limit → NextFits form n N l v room → nextChecks form n N l v room ≡ Passed
+  passed-next w t =
+      let k = take N l in
+      let u = take N v in
+      let e = passed-write form n N k u room w (t .links) (subst (λ (x : ℕ). linkUsed form n x ≤ room) (sym (t .links .counted)) (t .fits)) in
+      let p = then-passed (sizeChecks n N k u then rowChecks limit n k u) (storeChecks form n k u room) e in
+      let r = then-passed (sizeChecks n N k u) (rowChecks limit n k u) (p .0) in
+      let q = then-passed (countChecks n N) (lengthChecks N k u) (r .0) in
+      let b = next-length t in
+      rw (q .0, le-ltb (length l) N (b .0), le-ltb (length v) N (b .1), r .1) (p .1)
 
   -- so the raw writer may be called
   pub next-room : form .head ≤ 7 → form .width ≤ 32 → NextFits form n N l v room → RoomFor form n N room
