@@ -1,5 +1,4 @@
--- What the choice between two stored link tables answers, in document 01's words: s and t are the lent bytes of the first and the second.
--- Assumes nothing.
+-- What the choice between two stored link tables answers: s and t are the lent bytes of the first and the second. Assumes nothing.
 use mathlib.Core.Bool.{cond, not, _||_}
 use mathlib.Core.List.{List, []}
 use Prim.Native.Nat.{ℕ}
@@ -8,13 +7,13 @@ use lib.ListN.{take}
 use Rattle.ground.specs.Refusals.{ifPassed, refusal, refuseIf}
 use Rattle.ground.specs.declared.Check.{Check}
 use Rattle.theory.specs.Comparison.{inners}
+use Rattle.stored_links.specs.Form.{linkFormAt}
 use Rattle.stored_links.specs.Reading.{tableChecks}
 use Rattle.stored_links.specs.Said.{countOf, farsOf, imagesOf, usedOf}
 use Rattle.choice.specs.Inclusion.{includes}
 use Rattle.choice.specs.declared.Chosen.{Chosen}
-use Rattle.choice.specs.declared.Chosen.the-variants.{Table}
+use Rattle.choice.specs.declared.Chosen.the-variants.{Refused, Table}
 use Rattle.bits.specs.declared.Form.{Form}
-use Rattle.choice.specs.declared.Chosen.the-variants as answer
 
 -- the far sides of the table that s begins with
 abbrev pub sidesOf : Form → List ℕ → List ℕ
@@ -26,7 +25,7 @@ innersOf form s = inners (imagesOf form s) (sidesOf form s)
 
 -- a refusal with the table's number m beside the places, or what follows where the check passed
 abbrev pub numbered : ℕ → Check → Chosen → Chosen
-numbered m c y = ifPassed (answer.Refused m) c y
+numbered m c y = ifPassed (Refused m) c y
 
 -- 15: stored tables of different n
 abbrev pub imagesAgree : ℕ → ℕ → Check
@@ -46,11 +45,15 @@ againstSecond form n l i t =
     numbered 2 (tableChecks form t)
     (numbered 0 (imagesAgree n (imagesOf form t)) (taken (inners n l) i (innersOf form t) (usedOf form t)))
 
--- the first table, number 1, and then the second
-abbrev pub choiceOf : Form → List ℕ → List ℕ → Chosen
-choiceOf form s t = numbered 1 (tableChecks form s) (againstSecond form (imagesOf form s) (sidesOf form s) (usedOf form s) t)
+-- the first table, number 1, in the form f, and then the second, in the form g
+abbrev pub choiceOf : Form → Form → List ℕ → List ℕ → Chosen
+choiceOf f g s t = numbered 1 (tableChecks f s) (againstSecond g (imagesOf f s) (sidesOf f s) (usedOf f s) t)
+
+-- each in the form that its own bytes tell
+abbrev pub choiceEither : List ℕ → List ℕ → Chosen
+choiceEither s t = choiceOf (linkFormAt s 0) (linkFormAt t 0) s t
 
 -- the used bytes of the chosen table, none where the choice is refused
 abbrev pub partOf : Chosen → List ℕ → List ℕ → List ℕ
 partOf (Table m used) s t = take used (cond (eqb m 1) s t)
-partOf (answer.Refused m r) s t = []
+partOf (Refused m r) s t = []

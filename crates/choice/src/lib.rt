@@ -1,5 +1,5 @@
-// The choice between two stored link tables: the one whose inner far sides include all of the other's, the first if both do. Bytes
-// behind either table are ignored.
+// The choice between two stored link tables: the one whose inner far sides include all of the other's, the first if both do. Each is read in
+// the form that its own bytes tell. Bytes behind either table are ignored.
 use ground::Refusal;
 use stored_links::StoredLinks;
 ghost use mathlib.Core.Path.{_≡_};
@@ -8,9 +8,9 @@ ghost use lib.ListN.{length};
 ghost use Rattle.ground.specs.Ascending.{Between};
 ghost use Rattle.ground.specs.Refusals.{refusal};
 ghost use Rattle.theory.specs.Comparison.{inners};
-ghost use Rattle.choice.specs.Call.{againstSecond, choiceOf, partOf, taken};
+ghost use Rattle.choice.specs.Call.{againstSecond, choiceEither, partOf, taken};
 ghost use Rattle.choice.specs.Read.{TableRead};
-ghost use Rattle.stored_links.specs.Form.{oldLinks};
+ghost use Rattle.stored_links.specs.Form.{linkFormAt};
 
 // What the choice answers: the chosen table's number, 1 or 2, and its count of used bytes, or a refusal with the table's number,
 // 0 with refusals 15 and 14.
@@ -36,7 +36,7 @@ fn plain(number: u32) -> Refusal
 // than any link table has rows, so refusal 3 is never given.
 fn read(bytes: &[u8], fars: &mut [u64]) -> StoredLinks
     requires { ⌜ length (now fars) ≡ 128 ⌝ }
-    ensures { λ r. ⌜ TableRead oldLinks (now (bytes .entry)) r (now (fars .exit)) ⌝ }
+    ensures { λ r. ⌜ TableRead (linkFormAt (now (bytes .entry)) 0) (now (bytes .entry)) r (now (fars .exit)) ⌝ }
 {
     let mut costs = [0u32; 128];
     stored_links::read_links(bytes, 0, fars, &mut costs)
@@ -63,7 +63,7 @@ fn take_one(n: usize, first: &[u64], i: usize, second: &[u64], j: usize) -> Chos
 // and 14.
 fn against_second(n: usize, first: &[u64], i: usize, second: &[u8]) -> Chosen
     requires { ⌜ (3 ≤ n) × (n ≤ 64) × Between 1 (now first) (2 ^ n) × (length (now first) ≤ 128) ⌝ }
-    ensures { λ r. ⌜ r ≡ againstSecond oldLinks n (now (first .entry)) i (now (second .entry)) ⌝ }
+    ensures { λ r. ⌜ r ≡ againstSecond (linkFormAt (now (second .entry)) 0) n (now (first .entry)) i (now (second .entry)) ⌝ }
 {
     let mut fars = [0u64; 128];
     match read(second, &mut fars) {
@@ -79,7 +79,7 @@ fn against_second(n: usize, first: &[u64], i: usize, second: &[u8]) -> Chosen
 
 // The chosen table's number and its count of used bytes, or the first refusal: those of the first table, those of the second, 15, 14.
 pub fn choice(first: &[u8], second: &[u8]) -> Chosen
-    ensures { λ r. ⌜ r ≡ choiceOf oldLinks (now (first .entry)) (now (second .entry)) ⌝ }
+    ensures { λ r. ⌜ r ≡ choiceEither (now (first .entry)) (now (second .entry)) ⌝ }
 {
     let mut fars = [0u64; 128];
     match read(first, &mut fars) {
@@ -90,7 +90,7 @@ pub fn choice(first: &[u8], second: &[u8]) -> Chosen
 
 // The used bytes of the chosen table, where they stand in its own buffer; an empty part where the choice is refused.
 pub fn choose<'a>(first: &'a [u8], second: &'a [u8]) -> &'a [u8]
-    ensures { λ r. ⌜ now r ≡ partOf (choiceOf oldLinks (now (first .entry)) (now (second .entry))) (now (first .entry)) (now (second .entry)) ⌝ }
+    ensures { λ r. ⌜ now r ≡ partOf (choiceEither (now (first .entry)) (now (second .entry))) (now (first .entry)) (now (second .entry)) ⌝ }
 {
     match choice(first, second) {
         Chosen::Refused(_, _) => &first[..0],

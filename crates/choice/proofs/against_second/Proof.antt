@@ -15,11 +15,16 @@ use Rattle.choice.specs.Read.{SidesListed}
 use Rattle.choice.specs.Laws.Read.{read-listed, read-refused}
 use Rattle.choice.specs.declared.Chosen.the-variants as answer
 use Rattle.choice.proofs.against_second.Statement.{statement}
-use Rattle.stored_links.specs.Form.{oldLinks}
+use Rattle.bits.specs.declared.Form.{Form}
+use Rattle.stored_links.specs.Form.{linkFormAt}
 use Rattle.choice.proofs.against_second.Tie as tie
 
 abbrev begun : tie.After-m → tie.Start
 begun c = c .before .before .before .before .before .before .before
+
+-- the form that the bytes of the second table tell
+abbrev form : tie.After-m → Form
+form c = linkFormAt (begun c .args .second .now) 0
 
 slice-aggregate-read : tie.Need-slice-aggregate-read
 slice-aggregate-read c = search needs
@@ -35,9 +40,9 @@ enum-known-m c = search needs
 
 -- the far sides of the second table, where it was accepted
 listed : (c : tie.After-m)
-    → SidesListed oldLinks (begun c .args .second .now) (c .m .given .0 .0) (c .m .given .0 .1 .0) (c .m .given .0 .1 .1 .0)
+    → SidesListed (form c) (begun c .args .second .now) (c .m .given .0 .0) (c .m .given .0 .1 .0) (c .m .given .0 .1 .1 .0)
     (c .before .before .before .read .last .1 .0)
-listed c = read-listed oldLinks (begun c .args .second .now) (c .before .before .before .read .ensures) (c .m .given .1)
+listed c = read-listed (form c) (begun c .args .second .now) (c .before .before .before .read .ensures) (c .m .given .1)
 
 plain-requires : tie.Need-plain-requires
 plain-requires c κs = search needs
@@ -48,7 +53,7 @@ returns c =
     let a = begun m .args in
     let q = listed m in
     ap (λ (r : Refusal). answer.Refused 0 r) (c .plain .ensures)
-    ∙ if-goes (answer.Refused 2) _ _ (q .passed) refl (images-differ (a .n) (imagesOf oldLinks (a .second .now)) _ (λ e. c .before .if1 .taken (e ∙ q .images)))
+    ∙ if-goes (answer.Refused 2) _ _ (q .passed) refl (images-differ (a .n) (imagesOf (form m) (a .second .now)) _ (λ e. c .before .if1 .taken (e ∙ q .images)))
 
 array-share-prefix-fars : tie.Need-array-share-prefix-fars
 array-share-prefix-fars c =
@@ -69,8 +74,9 @@ take-one-requires c κs =
 returns-2 : tie.Need-returns-2
 returns-2 c =
     let e = c .before .before .before .before in
+    let s = e .before .before .before .before .args .second .now in
     if-stops (answer.Refused 2) _ _
-    (read-refused oldLinks (e .before .before .before .before .args .second .now) (e .read .ensures) (c .before .r .given .1)) refl
+    (read-refused (linkFormAt s 0) s (e .read .ensures) (c .before .r .given .1)) refl
 
 returns-3 : tie.Need-returns-3
 returns-3 c =
@@ -79,12 +85,12 @@ returns-3 c =
     let t = a .second .now in
     let q = listed m in
     let l = inners (a .n) (a .first .now) in
-    let h : a .n ≡ imagesOf oldLinks t = c .before .before .if1 .left ∙ sym (q .images) in
+    let h : a .n ≡ imagesOf (form m) t = c .before .before .if1 .left ∙ sym (q .images) in
     if-goes (answer.Refused 2) _ _ (q .passed) refl
-    (images-same (a .n) (imagesOf oldLinks t) _ h
+    (images-same (a .n) (imagesOf (form m) t) _ h
     (c .take-one .ensures
     ∙ ap (λ (x : List ℕ). taken l (a .i) (inners (a .n) x) (m .m .given .0 .1 .1 .0)) (q .front)
-    ∙ ap₂ (λ (x u : ℕ). taken l (a .i) (inners x (sidesOf oldLinks t)) u) h (sym (q .ended))))
+    ∙ ap₂ (λ (x u : ℕ). taken l (a .i) (inners x (sidesOf (form m) t)) u) h (sym (q .ended))))
 
 pub against-second-spec : {M : Type 1} → statement M
 against-second-spec =

@@ -11,11 +11,16 @@ use Rattle.choice.specs.Laws.Read.{read-listed, read-refused}
 use Rattle.ground.specs.Laws.Refusals.{if-goes, if-stops}
 use Rattle.choice.specs.declared.Chosen.the-variants as answer
 use Rattle.choice.proofs.choice.Statement.{statement}
-use Rattle.stored_links.specs.Form.{oldLinks}
+use Rattle.bits.specs.declared.Form.{Form}
+use Rattle.stored_links.specs.Form.{linkFormAt}
 use Rattle.choice.proofs.choice.Tie as tie
 
 abbrev begun : tie.After-n → tie.Start
 begun c = c .before .before .before .before .before .before .before
+
+-- the form that the bytes of the first table tell
+abbrev form : tie.After-n → Form
+form c = linkFormAt (begun c .args .first .now) 0
 
 slice-aggregate-read : tie.Need-slice-aggregate-read
 slice-aggregate-read c = search needs
@@ -31,9 +36,9 @@ enum-known-n c = search needs
 
 -- the far sides of the first table, where it was accepted
 listed : (c : tie.After-n)
-    → SidesListed oldLinks (begun c .args .first .now) (c .n .given .0 .0) (c .n .given .0 .1 .0) (c .n .given .0 .1 .1 .0)
+    → SidesListed (form c) (begun c .args .first .now) (c .n .given .0 .0) (c .n .given .0 .1 .0) (c .n .given .0 .1 .1 .0)
     (c .before .before .before .read .last .1 .0)
-listed c = read-listed oldLinks (begun c .args .first .now) (c .before .before .before .read .ensures) (c .n .given .1)
+listed c = read-listed (form c) (begun c .args .first .now) (c .before .before .before .read .ensures) (c .n .given .1)
 
 array-share-prefix-fars : tie.Need-array-share-prefix-fars
 array-share-prefix-fars c = let m = c .before in omega (arith, listed m .few, m .before .before .before .read .kept .1 .0)
@@ -48,8 +53,9 @@ against-second-requires c κs = let q = listed (c .before .before) in (q .least,
 returns : tie.Need-returns
 returns c =
     let e = c .before .before .before .before in
+    let s = e .before .before .before .before .args .first .now in
     if-stops (answer.Refused 1) _ _
-    (read-refused oldLinks (e .before .before .before .before .args .first .now) (e .read .ensures) (c .before .r .given .1)) refl
+    (read-refused (linkFormAt s 0) s (e .read .ensures) (c .before .r .given .1)) refl
 
 returns-2 : tie.Need-returns-2
 returns-2 c =
@@ -59,8 +65,8 @@ returns-2 c =
     let q = listed m in
     if-goes (answer.Refused 1) _ _ (q .passed) refl
     (c .against-second .ensures
-    ∙ ap (λ (x : List ℕ). againstSecond oldLinks (m .n .given .0 .0) x (m .n .given .0 .1 .1 .0) t) (q .front)
-    ∙ ap₂ (λ (x u : ℕ). againstSecond oldLinks x (sidesOf oldLinks s) u t) (sym (q .images)) (sym (q .ended)))
+    ∙ ap (λ (x : List ℕ). againstSecond (linkFormAt t 0) (m .n .given .0 .0) x (m .n .given .0 .1 .1 .0) t) (q .front)
+    ∙ ap₂ (λ (x u : ℕ). againstSecond (linkFormAt t 0) x (sidesOf (form m) s) u t) (sym (q .images)) (sym (q .ended)))
 
 pub choice-spec : {M : Type 1} → statement M
 choice-spec =

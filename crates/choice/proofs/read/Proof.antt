@@ -4,7 +4,7 @@ use lib.ListN.{replicate}
 use borrow.Author.Needs.{needs}
 use Rattle.choice.specs.Laws.Read.{read-is}
 use Rattle.choice.proofs.read.Statement.{statement}
-use Rattle.stored_links.specs.Form.{oldLinks}
+use Rattle.stored_links.specs.Form.{linkFormAt}
 use Rattle.choice.proofs.read.Tie as tie
 
 slice-aggregate-read-links : tie.Need-slice-aggregate-read-links
@@ -20,7 +20,7 @@ returns : tie.Need-returns
 returns c =
     let e = c .before .before .before in
     let s = e .before .before .before .before .before in
-    read-is oldLinks (s .args .bytes .now) (s .args .fars .now) (replicate 128 0) _ _ (s .pre) refl (e .read-links .ensures)
+    read-is (linkFormAt (s .args .bytes .now) 0) (s .args .bytes .now) (s .args .fars .now) (replicate 128 0) _ _ (s .pre) refl (e .read-links .ensures)
 
 pub read-spec : {M : Type 1} → statement M
 read-spec =

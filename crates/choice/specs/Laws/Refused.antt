@@ -21,43 +21,43 @@ use Rattle.bits.specs.declared.Form.{Form}
 use Rattle.choice.specs.Taken.{Begins, FirstRefusal, Includes, of-first, of-images, of-neither, of-second}
 use Rattle.choice.specs.declared.Chosen.the-variants as answer
 
-module _ (form : Form) (s t : List ℕ) where
-  pub choice-refused : (m : ℕ) (r : Refusal) → choiceOf form s t ≡ answer.Refused m r → FirstRefusal form s t m r
-  choice-refused m r e = first (tableChecks form s) refl e
+module _ (f g : Form) (s t : List ℕ) where
+  pub choice-refused : (m : ℕ) (r : Refusal) → choiceOf f g s t ≡ answer.Refused m r → FirstRefusal f g s t m r
+  choice-refused m r e = first (tableChecks f s) refl e
     where
-      other : Begins form s → Begins form t → (imagesOf form s ≡ imagesOf form t → ⊥) → answer.Refused 0 (refusal 15 0 0 0 0) ≡ answer.Refused m r
-          → FirstRefusal form s t m r
+      other : Begins f s → Begins g t → (imagesOf f s ≡ imagesOf g t → ⊥) → answer.Refused 0 (refusal 15 0 0 0 0) ≡ answer.Refused m r
+          → FirstRefusal f g s t m r
       other a b n h = let k : m ≡ 0 = cc in let p : r ≡ refusal 15 0 0 0 0 = cc in of-images k p a b n
 
-      none : Begins form s → Begins form t → imagesOf form s ≡ imagesOf form t → (Includes form s t → ⊥) → (Includes form t s → ⊥)
-          → answer.Refused 0 (refusal 14 0 0 0 0) ≡ answer.Refused m r → FirstRefusal form s t m r
-      none a b n f g h = let k : m ≡ 0 = cc in let p : r ≡ refusal 14 0 0 0 0 = cc in of-neither k p a b n f g
+      none : Begins f s → Begins g t → imagesOf f s ≡ imagesOf g t → (Includes f g s t → ⊥) → (Includes g f t s → ⊥)
+          → answer.Refused 0 (refusal 14 0 0 0 0) ≡ answer.Refused m r → FirstRefusal f g s t m r
+      none a b n x z h = let k : m ≡ 0 = cc in let p : r ≡ refusal 14 0 0 0 0 = cc in of-neither k p a b n x z
 
-      table : (k u : ℕ) → Table k u ≡ answer.Refused m r → FirstRefusal form s t m r
+      table : (k u : ℕ) → Table k u ≡ answer.Refused m r → FirstRefusal f g s t m r
       table k u h = absurd (let o : _≡_ {A = ℕ} 0 1 = cc in omega arith)
 
-      neither : Begins form s → Begins form t → imagesOf form s ≡ imagesOf form t
-          → taken (innersOf form s) (usedOf form s) (innersOf form t) (usedOf form t) ≡ answer.Refused m r → FirstRefusal form s t m r
+      neither : Begins f s → Begins g t → imagesOf f s ≡ imagesOf g t
+          → taken (innersOf f s) (usedOf f s) (innersOf g t) (usedOf g t) ≡ answer.Refused m r → FirstRefusal f g s t m r
       neither a b n h =
-          cases (includes (innersOf form s) (innersOf form t))
-          (λ x. table 1 (usedOf form s) (rw x at h))
-          (λ x. cases (includes (innersOf form t) (innersOf form s))
-          (λ z. table 2 (usedOf form t) (rw (x, z) at h))
-          (λ z. none a b n (not-includes form s t x) (not-includes form t s z) (rw (x, z) at h)))
+          cases (includes (innersOf f s) (innersOf g t))
+          (λ x. table 1 (usedOf f s) (rw x at h))
+          (λ x. cases (includes (innersOf g t) (innersOf f s))
+          (λ z. table 2 (usedOf g t) (rw (x, z) at h))
+          (λ z. none a b n (not-includes f g s t x) (not-includes g f t s z) (rw (x, z) at h)))
 
-      second : (c : Check) → tableChecks form t ≡ c → Begins form s
+      second : (c : Check) → tableChecks g t ≡ c → Begins f s
           → numbered 2 c
-          (numbered 0 (imagesAgree (imagesOf form s) (imagesOf form t)) (taken (innersOf form s) (usedOf form s) (innersOf form t) (usedOf form t)))
+          (numbered 0 (imagesAgree (imagesOf f s) (imagesOf g t)) (taken (innersOf f s) (usedOf f s) (innersOf g t) (usedOf g t)))
           ≡ answer.Refused m r
-          → FirstRefusal form s t m r
+          → FirstRefusal f g s t m r
       second Passed q a h =
-          let b = table-stored form t q in
-          cases (eqb (imagesOf form s) (imagesOf form t))
-          (λ x. neither a b (eqb-true (imagesOf form s) (imagesOf form t) x) (rw x at h))
-          (λ x. other a b (eqb-false (imagesOf form s) (imagesOf form t) x) (rw x at h))
+          let b = table-stored g t q in
+          cases (eqb (imagesOf f s) (imagesOf g t))
+          (λ x. neither a b (eqb-true (imagesOf f s) (imagesOf g t) x) (rw x at h))
+          (λ x. other a b (eqb-false (imagesOf f s) (imagesOf g t) x) (rw x at h))
       second (Refused p) q a h = let x : p ≡ r = cc in let k : m ≡ 2 = cc in of-second k a (q ∙ ap Refused x)
 
-      first : (c : Check) → tableChecks form s ≡ c
-          → numbered 1 c (againstSecond form (imagesOf form s) (sidesOf form s) (usedOf form s) t) ≡ answer.Refused m r → FirstRefusal form s t m r
-      first Passed q h = second (tableChecks form t) refl (table-stored form s q) h
+      first : (c : Check) → tableChecks f s ≡ c
+          → numbered 1 c (againstSecond g (imagesOf f s) (sidesOf f s) (usedOf f s) t) ≡ answer.Refused m r → FirstRefusal f g s t m r
+      first Passed q h = second (tableChecks g t) refl (table-stored f s q) h
       first (Refused p) q h = let x : p ≡ r = cc in let k : m ≡ 1 = cc in of-first k (q ∙ ap Refused x)
