@@ -18,7 +18,7 @@ use Rattle.bits.specs.Laws.InOrder.{end-order, fill-order, position-order}
 use Rattle.bits.specs.declared.Form.{Form}
 use Rattle.stored_costs.specs.Entries.{entryCost}
 use Rattle.stored_costs.specs.Form.{costUsed, entryOf, fillOf, imagesOf}
-use Rattle.stored_costs.specs.Reading.{readAtChecks, readChecks, storedCheck}
+use Rattle.stored_costs.specs.Reading.{readAtChecks, readChecks, storedCheck, tableChecks}
 
 -- 4
 pub stored-order : (L : ℕ) (d : ℕ → ℕ → ℕ) (n : ℕ) → InOrder (4 by storedCheck L d n ∷ []) (storedCheck L d n)
@@ -42,6 +42,24 @@ read-order form s room =
     let n = imagesOf form s in
     join-order (join-order (end-order s (bytesFor (form .head + 7))) (join-order (images-order n) (room-order (n * n) room)))
     (join-order (join-order (end-order s (costUsed form n)) (fill-order (fillOf form n s))) (stored-order (form .limit) (entryCost (entryOf form s) n) n))
+
+-- 9, 1, 9, 11, 4
+abbrev pub tableSteps : Form → List ℕ → List Step
+tableSteps form s =
+    9 by endCheck s (bytesFor (form .head + 7))
+    ∷ 1 by imagesCheck (imagesOf form s)
+    ∷ 9 by endCheck s (costUsed form (imagesOf form s))
+    ∷ 11 by fillCheck (fillOf form (imagesOf form s) s)
+    ∷ 4 by storedCheck (form .limit) (entryCost (entryOf form s) (imagesOf form s)) (imagesOf form s)
+    ∷ []
+
+pub table-order : (form : Form) (s : List ℕ) → InOrder (tableSteps form s) (tableChecks form s)
+table-order form s =
+    let n = imagesOf form s in
+    join-order (end-order s (bytesFor (form .head + 7)))
+    (join-order (images-order n)
+    (join-order (join-order (end-order s (costUsed form n)) (fill-order (fillOf form n s)))
+    (stored-order (form .limit) (entryCost (entryOf form s) n) n)))
 
 -- 9 of the position, then those of the bytes from there on
 abbrev pub readAtSteps : Form → List ℕ → ℕ → ℕ → List Step

@@ -10,6 +10,8 @@ pub mod WriteBack
 pub mod Positions
 -- Both forms.
 pub mod Told
+-- Places enough for every table.
+pub mod Enough
 -- Bytes behind a table.
 pub mod Agreeing
 pub mod Behind

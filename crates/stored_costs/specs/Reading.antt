@@ -33,6 +33,12 @@ readChecks form s room =
     startChecks form s room then bodyChecks form (imagesOf form s) s then storedCheck (form .limit) (entryCost (entryOf form s) (imagesOf form s))
     (imagesOf form s)
 
+-- 9, 1, 9, 11, 4: the same without 3
+abbrev pub tableChecks : Form → List ℕ → Check
+tableChecks form s =
+    endCheck s (bytesFor (form .head + 7)) then imagesCheck (imagesOf form s) then bodyChecks form (imagesOf form s) s
+    then storedCheck (form .limit) (entryCost (entryOf form s) (imagesOf form s)) (imagesOf form s)
+
 -- 9 for the position, then those of the bytes from there on
 abbrev pub readAtChecks : Form → List ℕ → ℕ → ℕ → Check
 readAtChecks form bytes position room = positionCheck bytes position then readChecks form (drop (position / 8) bytes) room
