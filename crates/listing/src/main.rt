@@ -1,5 +1,5 @@
-// Prints the listing of the stored cost table that standard input begins with; its order ends at the far end. What was read counts as
-// the input, also where a read fails.
+// Prints the listing of the stored cost table, in either form, that standard input begins with; its order ends at the far end. What was
+// read counts as the input, also where a read fails.
 use libc::STDIN_FILENO;
 use libc::STDOUT_FILENO;
 use listing_text::LONGEST_TABLE;

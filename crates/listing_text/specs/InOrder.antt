@@ -1,25 +1,18 @@
 -- The checks of a listing by their numbers: its text is the line of the first refusal, or the accepted one. Assumes nothing.
-use mathlib.Core.List.{List, _∷_}
+use mathlib.Core.List.{List, _++_}
 use mathlib.Core.Path.{refl, _≡_}
 use Prim.Native.Nat.{ℕ}
 use Rattle.ground.specs.InOrder.{Decides, InOrder}
 use Rattle.ground.specs.Laws.InOrder.{decides-last, join-order}
 use Rattle.ground.specs.Refusals.{_then_}
-use Rattle.ground.specs.Steps.{Step, _by_}
+use Rattle.ground.specs.Steps.{Step}
 use Rattle.ground.specs.declared.Check.{Check}
 use Rattle.ground.specs.declared.Check.the-variants.{Passed, Refused}
-use Rattle.theory.specs.Checks.{imagesCheck}
-use Rattle.theory.specs.Laws.InOrder.{images-order}
 use Rattle.theory.specs.Tables.{cost, limit}
 use Rattle.wiring.specs.Check.{wiringCheck}
 use Rattle.wiring.specs.InOrder.{wiring-order, wiringSteps}
-use Rattle.bits.specs.Forms.{bytesFor}
-use Rattle.bits.specs.Kinds.{endCheck, fillCheck}
-use Rattle.bits.specs.Laws.InOrder.{end-order, fill-order}
-use Rattle.stored_costs.specs.Entries.{entryCost}
-use Rattle.stored_costs.specs.Form.{costUsed, entryOf, fillOf, oldCosts}
-use Rattle.stored_costs.specs.InOrder.{stored-order}
-use Rattle.stored_costs.specs.Reading.{storedCheck}
+use Rattle.stored_costs.specs.Form.{costFormAt}
+use Rattle.stored_costs.specs.InOrder.{table-order, tableSteps}
 use Rattle.tree.specs.Exact.{treeCheck}
 use Rattle.listing_lines.specs.Lines.{refusedLine}
 use Rattle.listing_text.specs.Listing.{imagesSaid, listingText, storedChecks, tableSaid}
@@ -28,13 +21,7 @@ use Rattle.listing_text.specs.declared.Last.{Last}
 
 -- 9, 1, 9, 11, 4, 7
 abbrev pub listingSteps : List ℕ → List Step
-listingSteps s =
-    9 by endCheck s (bytesFor 7)
-    ∷ 1 by imagesCheck (imagesSaid s)
-    ∷ 9 by endCheck s (costUsed oldCosts (imagesSaid s))
-    ∷ 11 by fillCheck (fillOf oldCosts (imagesSaid s) s)
-    ∷ 4 by storedCheck limit (entryCost (entryOf oldCosts s) (imagesSaid s)) (imagesSaid s)
-    ∷ wiringSteps (cost (tableSaid s) (imagesSaid s)) (imagesSaid s)
+listingSteps s = tableSteps (costFormAt s 0) s ++ wiringSteps (cost (tableSaid s) (imagesSaid s)) (imagesSaid s)
 
 -- of two checks the second counts only where the first passed
 behind : (c d w : Check) → (c ≡ Passed → (c then d) ≡ w) → (c then d) ≡ (c then w)
@@ -47,15 +34,7 @@ only-wiring s =
     behind (storedChecks s) (treeCheck limit (imagesSaid s) (tableSaid s)) (wiringCheck (cost (tableSaid s) (imagesSaid s)) (imagesSaid s)) (listing-wiring s)
 
 pub listing-order : (s : List ℕ) → InOrder (listingSteps s) (listingChecks s)
-listing-order s =
-    let n = imagesSaid s in
-    rw (only-wiring s)
-    (join-order
-    (join-order (end-order s (bytesFor 7))
-    (join-order (images-order n)
-    (join-order (join-order (end-order s (costUsed oldCosts n)) (fill-order (fillOf oldCosts n s)))
-    (stored-order limit (entryCost (entryOf oldCosts s) n) n))))
-    (wiring-order (cost (tableSaid s) n) n))
+listing-order s = rw (only-wiring s) (join-order (table-order (costFormAt s 0) s) (wiring-order (cost (tableSaid s) (imagesSaid s)) (imagesSaid s)))
 
 -- each listing prints the line of the first check that refuses, which has that check's number; the accepted text where all pass
 pub listing-decides : (which : Last) (s : List ℕ) → Decides (λ m. refusedLine) (listingSteps s) (acceptedText which s) (listingText which s)

@@ -3,3 +3,5 @@ pub mod LastImage
 -- What the calls below gave, and the text that follows.
 pub mod Accepted
 pub mod Stored
+-- What stands behind the table.
+pub mod Behind

@@ -1,35 +1,27 @@
--- The listing of the stored cost table at the start of the bytes s, whatever follows it. Assumes nothing.
+-- The listing of the stored cost table at the start of the bytes s, in either form, whatever follows it. Assumes nothing.
 use mathlib.Core.List.{List}
 use mathlib.Core.Path.{_≡_}
 use Prim.Native.Nat.{ℕ, _≤_}
 use lib.ListN.{length, replicate, take}
 use Rattle.ground.specs.Buffers.{front}
-use Rattle.ground.specs.Refusals.{_then_}
 use Rattle.ground.specs.declared.Check.{Check}
-use Rattle.bits.specs.Kinds.{endCheck}
-use Rattle.theory.specs.Tables.{limit}
-use Rattle.theory.specs.Checks.{imagesCheck}
-use Rattle.bits.specs.Forms.{bytesFor}
-use Rattle.stored_costs.specs.Entries.{entryCost}
-use Rattle.stored_costs.specs.Form.{storedTable, entryOf, imagesOf, oldCosts}
-use Rattle.stored_costs.specs.Reading.{bodyChecks, storedCheck}
+use Rattle.stored_costs.specs.Form.{costFormAt, imagesOf, storedTable}
+use Rattle.stored_costs.specs.Reading.{tableChecks}
 use Rattle.listing_lines.specs.Lines.{room}
 use Rattle.listing_text.specs.declared.Last.{Last}
 use Rattle.listing_text.specs.LastImage.{lastImage}
 use Rattle.listing_text.specs.TableText.{tableText, textIf}
 
--- the images of the stored table that the bytes say, and the table
+-- the images of the stored table that the bytes say in the form that they tell, and the table
 abbrev pub imagesSaid : List ℕ → ℕ
-imagesSaid s = imagesOf oldCosts s
+imagesSaid s = imagesOf (costFormAt s 0) s
 
 abbrev pub tableSaid : List ℕ → List ℕ
-tableSaid s = storedTable oldCosts (imagesSaid s) s
+tableSaid s = storedTable (costFormAt s 0) (imagesSaid s) s
 
--- 9, 1, 9, 11, 4: the checks of a stored cost table, where there is room for every table
+-- 9, 1, 9, 11, 4: the checks of a stored cost table in that form, where there is room for every table
 abbrev pub storedChecks : List ℕ → Check
-storedChecks s =
-    endCheck s (bytesFor 7) then imagesCheck (imagesSaid s) then bodyChecks oldCosts (imagesSaid s) s
-    then storedCheck limit (entryCost (entryOf oldCosts s) (imagesSaid s)) (imagesSaid s)
+storedChecks s = tableChecks (costFormAt s 0) s
 
 -- the text of the cost table t, with the last image that is asked for
 abbrev pub textWith : Last → ℕ → List ℕ → List ℕ

@@ -2,7 +2,7 @@
 -- text. Assumes nothing.
 use mathlib.Core.List.{List, _++_}
 use mathlib.Core.Path.{ap, refl, sym, _∙_, _≡_}
-use Prim.Native.Nat.{ℕ, _<_, _^_, _≤_}
+use Prim.Native.Nat.{ℕ, _≤_}
 use native.Mathlib.Omega.{arith}
 use lib.ListN.{drop, length, length-append, replicate, take}
 use lib.Seq.{take-at}
@@ -13,19 +13,17 @@ use Rattle.ground.specs.declared.Refusal.{Refusal}
 use Rattle.ground.specs.Laws.Refusals.{then-passed}
 use Rattle.theory.specs.LinkTables.{Row}
 use Rattle.theory.specs.Readings.{Exact}
-use Rattle.theory.specs.Tables.{CostTable, cost, limit}
+use Rattle.theory.specs.Tables.{CostTable, cost, limit, oldLimit}
 use Rattle.wiring.specs.Check.{wiringCheck}
 use Rattle.order.specs.Outcome.{images}
 use Rattle.tree.specs.Exact.{exactRows, treeCheck}
 use Rattle.tree.specs.Laws.Exact.{exact-rows, table-passed, table-sized, tree-wiring}
-use Rattle.stored_costs.specs.Form.{costBytes, oldCosts, storedTable}
-use Rattle.stored_costs.specs.Laws.Passed.{passed-read, read-passed}
-use Rattle.stored_costs.specs.Laws.ReadBack.{written-costs-of, written-images, written-readable}
-use Rattle.stored_costs.specs.Laws.Sizes.{square-le}
-use Rattle.stored_costs.specs.Laws.WriteBack.{read-table}
-use Rattle.stored_costs.specs.Stored.{Readable}
-use Rattle.listing_text.specs.Laws.Stored.{enough-room}
+use Rattle.bits.specs.declared.Edition.{Edition}
+use Rattle.bits.specs.declared.Edition.the-variants.{New, Old}
+use Rattle.stored_costs.specs.Form.{costBytes, costForm, newCosts, oldCosts, storedTable}
+use Rattle.stored_costs.specs.Laws.Enough.{table-said, table-stored}
 use Rattle.listing_text.specs.LastImage.{lastImage}
+use Rattle.listing_text.specs.Laws.Behind.{textBy, textIn}
 use Rattle.listing_lines.specs.Lines.{refusedLine, room}
 use Rattle.listing_text.specs.Listing.{Listed, imagesSaid, listingText, storedChecks, tableSaid, textWith}
 use Rattle.listing_text.specs.TableText.{linksText, textIf}
@@ -54,20 +52,15 @@ text-then Passed d m = refl
 text-then (Refused q) d m = refl
 
 module _ (s : List ℕ) where
-  -- bytes that pass their checks say a cost table
-  pub stored-readable : storedChecks s ≡ Passed → Readable oldCosts s 4096
-  stored-readable e = read-passed oldCosts s 4096 (enough-room s 4096 (omega arith) ∙ e)
-
-  -- what is listed is a cost table
+  -- what is listed is a cost table, in whichever form it is stored
   pub listing-table : listingChecks s ≡ Passed → CostTable limit (imagesSaid s) (tableSaid s)
-  listing-table e =
-      read-table oldCosts s 4096 (stored-readable (then-passed (storedChecks s) (treeCheck limit (imagesSaid s) (tableSaid s)) e .0))
+  listing-table e = table-said s (then-passed (storedChecks s) (treeCheck limit (imagesSaid s) (tableSaid s)) e .0)
 
   -- of the exact reading only 7 is left
   pub listing-wiring : storedChecks s ≡ Passed → listingChecks s ≡ wiringCheck (cost (tableSaid s) (imagesSaid s)) (imagesSaid s)
   listing-wiring e =
       ap (λ (c : Check). c then treeCheck limit (imagesSaid s) (tableSaid s)) e
-      ∙ tree-wiring limit (imagesSaid s) (tableSaid s) (read-table oldCosts s 4096 (stored-readable e))
+      ∙ tree-wiring limit (imagesSaid s) (tableSaid s) (table-said s e)
 
 module _ (which : Last) (s : List ℕ) where
   -- the listing by its checks
@@ -108,15 +101,28 @@ module _ (which : Last) (s : List ℕ) where
   pub listed-once : {a b : ℕ} {t u : List ℕ} → Listed which s a t → Listed which s b u → (a ≡ b) × (t ≡ u)
   listed-once p q = (p .sized ∙ sym (q .sized), p .listed ∙ sym (q .listed))
 
--- the listing of a table as it is stored, whatever follows it, is that of the table
-pub listing-stored : (which : Last) (n : ℕ) (t b : List ℕ) → CostTable limit n t
-    → listingText which (costBytes oldCosts n (cost t n) ++ b) ≡ textWith which n t
+-- the listing of a table as it is stored in either form, whatever follows it, is that of the table
+pub listing-stored : (which : Last) (e : Edition) (n : ℕ) (t b : List ℕ) → CostTable (costForm e .limit) n t
+    → listingText which (costBytes (costForm e) n (cost t n) ++ b) ≡ textWith which n t
 unfolding listingText
-listing-stored which n t b c =
-    let s = costBytes oldCosts n (cost t n) ++ b in
-    let fits : limit < 2 ^ 20 = omega arith in
-    let k : storedChecks s ≡ Passed =
-    sym (enough-room s 4096 (omega arith)) ∙ passed-read oldCosts s 4096 (written-readable oldCosts n t b c fits 4096 (square-le (c .few))) in
-    ap (λ (x : Check). textIf x (textWith which (imagesSaid s) (tableSaid s))) k
-    ∙ ap (λ (m : ℕ). textWith which m (storedTable oldCosts m s)) (written-images oldCosts n t b c fits)
-    ∙ ap (textWith which n) (written-costs-of oldCosts n t b c fits)
+listing-stored which e n t b c =
+    let s = costBytes (costForm e) n (cost t n) ++ b in
+    let k = table-stored e n t b c in
+    ap (λ (x : Edition). textIn which (costForm x) s) (k .told)
+    ∙ ap (λ (x : Check). textBy which (costForm e) x s) (k .passed)
+    ∙ ap (λ (m : ℕ). textWith which m (storedTable (costForm e) m s)) (k .images)
+    ∙ ap (textWith which n) (k .table)
+
+-- the new form holds what the old one does
+table-wide : (n : ℕ) (t : List ℕ) → CostTable oldLimit n t → CostTable limit n t
+table-wide n t c = record {
+  some = c .some;
+  few = c .few;
+  sized = c .sized;
+  formed = record { small = λ p q. omega (arith, c .formed .small p q); self = λ p. c .formed .self p; same = λ p q. c .formed .same p q };
+}
+
+-- so a table that both forms hold has one listing, in whichever it is stored
+pub either-form-same : (which : Last) (n : ℕ) (t a b : List ℕ) → CostTable oldLimit n t
+    → listingText which (costBytes oldCosts n (cost t n) ++ a) ≡ listingText which (costBytes newCosts n (cost t n) ++ b)
+either-form-same which n t a b c = listing-stored which Old n t a c ∙ sym (listing-stored which New n t b (table-wide n t c))
