@@ -11,5 +11,7 @@ pub mod WriteBack
 pub mod ReadAt
 -- Both forms.
 pub mod Told
+-- Places enough for every table.
+pub mod Enough
 -- Bytes behind a table.
 pub mod Behind

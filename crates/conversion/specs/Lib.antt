@@ -1,0 +1,10 @@
+-- What each conversion answers and leaves.
+pub mod Costs
+pub mod Links
+-- The checks by their numbers, in order.
+pub mod InOrder
+-- Accepted conversions.
+pub mod Laws
+-- What the promises are worth.
+pub mod ConvertedCosts
+pub mod ConvertedLinks
