@@ -2186,10 +2186,11 @@ def listing_inputs():
     yield "far_end_n", stored_costs(9, star(9, [0, 3, 3, 3, 3, 3, 3, 3, 4]))
     yield "tie_in_tree", stored_costs(*law.example("E"))
     yield "tie64", stored_costs(64, tree(dice, 64, 2, "uneven"))
-    # The new form: example H, a tree whose entries no old form has, an entry above the limit, and
-    # a header that ends early.
+    # The new form: example H, trees with entries that the old form has no place for, one of them the
+    # longest input that a table can have, an entry above the limit, and a header that ends early.
     yield "new_form", stored_costs(*law.example("H"), NEW)
     yield "nanoseconds", stored_costs(9, tree(dice, 9, 1500000, "uneven"), NEW) + [255]
+    yield "nanoseconds64", stored_costs(64, tree(dice, 64, 900000, "uneven"), NEW)
     yield "new_damaged", stored_costs(4, table_from(4, [1, 8000000, 1000001, 8000001, 0, 0]), NEW)
     yield "new_short", [255]
 
