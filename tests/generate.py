@@ -802,7 +802,7 @@ def route_cases(dice):
     yield n, len(fars), fars, costs, 1, places(dice, 2 * n - 4)
 
 
-def link_faults_and_form(dice, table, faults):
+def in_some_form(dice, table, faults):
     """The form's number, and the table with costs that fit it, but for those that are to be
     above its limits."""
     number = 0 if "old" in faults else dice.one_of(FORM_NUMBERS)
@@ -815,7 +815,7 @@ def link_faults_and_form(dice, table, faults):
 def write_links_cases(dice):
     kinds = ["n", "count", "length", "row", "own", "old", "room"]
     for n, table, faults in link_tables(dice, 40, kinds, 7, 66):
-        number, table = link_faults_and_form(dice, table, faults)
+        number, table = in_some_form(dice, table, faults)
         count = min(table[1], 2 * n - 3)
         needed = links_length(law.form_named(number), n, count) if n < 64 or not faults else 40
         yield (number,) + table + (byte_places(dice, room(dice, needed, "room" in faults)),)
@@ -1206,12 +1206,10 @@ def choice_cases(dice):
         rows = tree_rows(dice, n, "uneven", 9, even=False)
         yield stored(n, fewer_inner(dice, n, rows)), stored(n, rows)
     # Each form beside each: the first includes the other, the second does, both do, neither does.
-    for n in (4, 9, 33):
+    for n in (5, 9, 33):
         rows = tree_rows(dice, n, "caterpillar", 9, even=False)
         inner = [row for row in rows if is_inner(n, row[0])]
-        fewer = [row for row in rows if row != inner[0]]
-        other = fewer if n == 4 else [row for row in rows if row != inner[-1]]
-        other = sorted(other + [(10 if inner[0][0] != 10 else 12, 1)]) if n == 4 else other
+        fewer, other = [[row for row in rows if row != lost] for lost in (inner[0], inner[-1])]
         for one, two in ((rows, fewer), (fewer, rows), (rows, even_rows(rows)), (fewer, other)):
             for form in (OLD, NEW):
                 for form2 in (OLD, NEW):
