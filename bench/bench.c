@@ -15,12 +15,15 @@
 
 enum { BATCH = 3 }; /* tables of a batch */
 
-static size_t n, rows, plain_rows, stored_costs, stored_links, stored_fewer;
+static size_t n, rows, plain_rows, stored_fewer;
 static uint32_t tree[4096], other[4096], noisy[4096], back[4096], costs[125], plain_costs[125], out[64], plain_out[64];
 static uint64_t fars[125], plain_fars[125], inner_side;
 static uint32_t team[16 * 4096], shared_costs[125];
 static uint64_t shared_fars[125];
-static uint8_t cost_bytes[KEMOTUIKI_COST_BYTES], link_bytes[KEMOTUIKI_LINK_BYTES], fewer_bytes[KEMOTUIKI_LINK_BYTES], bytes[KEMOTUIKI_COST_BYTES];
+/* The form that is written, read, or converted into from the other one; the tree's stored tables in both, and what is written anew. */
+static size_t form, stored_costs[2], stored_links[2];
+static uint8_t cost_bytes[2][KEMOTUIKI_COST_BYTES], link_bytes[2][KEMOTUIKI_LINK_BYTES], fewer_bytes[KEMOTUIKI_LINK_BYTES];
+static uint8_t bytes[KEMOTUIKI_COST_BYTES], plain_bytes[KEMOTUIKI_COST_BYTES];
 static uint32_t batch_ns[BATCH], batch_counts[BATCH], batch_costs[BATCH * 125];
 static uint64_t batch_fars[BATCH * 125];
 static uint8_t batch_bytes[BATCH * KEMOTUIKI_LINK_BYTES], plain_batch_bytes[BATCH * KEMOTUIKI_LINK_BYTES];
@@ -42,26 +45,30 @@ static void ours_compare(void) { KemotuikiComparison r = kemotuiki_compare(n, tr
 static void c_compare(void) { size_t v[5] = {0}; plain_compare(n, tree, n * n, other, n * n, v); sink = v[0] + 1000 * v[3] + 1000000 * v[4]; }
 static void ours_consensus(void) { sink = kemotuiki_consensus(n, 16, team, 16 * n * n, shared_fars, 125, shared_costs, 125).rows; }
 static void c_consensus(void) { plain_consensus(n, 16, team, 16 * n * n, plain_fars, plain_costs, 125, &plain_rows); sink = plain_rows; }
-static void ours_write_costs(void) { sink = kemotuiki_write_costs(n, tree, n * n, cost_bytes, sizeof cost_bytes).used; }
-static void c_write_costs(void) { size_t u = 0; plain_write_costs(n, tree, n * n, bytes, sizeof bytes, &u); sink = u; }
-static void ours_read_costs(void) { sink = kemotuiki_read_costs(cost_bytes, stored_costs, 0, back, 4096).used; }
-static void c_read_costs(void) { size_t m = 0, u = 0; plain_read_costs(cost_bytes, stored_costs, 0, back, 4096, &m, &u); sink = u; }
-static void ours_write_links(void) { sink = kemotuiki_write_links(n, rows, fars, rows, costs, rows, link_bytes, sizeof link_bytes).used; }
-static void c_write_links(void) { size_t u = 0; plain_write_links(n, rows, fars, costs, bytes, sizeof bytes, &u); sink = u; }
+static void ours_write_costs(void) { sink = kemotuiki_write_costs(form, n, tree, n * n, bytes, sizeof bytes).used; }
+static void c_write_costs(void) { size_t u = 0; plain_write_costs(form, n, tree, n * n, plain_bytes, sizeof plain_bytes, &u); sink = u; }
+static void ours_read_costs(void) { sink = kemotuiki_read_costs(cost_bytes[form], stored_costs[form], 0, back, 4096).used; }
+static void c_read_costs(void) { size_t m = 0, u = 0; plain_read_costs(cost_bytes[form], stored_costs[form], 0, back, 4096, &m, &u); sink = u; }
+static void ours_convert_costs(void) { sink = kemotuiki_convert_costs(form, cost_bytes[!form], stored_costs[!form], bytes, sizeof bytes).used; }
+static void c_convert_costs(void) { size_t u = 0; plain_convert_costs(form, cost_bytes[!form], stored_costs[!form], plain_bytes, sizeof plain_bytes, &u); sink = u; }
+static void ours_write_links(void) { sink = kemotuiki_write_links(form, n, rows, fars, rows, costs, rows, bytes, sizeof bytes).used; }
+static void c_write_links(void) { size_t u = 0; plain_write_links(form, n, rows, fars, costs, plain_bytes, sizeof plain_bytes, &u); sink = u; }
 static void ours_write_batch(void) {
     size_t all = BATCH * rows;
-    sink = kemotuiki_write_batch(batch_ns, BATCH, batch_counts, BATCH, batch_fars, all, batch_costs, all, batch_bytes, sizeof batch_bytes).used;
+    sink = kemotuiki_write_batch(form, batch_ns, BATCH, batch_counts, BATCH, batch_fars, all, batch_costs, all, batch_bytes, sizeof batch_bytes).used;
 }
 static void c_write_batch(void) {
     size_t all = BATCH * rows, u = 0;
-    plain_write_batch(batch_ns, batch_counts, BATCH, batch_fars, all, batch_costs, all, plain_batch_bytes, sizeof plain_batch_bytes, &u);
+    plain_write_batch(form, batch_ns, batch_counts, BATCH, batch_fars, all, batch_costs, all, plain_batch_bytes, sizeof plain_batch_bytes, &u);
     sink = u;
 }
-static void ours_read_links(void) { sink = kemotuiki_read_links(link_bytes, stored_links, 0, plain_fars, 125, plain_costs, 125).used; }
-static void c_read_links(void) { size_t m = 0, k = 0, u = 0; plain_read_links(link_bytes, stored_links, 0, plain_fars, plain_costs, 125, &m, &k, &u); sink = u; }
+static void ours_read_links(void) { sink = kemotuiki_read_links(link_bytes[form], stored_links[form], 0, plain_fars, 125, plain_costs, 125).used; }
+static void c_read_links(void) { size_t m = 0, k = 0, u = 0; plain_read_links(link_bytes[form], stored_links[form], 0, plain_fars, plain_costs, 125, &m, &k, &u); sink = u; }
+static void ours_convert_links(void) { sink = kemotuiki_convert_links(form, link_bytes[!form], stored_links[!form], bytes, sizeof bytes).used; }
+static void c_convert_links(void) { size_t u = 0; plain_convert_links(form, link_bytes[!form], stored_links[!form], plain_bytes, sizeof plain_bytes, &u); sink = u; }
 
-static void ours_choice(void) { KemotuikiChoice r = kemotuiki_choice(fewer_bytes, stored_fewer, link_bytes, stored_links); sink = r.chosen + 10 * r.used; }
-static void c_choice(void) { size_t k = 0, u = 0; plain_choice(fewer_bytes, stored_fewer, link_bytes, stored_links, &k, &u); sink = k + 10 * u; }
+static void ours_choice(void) { KemotuikiChoice r = kemotuiki_choice(fewer_bytes, stored_fewer, link_bytes[form], stored_links[form]); sink = r.chosen + 10 * r.used; }
+static void c_choice(void) { size_t k = 0, u = 0; plain_choice(fewer_bytes, stored_fewer, link_bytes[form], stored_links[form], &k, &u); sink = k + 10 * u; }
 
 /* Sixteen tables of one tree, with its costs once, twice or three times, so that all rows are shared and none is the last table's. */
 static void fill_team(void) {
@@ -77,7 +84,7 @@ static void fill_batch(void) {
     }
 }
 
-/* The same tree with every second inner link left out, stored: what the whole tree is chosen against. */
+/* The same tree with every second inner link left out, stored in the old form: what the whole tree is chosen against. */
 static void store_fewer(void) {
     size_t kept = 0, inner = 0;
     for (size_t i = 0; i < rows; i++) {
@@ -85,7 +92,7 @@ static void store_fewer(void) {
         if (!own && inner++ % 2) continue;
         plain_fars[kept] = fars[i], plain_costs[kept++] = costs[i];
     }
-    stored_fewer = kemotuiki_write_links(n, kept, plain_fars, kept, plain_costs, kept, fewer_bytes, sizeof fewer_bytes).used;
+    stored_fewer = kemotuiki_write_links(KEMOTUIKI_OLD_FORM, n, kept, plain_fars, kept, plain_costs, kept, fewer_bytes, sizeof fewer_bytes).used;
 }
 
 static void race_both(const char *name, Call *ours, Call *plain) {
@@ -103,6 +110,43 @@ static void race_both(const char *name, Call *ours, Call *plain) {
 }
 
 static int rows_differ(void) { return plain_rows != rows || memcmp(fars, plain_fars, rows * 8) || memcmp(costs, plain_costs, rows * 4); }
+
+/* What both wrote last, whose length is in the sink: status 1 if it differs; else it is kept. */
+static int keep(uint8_t *kept, size_t *length) {
+    if (memcmp(bytes, plain_bytes, sink)) return 1;
+    memcpy(kept, bytes, sink);
+    *length = sink;
+    return 0;
+}
+
+/* The calls that write and read stored tables, in each form; then each way between the forms, which must give the same bytes again. */
+static int stored_forms(void) {
+    static const char *const names[2][8] = {
+        {"write_costs", "read_costs", "write_links", "write_batch of 3 tables", "read_links", "choice", "convert_costs, new to old", "convert_links, new to old"},
+        {"write_costs, new form", "read_costs, new form", "write_links, new form", "write_batch of 3 tables, new form", "read_links, new form",
+         "choice, old and new", "convert_costs, old to new", "convert_links, old to new"}};
+    fill_batch();
+    for (form = 0; form < 2; form++) {
+        race_both(names[form][0], ours_write_costs, c_write_costs);
+        if (keep(cost_bytes[form], &stored_costs[form])) return 1;
+        race_both(names[form][1], ours_read_costs, c_read_costs);
+        if (memcmp(back, tree, n * n * 4)) return 1;
+        race_both(names[form][2], ours_write_links, c_write_links);
+        if (keep(link_bytes[form], &stored_links[form])) return 1;
+        race_both(names[form][3], ours_write_batch, c_write_batch);
+        if (memcmp(batch_bytes, plain_batch_bytes, sink)) return 1;
+        race_both(names[form][4], ours_read_links, c_read_links);
+        store_fewer();
+        race_both(names[form][5], ours_choice, c_choice);
+    }
+    for (form = 0; form < 2; form++) {
+        race_both(names[form][6], ours_convert_costs, c_convert_costs);
+        if (sink != stored_costs[form] || memcmp(bytes, plain_bytes, sink) || memcmp(bytes, cost_bytes[form], sink)) return 1;
+        race_both(names[form][7], ours_convert_links, c_convert_links);
+        if (sink != stored_links[form] || memcmp(bytes, plain_bytes, sink) || memcmp(bytes, link_bytes[form], sink)) return 1;
+    }
+    return 0;
+}
 
 /* One pass over all calls; status 1 if two answers differ. */
 static int all_calls(void) {
@@ -131,19 +175,7 @@ static int all_calls(void) {
             race_both("consensus of 16 tables", ours_consensus, c_consensus);
             if (memcmp(shared_fars, plain_fars, plain_rows * 8) || memcmp(shared_costs, plain_costs, plain_rows * 4)) return 1;
         }
-        race_both("write_costs", ours_write_costs, c_write_costs);
-        stored_costs = sink;
-        if (memcmp(cost_bytes, bytes, stored_costs)) return 1;
-        race_both("read_costs", ours_read_costs, c_read_costs);
-        race_both("write_links", ours_write_links, c_write_links);
-        stored_links = sink;
-        if (memcmp(link_bytes, bytes, stored_links)) return 1;
-        fill_batch();
-        race_both("write_batch of 3 tables", ours_write_batch, c_write_batch);
-        if (memcmp(batch_bytes, plain_batch_bytes, sink)) return 1;
-        race_both("read_links", ours_read_links, c_read_links);
-        store_fewer();
-        race_both("choice", ours_choice, c_choice);
+        if (stored_forms()) return 1;
     }
     return 0;
 }

@@ -12,11 +12,14 @@ int plain_exact_grafted(size_t n, const uint32_t *t, size_t t_count, uint64_t *f
 int plain_compare(size_t n, const uint32_t *first, size_t first_count, const uint32_t *second, size_t second_count, size_t v[5]);
 int plain_consensus(size_t n, size_t number, const uint32_t *tables, size_t tables_count, uint64_t *fars, uint32_t *costs, size_t room,
                     size_t *rows);
-int plain_write_costs(size_t n, const uint32_t *t, size_t t_count, uint8_t *out, size_t room, size_t *used);
+int plain_write_costs(size_t form, size_t n, const uint32_t *t, size_t t_count, uint8_t *out, size_t room, size_t *used);
 int plain_read_costs(const uint8_t *bytes, size_t count, size_t position, uint32_t *out, size_t room, size_t *n, size_t *used);
-int plain_write_links(size_t n, size_t count, const uint64_t *fars, const uint32_t *costs, uint8_t *out, size_t room, size_t *used);
-int plain_write_batch(const uint32_t *ns, const uint32_t *counts, size_t tables, const uint64_t *fars, size_t fars_count, const uint32_t *costs,
-                      size_t costs_count, uint8_t *out, size_t room, size_t *used);
+int plain_convert_costs(size_t form, const uint8_t *bytes, size_t count, uint8_t *out, size_t room, size_t *used);
+int plain_write_links(size_t form, size_t n, size_t count, const uint64_t *fars, const uint32_t *costs, uint8_t *out, size_t room,
+                      size_t *used);
+int plain_convert_links(size_t form, const uint8_t *bytes, size_t count, uint8_t *out, size_t room, size_t *used);
+int plain_write_batch(size_t form, const uint32_t *ns, const uint32_t *counts, size_t tables, const uint64_t *fars, size_t fars_count,
+                      const uint32_t *costs, size_t costs_count, uint8_t *out, size_t room, size_t *used);
 int plain_read_links(const uint8_t *bytes, size_t count, size_t position, uint64_t *fars, uint32_t *costs, size_t room, size_t *n,
                      size_t *rows, size_t *used);
 int plain_choice(const uint8_t *first, size_t first_count, const uint8_t *second, size_t second_count, size_t *table, size_t *used);

@@ -14,6 +14,9 @@
 ! Entries, costs, images, rows and counts are default integers, 32 bits in arrays; far sides are integer(int64), stored bytes
 ! integer(int8).
 !
+! What writes stored bytes is told the form first: kemotuiki_old_form, for entries to 1,000,000 and doubled costs to 2,000,000, which
+! every version reads; or kemotuiki_new_form, for every table. What reads them takes both.
+!
 ! Fortran has no unsigned integers. A far side is 64 bits, image i is bit i-1, btest(far, i-1). With 64 images a far side that holds
 ! image 64 is negative as a signed number; its bits are right, and such rows stand last, since far sides ascend as unsigned numbers.
 ! Stored bytes from 128 on are negative likewise.
@@ -24,14 +27,21 @@ module kemotuiki
     private
 
     ! The version, as the file VERSION has it.
-    character(*), parameter, public :: kemotuiki_version = '2.1.0'
-    integer, parameter, public :: kemotuiki_version_major = 2, kemotuiki_version_minor = 1, kemotuiki_version_patch = 0
+    character(*), parameter, public :: kemotuiki_version = '3.0.0'
+    integer, parameter, public :: kemotuiki_version_major = 3, kemotuiki_version_minor = 0, kemotuiki_version_patch = 0
 
-    ! Room that is enough for every n: images, rows of a tree, bytes of the stored forms; the tables of a team; and bytes of a
-    ! refusal's text.
+    ! Room that is enough for every n: images, rows of a tree, bytes of a stored table in either form, and in the old form alone; the
+    ! tables of a team; and bytes of a refusal's text.
     integer, parameter, public :: kemotuiki_images = 64, kemotuiki_rows = 125, kemotuiki_tables = 16
-    integer, parameter, public :: kemotuiki_cost_bytes = 5041, kemotuiki_link_bytes = 1315
+    integer, parameter, public :: kemotuiki_cost_bytes = 5798, kemotuiki_link_bytes = 1362
+    integer, parameter, public :: kemotuiki_old_cost_bytes = 5041, kemotuiki_old_link_bytes = 1315
     integer, parameter :: text_bytes = 192
+
+    ! The largest entry of a cost table, and the largest that the old stored form takes. A doubled cost is at most twice as much.
+    integer, parameter, public :: kemotuiki_entry_limit = 8000000, kemotuiki_old_entry_limit = 1000000
+
+    ! The form that a writer is told. Every other number is the new form too.
+    integer, parameter, public :: kemotuiki_old_form = 0, kemotuiki_new_form = 1
 
     ! What an answer's number says; kemotuiki.h has what its places are.
     integer, parameter, public :: &
@@ -51,7 +61,8 @@ module kemotuiki
         kemotuiki_own_link_missing = 13, &
         kemotuiki_neither_includes = 14, &
         kemotuiki_different_n = 15, &
-        kemotuiki_bad_table_count = 16
+        kemotuiki_bad_table_count = 16, &
+        kemotuiki_above_old_limits = 17
 
     ! What all answers begin with: the refusal's number or 0, the table that was refused in calls that take more than one, and the
     ! places. A place is the argument unchanged, so one above 2^63 - 1 is negative here.
@@ -97,6 +108,7 @@ module kemotuiki
     public :: kemotuiki_index, kemotuiki_order, kemotuiki_measured, kemotuiki_exact, kemotuiki_exact_grafted, kemotuiki_path
     public :: kemotuiki_upper_rows, kemotuiki_route, kemotuiki_compare, kemotuiki_consensus, kemotuiki_write_costs
     public :: kemotuiki_read_costs, kemotuiki_write_links, kemotuiki_read_links, kemotuiki_write_batch, kemotuiki_choice
+    public :: kemotuiki_convert_costs, kemotuiki_convert_links
 
     ! Far sides and bit positions may be of either kind. A far side that holds image 32 or a later one needs int64: as a default integer
     ! it would be negative, or not fit.
@@ -141,6 +153,18 @@ module kemotuiki
     procedure(c_reading), bind(c, name='kemotuiki_measured') :: c_measured
     procedure(c_reading), bind(c, name='kemotuiki_exact') :: c_exact
     procedure(c_reading), bind(c, name='kemotuiki_exact_grafted') :: c_exact_grafted
+
+    abstract interface
+        function c_conversion(form, bytes, bytes_count, out, out_count) result(r) bind(c)
+            import
+            integer(word), value :: form, bytes_count, out_count
+            integer(c_int8_t), intent(in) :: bytes(*)
+            integer(c_int8_t), intent(inout) :: out(*)
+            type(one_value) :: r
+        end function
+    end interface
+    procedure(c_conversion), bind(c, name='kemotuiki_convert_costs') :: c_convert_costs
+    procedure(c_conversion), bind(c, name='kemotuiki_convert_links') :: c_convert_links
 
     interface
         function c_index(n, t, t_count, s) result(r) bind(c, name='kemotuiki_index')
@@ -197,9 +221,9 @@ module kemotuiki
             integer(c_int32_t), intent(inout) :: costs(*)
             type(one_value) :: r
         end function
-        function c_write_costs(n, t, t_count, out, out_count) result(r) bind(c, name='kemotuiki_write_costs')
+        function c_write_costs(form, n, t, t_count, out, out_count) result(r) bind(c, name='kemotuiki_write_costs')
             import
-            integer(word), value :: n, t_count, out_count
+            integer(word), value :: form, n, t_count, out_count
             integer(c_int32_t), intent(in) :: t(*)
             integer(c_int8_t), intent(inout) :: out(*)
             type(one_value) :: r
@@ -211,10 +235,10 @@ module kemotuiki
             integer(c_int32_t), intent(inout) :: out(*)
             type(two_values) :: r
         end function
-        function c_write_links(n, count, fars, fars_count, costs, costs_count, out, out_count) result(r) &
+        function c_write_links(form, n, count, fars, fars_count, costs, costs_count, out, out_count) result(r) &
             bind(c, name='kemotuiki_write_links')
             import
-            integer(word), value :: n, count, fars_count, costs_count, out_count
+            integer(word), value :: form, n, count, fars_count, costs_count, out_count
             integer(c_int64_t), intent(in) :: fars(*)
             integer(c_int32_t), intent(in) :: costs(*)
             integer(c_int8_t), intent(inout) :: out(*)
@@ -229,10 +253,10 @@ module kemotuiki
             integer(c_int32_t), intent(inout) :: costs(*)
             type(three_values) :: r
         end function
-        function c_write_batch(ns, ns_count, counts, counts_count, fars, fars_count, costs, costs_count, out, out_count) &
+        function c_write_batch(form, ns, ns_count, counts, counts_count, fars, fars_count, costs, costs_count, out, out_count) &
             result(r) bind(c, name='kemotuiki_write_batch')
             import
-            integer(word), value :: ns_count, counts_count, fars_count, costs_count, out_count
+            integer(word), value :: form, ns_count, counts_count, fars_count, costs_count, out_count
             integer(c_int32_t), intent(in) :: ns(*), counts(*)
             integer(c_int64_t), intent(in) :: fars(*)
             integer(c_int32_t), intent(in) :: costs(*)
@@ -275,8 +299,8 @@ contains
 
     ! ---- the calls on cost tables ----
 
-    ! The index of the division of t with the far side s, below 0 by how far some choice of images speaks against it: from -2,000,000 to
-    ! 2,000,000.
+    ! The index of the division of t with the far side s, below 0 by how far some choice of images speaks against it: from -16,000,000
+    ! to 16,000,000.
     function index_int64(t, s) result(r)
         integer(int32), intent(in), contiguous :: t(:, :)
         integer(int64), intent(in) :: s
@@ -375,16 +399,27 @@ contains
         if (r%table > 0) call place_by_rows(r, tables(:, :, r%table))
     end function
 
-    ! The stored form of t, into out.
-    function kemotuiki_write_costs(t, out) result(r)
+    ! The stored form of t, old or new, into out.
+    function kemotuiki_write_costs(form, t, out) result(r)
+        integer, intent(in) :: form
         integer(int32), intent(in), contiguous :: t(:, :)
         integer(int8), intent(inout), contiguous :: out(:)
         type(kemotuiki_bytes_answer) :: r
-        r = bytes_answer(c_write_costs(size(t, 1, word), t, size(t, kind=word), out, size(out, kind=word)))
+        r = bytes_answer(c_write_costs(int(form, word), size(t, 1, word), t, size(t, kind=word), out, size(out, kind=word)))
         call place_by_rows(r, t)
     end function
 
-    ! The stored cost table at the bit position, into t(:n, :n), which is also its room. No table has more than kemotuiki_images.
+    ! The stored cost table at the front of bytes, which may have either form, into out in this form.
+    function kemotuiki_convert_costs(form, bytes, out) result(r)
+        integer, intent(in) :: form
+        integer(int8), intent(in), contiguous :: bytes(:)
+        integer(int8), intent(inout), contiguous :: out(:)
+        type(kemotuiki_bytes_answer) :: r
+        r = bytes_answer(c_convert_costs(int(form, word), bytes, size(bytes, kind=word), out, size(out, kind=word)))
+    end function
+
+    ! The stored cost table at the bit position, in either form, into t(:n, :n), which is also its room. No table has more images than
+    ! kemotuiki_images.
     function read_costs_int64(bytes, position, t) result(r)
         integer(int8), intent(in), contiguous :: bytes(:)
         integer(int64), intent(in) :: position
@@ -443,18 +478,27 @@ contains
                                 costs, size(costs, kind=word), int(i, word), out, size(out, kind=word)))
     end function
 
-    ! The stored form of the rows fars, costs over n images, into out.
-    function kemotuiki_write_links(n, fars, costs, out) result(r)
-        integer, intent(in) :: n
+    ! The stored form of the rows fars, costs over n images, old or new, into out.
+    function kemotuiki_write_links(form, n, fars, costs, out) result(r)
+        integer, intent(in) :: form, n
         integer(int64), intent(in), contiguous :: fars(:)
         integer(int32), intent(in), contiguous :: costs(:)
         integer(int8), intent(inout), contiguous :: out(:)
         type(kemotuiki_bytes_answer) :: r
-        r = bytes_answer(c_write_links(int(n, word), size(fars, kind=word), fars, size(fars, kind=word), &
+        r = bytes_answer(c_write_links(int(form, word), int(n, word), size(fars, kind=word), fars, size(fars, kind=word), &
                                        costs, size(costs, kind=word), out, size(out, kind=word)))
     end function
 
-    ! The stored link table at the bit position, into fars and costs.
+    ! The stored link table at the front of bytes, which may have either form, into out in this form.
+    function kemotuiki_convert_links(form, bytes, out) result(r)
+        integer, intent(in) :: form
+        integer(int8), intent(in), contiguous :: bytes(:)
+        integer(int8), intent(inout), contiguous :: out(:)
+        type(kemotuiki_bytes_answer) :: r
+        r = bytes_answer(c_convert_links(int(form, word), bytes, size(bytes, kind=word), out, size(out, kind=word)))
+    end function
+
+    ! The stored link table at the bit position, in either form, into fars and costs.
     function read_links_int64(bytes, position, fars, costs) result(r)
         integer(int8), intent(in), contiguous :: bytes(:)
         integer(int64), intent(in) :: position
@@ -475,19 +519,20 @@ contains
         r = read_links_int64(bytes, int(position, int64), fars, costs)
     end function
 
-    ! The stored forms of many link tables one after another, into out: table k is over ns(k) images and has counts(k) rows, and the
-    ! rows of all are joined in fars and costs.
-    function kemotuiki_write_batch(ns, counts, fars, costs, out) result(r)
+    ! Many link tables, all in this form, one after another into out: table k is over ns(k) images and has counts(k) rows, and the rows
+    ! of all are joined in fars and costs.
+    function kemotuiki_write_batch(form, ns, counts, fars, costs, out) result(r)
+        integer, intent(in) :: form
         integer(int32), intent(in), contiguous :: ns(:), counts(:)
         integer(int64), intent(in), contiguous :: fars(:)
         integer(int32), intent(in), contiguous :: costs(:)
         integer(int8), intent(inout), contiguous :: out(:)
         type(kemotuiki_bytes_answer) :: r
-        r = bytes_answer(c_write_batch(ns, size(ns, kind=word), counts, size(counts, kind=word), &
+        r = bytes_answer(c_write_batch(int(form, word), ns, size(ns, kind=word), counts, size(counts, kind=word), &
                                        fars, size(fars, kind=word), costs, size(costs, kind=word), out, size(out, kind=word)))
     end function
 
-    ! Of two stored link tables the one that includes the other.
+    ! Of two stored link tables, each in a form of its own, the one that includes the other.
     function kemotuiki_choice(first, second) result(r)
         integer(int8), intent(in), contiguous :: first(:), second(:)
         type(kemotuiki_choice_answer) :: r
@@ -517,7 +562,7 @@ contains
     end function
 
     ! Fortran has the columns of a table one after another in memory and C its rows, so that C is lent the transpose. Only refusal 4
-    ! tells them apart: it is given for both or for neither, before 5, 6 and 7, which name the same places of both. So where t was
+    ! tells them apart: it is given for both or for neither, before 5, 6, 7 and 17, which name the same places of both. So where t was
     ! refused by 4, C is asked once more with t by rows; the index call looks for 4 before it looks at the far side.
     subroutine place_by_rows(r, t)
         class(kemotuiki_answer), intent(inout) :: r

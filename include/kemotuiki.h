@@ -1,10 +1,14 @@
 /*
  * Kemotuiki: relay trees from link costs.
  *
- * A cost table over n images, n from 3 to 64, is n*n numbers, row by row: each at most 1,000,000, zero diagonal, symmetric.
+ * A cost table over n images, n from 3 to 64, is n*n numbers, row by row: each at most 8,000,000, zero diagonal, symmetric.
  * A division of the images is named by its far side, the group without image 1, as the sum of 2^(i-1) over its images i.
- * A link table is rows of a far side and a doubled cost, far sides strictly ascending, from n to 2n-3 rows.
+ * A link table is rows of a far side and a doubled cost, at most 16,000,000, far sides strictly ascending, from n to 2n-3 rows.
  * Images, rows and tables are counted from 1.
+ *
+ * Both kinds of table have two stored forms. The old form is for entries to 1,000,000 and doubled costs to 2,000,000, and is the
+ * one that versions before 3 read. The new form takes every table and is a little longer. Whoever reads takes both, since the
+ * first seven bits tell them apart; whoever writes is told which one to write.
  *
  * Every call takes every argument: it answers or refuses, and always ends. A slice is a pointer and the count of its
  * elements; with count 0 the pointer may be null. Any other pointer is to that many elements, aligned as its type asks.
@@ -25,21 +29,27 @@
 #include <stdint.h>
 
 /* The version, as the file VERSION has it. */
-#define KEMOTUIKI_VERSION "2.1.0"
-#define KEMOTUIKI_VERSION_MAJOR 2
-#define KEMOTUIKI_VERSION_MINOR 1
+#define KEMOTUIKI_VERSION "3.0.0"
+#define KEMOTUIKI_VERSION_MAJOR 3
+#define KEMOTUIKI_VERSION_MINOR 0
 #define KEMOTUIKI_VERSION_PATCH 0
 
 /*
- * Room that is enough for every n: images, rows of a tree, bytes of the stored forms; the most tables of a team; and bytes of a
- * refusal's text.
+ * Room that is enough for every n: images, rows of a tree, bytes of a stored table in either form, and in the old form alone; the
+ * most tables of a team; and bytes of a refusal's text.
  */
 #define KEMOTUIKI_IMAGES 64
 #define KEMOTUIKI_ROWS 125
-#define KEMOTUIKI_COST_BYTES 5041
-#define KEMOTUIKI_LINK_BYTES 1315
+#define KEMOTUIKI_COST_BYTES 5798
+#define KEMOTUIKI_LINK_BYTES 1362
+#define KEMOTUIKI_OLD_COST_BYTES 5041
+#define KEMOTUIKI_OLD_LINK_BYTES 1315
 #define KEMOTUIKI_TABLES 16
 #define KEMOTUIKI_TEXT_BYTES 192
+
+/* The largest entry of a cost table, and the largest that the old stored form takes. A doubled cost is at most twice as much. */
+#define KEMOTUIKI_ENTRY_LIMIT 8000000
+#define KEMOTUIKI_OLD_ENTRY_LIMIT 1000000
 
 #if defined(__STDC_VERSION__) && __STDC_VERSION__ >= 199901L
 #define KEMOTUIKI_RESTRICT restrict
@@ -67,7 +77,7 @@ enum KemotuikiNumber {
     KEMOTUIKI_BAD_N = 1,             /* n outside 3..64: n */
     KEMOTUIKI_BAD_LENGTH = 2,        /* a slice's length does not fit n or the row count */
     KEMOTUIKI_NO_ROOM = 3,           /* too little room */
-    KEMOTUIKI_ENTRY_TOO_LARGE = 4,   /* entry above 1,000,000: row, column */
+    KEMOTUIKI_ENTRY_TOO_LARGE = 4,   /* entry above the limit, in an old stored table above the old one: row, column */
     KEMOTUIKI_DIAGONAL_NOT_ZERO = 5, /* diagonal not zero: image */
     KEMOTUIKI_ASYMMETRIC = 6,        /* asymmetric: row, column */
     KEMOTUIKI_NO_WIRING = 7,         /* no wiring: four images */
@@ -79,7 +89,14 @@ enum KemotuikiNumber {
     KEMOTUIKI_OWN_LINK_MISSING = 13, /* an own link is missing: image */
     KEMOTUIKI_NEITHER_INCLUDES = 14, /* neither table includes the other */
     KEMOTUIKI_DIFFERENT_N = 15,      /* stored tables of different n */
-    KEMOTUIKI_BAD_TABLE_COUNT = 16   /* no tables or more than sixteen */
+    KEMOTUIKI_BAD_TABLE_COUNT = 16,  /* no tables or more than sixteen */
+    KEMOTUIKI_ABOVE_OLD_LIMITS = 17  /* number above the old limits, so not for the old form: row, and column of a cost table */
+};
+
+/* The form that a writer is told. Every other number is the new form too, so that each has a meaning and none is refused. */
+enum KemotuikiForm {
+    KEMOTUIKI_OLD_FORM = 0,
+    KEMOTUIKI_NEW_FORM = 1
 };
 
 /*
@@ -159,8 +176,8 @@ KEMOTUIKI_ASSERT(kemotuiki_choice_size, sizeof(KemotuikiChoice) == 64);
 /*
  * The index of the division with the far side s. Above 0, all choices of images support the division, by at least so much, and the
  * measured reading draws it with this doubled cost. At 0 and below, it draws no inner link, and an own link with cost 0; below 0,
- * some choice of images speaks against the division by so much, and none by more. Never above 2,000,000, never below -2,000,000,
- * for own links never below -1,000,000.
+ * some choice of images speaks against the division by so much, and none by more. Never above 16,000,000, never below -16,000,000,
+ * for own links never below -8,000,000.
  * Answers the index. Refusals 1, 2, 4, 5, 6, 12.
  */
 KemotuikiIndex kemotuiki_index(size_t n, const uint32_t *t, size_t t_count, uint64_t s);
@@ -242,53 +259,75 @@ KemotuikiRows kemotuiki_consensus(size_t n, size_t number, const uint32_t *table
                                   uint32_t *KEMOTUIKI_RESTRICT costs, size_t costs_count);
 
 /*
- * The stored form of a cost table.
- * Answers the bytes written to out, each by one store; none is loaded. Room: those bytes, (7 + 10*n*(n-1) + 7) / 8. Refusals 1,
- * 2, 4, 5, 6, 3.
+ * The stored form of a cost table, in the form that is told.
+ * Answers the bytes written to out, each by one store; none is loaded. Room: those bytes, (7 + 10*n*(n-1) + 7) / 8 in the old form
+ * and (14 + 23*n*(n-1)/2 + 7) / 8 in the new one. Refusals 1, 2, 4, 5, 6, 17, 3; 17 in the old form alone, at the lowest row and
+ * column with an entry above KEMOTUIKI_OLD_ENTRY_LIMIT: the new form takes that table.
  */
-KemotuikiBytes kemotuiki_write_costs(size_t n, const uint32_t *t, size_t t_count,
+KemotuikiBytes kemotuiki_write_costs(size_t form, size_t n, const uint32_t *t, size_t t_count,
                                      uint8_t *KEMOTUIKI_RESTRICT out, size_t out_count);
 
 /*
- * The stored cost table that begins at a bit position, which is the start of a byte.
+ * The stored cost table, in either form, that begins at a bit position, which is the start of a byte.
  * Answers n, of which n*n entries are written to out, and the used bytes: the next table begins at position + 8 * used.
- * Room: n*n places. Refusals 9, 1, 3, 9, 11, 4.
+ * Room: n*n places. Refusals 9, 1, 3, 9, 11, 4; 4 at an entry above the limit of its form.
  */
 KemotuikiCosts kemotuiki_read_costs(const uint8_t *bytes, size_t bytes_count, size_t position,
                                     uint32_t *KEMOTUIKI_RESTRICT out, size_t out_count);
 
 /*
- * The stored form of the link table of count rows.
- * Answers the bytes written to out, each by one store; none is loaded. Room: those bytes, (14 + count*(n+20) + 7) / 8. Refusals
- * 1, 10, 2, 12, 13, 3.
+ * The stored form of the link table of count rows, in the form that is told.
+ * Answers the bytes written to out, each by one store; none is loaded. Room: those bytes, (14 + count*(n+20) + 7) / 8 in the old
+ * form and (21 + count*(n+23) + 7) / 8 in the new one. Refusals 1, 10, 2, 12, 13, 17, 3; 17 in the old form alone, at the lowest
+ * row with a doubled cost above 2 * KEMOTUIKI_OLD_ENTRY_LIMIT: the new form takes that table.
  */
-KemotuikiBytes kemotuiki_write_links(size_t n, size_t count, const uint64_t *fars, size_t fars_count,
+KemotuikiBytes kemotuiki_write_links(size_t form, size_t n, size_t count, const uint64_t *fars, size_t fars_count,
                                      const uint32_t *costs, size_t costs_count,
                                      uint8_t *KEMOTUIKI_RESTRICT out, size_t out_count);
 
 /*
- * The stored link table that begins at a bit position, which is the start of a byte.
+ * The stored link table, in either form, that begins at a bit position, which is the start of a byte.
  * Answers n, the rows written to fars and costs, and the used bytes: the next table begins at position + 8 * used.
- * Room: 2n-3 places in each. Refusals 9, 1, 10, 3, 9, 11, 12, 13.
+ * Room: 2n-3 places in each. Refusals 9, 1, 10, 3, 9, 11, 12, 13; 12 also at a cost above the limit of its form.
  */
 KemotuikiLinks kemotuiki_read_links(const uint8_t *bytes, size_t bytes_count, size_t position,
                                     uint64_t *KEMOTUIKI_RESTRICT fars, size_t fars_count,
                                     uint32_t *KEMOTUIKI_RESTRICT costs, size_t costs_count);
 
 /*
- * Link tables stored one after another. ns and counts say, table by table, the number of images and the row count; fars and
- * costs are the rows of all tables joined.
+ * A stored cost table once more, in the form that is told. It stands at the front of bytes in either form, and what follows it
+ * plays no part. To the new form every table goes, with the same entries, and an old one from there back to the same bytes; to the
+ * old form it goes where no entry is above KEMOTUIKI_OLD_ENTRY_LIMIT; to the form that it has it is copied.
+ * Answers the bytes written to out, each by one store; none is loaded. Room: those bytes, as of kemotuiki_write_costs. Refusals 9,
+ * 1, 9, 11, 4, 17, 3.
+ */
+KemotuikiBytes kemotuiki_convert_costs(size_t form, const uint8_t *bytes, size_t bytes_count,
+                                       uint8_t *KEMOTUIKI_RESTRICT out, size_t out_count);
+
+/*
+ * A stored link table once more, in the form that is told, likewise: to the old form it goes where no doubled cost is above
+ * 2 * KEMOTUIKI_OLD_ENTRY_LIMIT.
+ * Answers the bytes written to out, each by one store; none is loaded. Room: those bytes, as of kemotuiki_write_links. Refusals 9,
+ * 1, 10, 9, 11, 12, 13, 17, 3.
+ */
+KemotuikiBytes kemotuiki_convert_links(size_t form, const uint8_t *bytes, size_t bytes_count,
+                                       uint8_t *KEMOTUIKI_RESTRICT out, size_t out_count);
+
+/*
+ * Link tables stored one after another, all in the form that is told. ns and counts say, table by table, the number of images and
+ * the row count; fars and costs are the rows of all tables joined.
  * Answers the bytes written to out, each by one store; none is loaded. Room: the bytes of all tables. Refusals 2 with table 0
  * where ns and counts differ in length; then table by table, with its number, those of kemotuiki_write_links, 2 where either
  * joined slice runs out; 2 with the last table's number, 0 in an empty batch, where rows are left over.
  */
-KemotuikiBytes kemotuiki_write_batch(const uint32_t *ns, size_t ns_count, const uint32_t *counts, size_t counts_count,
+KemotuikiBytes kemotuiki_write_batch(size_t form, const uint32_t *ns, size_t ns_count,
+                                     const uint32_t *counts, size_t counts_count,
                                      const uint64_t *fars, size_t fars_count, const uint32_t *costs, size_t costs_count,
                                      uint8_t *KEMOTUIKI_RESTRICT out, size_t out_count);
 
 /*
  * Of two stored link tables over the same images, the one whose inner far sides include all of the other's; the first if
- * both do. Each stands at the front of its buffer.
+ * both do. Each stands at the front of its buffer, in a form of its own.
  * Refusals 9, 1, 10, 9, 11, 12, 13 of the first table and then of the second, with the table's number; 15; 14, both with
  * table 0.
  */

@@ -1,11 +1,14 @@
 #!/usr/bin/env python3
 """Turns a cost table that is given as text into its stored form, and a stored one back into text.
 
-    python3 scripts/store.py [FILE] > table      the text in FILE, or on standard input: without FILE, or where it is -
-    python3 scripts/store.py N COST.. > table    N images and the costs of the upper triangle
-    python3 scripts/store.py --matrix [FILE]     prints a stored table, from FILE or standard input, as a matrix
+    python3 scripts/store.py [--form F] [FILE] > table      the text in FILE, or on standard input: without FILE, or where it is -
+    python3 scripts/store.py [--form F] N COST.. > table    N images and the costs of the upper triangle
+    python3 scripts/store.py --matrix [FILE]                prints a stored table, from FILE or standard input, as a matrix
 
 A first argument that is a number is N; a file of such a name is given as ./4.
+
+F is old or new. The old form is for costs to 1,000,000, and it is written where nothing is said, since programs before
+version 3 read no other; the new form is for costs to 8,000,000. A matrix is printed of either.
 
 Text has one row a line: whole numbers with blanks, tabs, commas or semicolons between them. Empty lines and lines that begin
 with # are skipped. There are three shapes, and the one that more lines fit is meant:
@@ -24,8 +27,11 @@ import re
 import sys
 
 FEWEST_IMAGES, MOST_IMAGES = 3, 64
-MOST_COST = 1_000_000
-IMAGES_BITS, COST_BITS = 7, 20
+MOST_COST = 8_000_000
+IMAGES_BITS = 7
+
+# The stored forms: the bits in front of n, the bits of a cost, and the largest cost.
+FORMS = {"old": ("", 20, 1_000_000), "new": ("1111111", 23, MOST_COST)}
 
 
 class Refused(Exception):
@@ -53,7 +59,7 @@ def pairs(n):
     return [(i, j) for i in range(1, n + 1) for j in range(i + 1, n + 1)]
 
 
-def cost_of(word, row, column, *line):
+def cost_of(word, row, column, *line, most=MOST_COST):
     """The cost that the word is, or what is wrong with it."""
     try:
         value = float(word)
@@ -62,7 +68,7 @@ def cost_of(word, row, column, *line):
     wrong = (f'"{word}" is no number' if value is None else
              f"{word} is below 0" if value < 0 else
              f"{word} is not written as a whole number" if not re.fullmatch("[0-9]+", word) else
-             f"{word} is above {MOST_COST:,}" if value > MOST_COST else None)
+             f"{word} is above {most:,}" if value > most else None)
     if wrong:
         raise Refused(f"row {row}, column {column}: {wrong}", *line)
     return int(value)
@@ -127,28 +133,37 @@ def from_words(n, words):
 
 
 def from_stored(data):
-    """n and the upper triangle of the stored table at the front of these bytes."""
+    """n and the upper triangle of the stored table at the front of these bytes, in the form that its first bits say."""
     if not data:
         raise Refused("there are no bytes")
     bits = "".join(f"{byte:08b}" for byte in data)
-    n = int(bits[:IMAGES_BITS], 2)
+    mark, cost_bits, most = FORMS["new" if bits.startswith(FORMS["new"][0]) else "old"]
+    start = len(mark) + IMAGES_BITS
+    if len(bits) < start:
+        raise Refused("the bytes end early: the new form has 2 before the costs, and there is 1")
+    n = int(bits[len(mark):start], 2)
     check_images(n)
-    end = IMAGES_BITS + COST_BITS * len(pairs(n))
+    end = start + cost_bits * len(pairs(n))
     used = (end + 7) // 8
     if len(data) < used:
         raise Refused(f"the bytes end early: {n} images need {used}, and there are {len(data)}")
     if "1" in bits[end:8 * used]:
         raise Refused(f"the bits that fill byte {used}, the last of {n} images, are not zero")
-    fields = [bits[at:at + COST_BITS] for at in range(IMAGES_BITS, end, COST_BITS)]
-    costs = [cost_of(str(int(field, 2)), row, column) for field, (row, column) in zip(fields, pairs(n))]
+    fields = [bits[at:at + cost_bits] for at in range(start, end, cost_bits)]
+    costs = [cost_of(str(int(field, 2)), row, column, most=most) for field, (row, column) in zip(fields, pairs(n))]
     if len(data) > used:
         note(f"{counted(len(data) - used, 'byte')} behind the table of {used} bytes, not looked at")
     return n, costs
 
 
-def stored(n, costs):
-    """The stored form: fields of bits, the most significant first, and zeros behind them to a whole byte."""
-    bits = f"{n:0{IMAGES_BITS}b}" + "".join(f"{cost:0{COST_BITS}b}" for cost in costs)
+def stored(form, n, costs):
+    """The stored form: fields of bits, the most significant first, and zeros behind them to a whole byte. The old form is
+    refused where a cost is above its limit."""
+    mark, cost_bits, most = FORMS[form]
+    for cost, (row, column) in zip(costs, pairs(n)):
+        if cost > most:
+            raise Refused(f"row {row}, column {column}: {cost} is above {most:,}, the limit of the old form; --form new takes it")
+    bits = mark + f"{n:0{IMAGES_BITS}b}" + "".join(f"{cost:0{cost_bits}b}" for cost in costs)
     bits += "0" * (-len(bits) % 8)
     return bytes(int(bits[at:at + 8], 2) for at in range(0, len(bits), 8))
 
@@ -162,19 +177,22 @@ def matrix(n, costs):
 
 def main(arguments):
     """Writes the answer, or says why there is none."""
+    form, told = "old", arguments[:1] == ["--form"]
+    if told:
+        form, arguments = "".join(arguments[1:2]), arguments[2:]
     back = arguments[:1] == ["--matrix"]
     name, *more = arguments[back:] or ["-"]
     by_arguments = not back and re.fullmatch("[0-9]{1,9}", name)
-    if not by_arguments and (more or name.startswith("-") and name != "-"):
+    if form not in FORMS or told and back or not by_arguments and (more or name.startswith("-") and name != "-"):
         print(__doc__.strip(), file=sys.stderr)
         return 2
     try:
         if by_arguments:
-            answer = stored(*from_words(int(name), more))
+            answer = stored(form, *from_words(int(name), more))
         else:
             with sys.stdin.buffer if name == "-" else open(name, "rb") as file:
                 data = file.read()
-            answer = matrix(*from_stored(data)) if back else stored(*from_text(data))
+            answer = matrix(*from_stored(data)) if back else stored(form, *from_text(data))
     except OSError as error:
         note(f"{name} cannot be read: {error.strerror}")
         return 1

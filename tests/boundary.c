@@ -1,8 +1,9 @@
 /*
  * The cases of crates/cases/data through the archive: boundary DATA prints what crates/cases/stdout has for the calls that are
  * exported. Every lent buffer stands between guard bytes, which are compared after the call, and every input is compared with
- * a copy. Each case of the exact reading is read by both its engines, which must answer and leave the same. boundary --edges tries
- * null pointers with count 0, numbers too large for anything, and the text of every answer.
+ * a copy. Each case of the exact reading is read by both its engines, which must answer and leave the same; what a conversion wrote is
+ * converted once more, to the form that it has, and must stay. boundary --edges tries null pointers with count 0, numbers too large
+ * for anything, the longest stored tables, and the text of every answer.
  */
 #include <errno.h>
 #include <stdio.h>
@@ -276,10 +277,10 @@ static void do_consensus(void) {
 
 static void do_write_costs(void) {
     Lent lt, lo;
-    size_t n = number();
+    size_t form = number(), n = number();
     uint32_t *t = read32(&lt);
     uint8_t *out = read8(&lo);
-    KemotuikiBytes r = kemotuiki_write_costs(n, t, lt.count, out, lo.count);
+    KemotuikiBytes r = kemotuiki_write_costs(form, n, t, lt.count, out, lo.count);
     if (ANSWER(r, 0)) printf(" %zu", r.used);
     show8(out, lo.count);
     settle(&lt, 0);
@@ -300,11 +301,11 @@ static void do_read_costs(void) {
 
 static void do_write_links(void) {
     Lent lf, lc, lo;
-    size_t n = number(), count = number();
+    size_t form = number(), n = number(), count = number();
     uint64_t *fars = read64(&lf);
     uint32_t *costs = read32(&lc);
     uint8_t *out = read8(&lo);
-    KemotuikiBytes r = kemotuiki_write_links(n, count, fars, lf.count, costs, lc.count, out, lo.count);
+    KemotuikiBytes r = kemotuiki_write_links(form, n, count, fars, lf.count, costs, lc.count, out, lo.count);
     if (ANSWER(r, 0)) printf(" %zu", r.used);
     show8(out, lo.count);
     settle(&lf, 0);
@@ -329,11 +330,12 @@ static void do_read_links(void) {
 
 static void do_write_batch(void) {
     Lent ln, lm, lf, lc, lo;
+    size_t form = number();
     uint32_t *ns = read32(&ln), *counts = read32(&lm);
     uint64_t *fars = read64(&lf);
     uint32_t *costs = read32(&lc);
     uint8_t *out = read8(&lo);
-    KemotuikiBytes r = kemotuiki_write_batch(ns, ln.count, counts, lm.count, fars, lf.count, costs, lc.count, out, lo.count);
+    KemotuikiBytes r = kemotuiki_write_batch(form, ns, ln.count, counts, lm.count, fars, lf.count, costs, lc.count, out, lo.count);
     if (ANSWER(r, 1)) printf(" %zu", r.used);
     show8(out, lo.count);
     settle(&ln, 0);
@@ -352,6 +354,33 @@ static void do_choice(void) {
     settle(&la, 0);
     settle(&lb, 0);
 }
+
+typedef KemotuikiBytes Conversion(size_t, const uint8_t *, size_t, uint8_t *, size_t);
+
+/*
+ * A conversion of the table in these bytes. What it wrote must go into the form that it then has to the same bytes, whatever number
+ * of the new form is told.
+ */
+static void conversion(Conversion *call) {
+    Lent lb, lo, la;
+    size_t form = number();
+    uint8_t *bytes = read8(&lb), *out = read8(&lo);
+    KemotuikiBytes r = call(form, bytes, lb.count, out, lo.count);
+    if (ANSWER(r, 0)) printf(" %zu", r.used);
+    show8(out, lo.count);
+    if (!r.number) {
+        uint8_t *again = lend(&la, r.used, 1);
+        keep(&la);
+        KemotuikiBytes s = call(form ? SIZE_MAX - form + 1 : 0, out, r.used, again, r.used);
+        if (s.number || s.used != r.used || memcmp(again, out, r.used)) fault("converted to its own form, it is not the same");
+        settle(&la, s.used);
+    }
+    settle(&lb, 0);
+    settle(&lo, r.used);
+}
+
+static void do_convert_costs(void) { conversion(kemotuiki_convert_costs); }
+static void do_convert_links(void) { conversion(kemotuiki_convert_links); }
 
 static void do_refusal_text(void) {
     Lent lo;
@@ -373,7 +402,8 @@ static const struct {
     {"route", do_route},           {"compare", do_compare},       {"write_costs", do_write_costs},
     {"read_costs", do_read_costs}, {"write_links", do_write_links}, {"read_links", do_read_links},
     {"write_batch", do_write_batch}, {"choice", do_choice},       {"refusal_text", do_refusal_text},
-    {"consensus", do_consensus},   {"exact_grafted", do_exact_grafted},
+    {"consensus", do_consensus},   {"exact_grafted", do_exact_grafted}, {"convert_costs", do_convert_costs},
+    {"convert_links", do_convert_links},
 };
 
 static int cases(const char *folder) {
@@ -416,6 +446,9 @@ static void expect(const char *name, const void *answer, size_t size, size_t wan
     }
 }
 
+/* Numbers that a writer may be told for the form: the first is the old one, all others are the new one. */
+static const size_t forms[] = {KEMOTUIKI_OLD_FORM, KEMOTUIKI_NEW_FORM, 2, (size_t)1 << 32, (size_t)1 << 63, SIZE_MAX};
+
 /* Every call with a number of images that no table has: 1, with the number unchanged. */
 static void no_images(void) {
     static const size_t bad[] = {0, 1, 2, 65, 66, 4294967295u, (size_t)1 << 32, ((size_t)1 << 32) + 3, SIZE_MAX / 2, SIZE_MAX};
@@ -431,8 +464,10 @@ static void no_images(void) {
         EXPECT(KemotuikiRows, route, (n, n, NULL, 0, NULL, 0, 1, NULL, 0), KEMOTUIKI_BAD_N, n, 0);
         EXPECT(KemotuikiComparison, compare, (n, NULL, 0, NULL, 0), KEMOTUIKI_BAD_N, n, 0);
         EXPECT(KemotuikiRows, consensus, (n, n, NULL, 0, NULL, 0, NULL, 0), KEMOTUIKI_BAD_N, n, 0);
-        EXPECT(KemotuikiBytes, write_costs, (n, NULL, 0, NULL, 0), KEMOTUIKI_BAD_N, n, 0);
-        EXPECT(KemotuikiBytes, write_links, (n, n, NULL, 0, NULL, 0, NULL, 0), KEMOTUIKI_BAD_N, n, 0);
+        for (size_t f = 0; f < sizeof forms / sizeof *forms; f++) {
+            EXPECT(KemotuikiBytes, write_costs, (forms[f], n, NULL, 0, NULL, 0), KEMOTUIKI_BAD_N, n, 0);
+            EXPECT(KemotuikiBytes, write_links, (forms[f], n, n, NULL, 0, NULL, 0, NULL, 0), KEMOTUIKI_BAD_N, n, 0);
+        }
     }
 }
 
@@ -446,12 +481,13 @@ static void no_places(void) {
         EXPECT(KemotuikiRows, measured, (n, NULL, 0, NULL, 0, NULL, 0), KEMOTUIKI_BAD_LENGTH, 0, 0);
         EXPECT(KemotuikiRows, exact, (n, NULL, 0, NULL, 0, NULL, 0), KEMOTUIKI_BAD_LENGTH, 0, 0);
         EXPECT(KemotuikiRows, exact_grafted, (n, NULL, 0, NULL, 0, NULL, 0), KEMOTUIKI_BAD_LENGTH, 0, 0);
-        EXPECT(KemotuikiBytes, write_costs, (n, NULL, 0, NULL, 0), KEMOTUIKI_BAD_LENGTH, 0, 0);
+        EXPECT(KemotuikiBytes, write_costs, (KEMOTUIKI_OLD_FORM, n, NULL, 0, NULL, 0), KEMOTUIKI_BAD_LENGTH, 0, 0);
+        EXPECT(KemotuikiBytes, write_costs, (KEMOTUIKI_NEW_FORM, n, NULL, 0, NULL, 0), KEMOTUIKI_BAD_LENGTH, 0, 0);
         EXPECT(KemotuikiPath, path, (n, n, NULL, 0, NULL, 0, SIZE_MAX, SIZE_MAX), KEMOTUIKI_BAD_LENGTH, 0, 0);
         EXPECT(KemotuikiPath, path, (n, SIZE_MAX, NULL, 0, NULL, 0, 1, 2), KEMOTUIKI_BAD_ROW_COUNT, SIZE_MAX, 0);
         EXPECT(KemotuikiRows, upper_rows, (n, SIZE_MAX, NULL, 0, NULL, 0, NULL, 0), KEMOTUIKI_BAD_ROW_COUNT, SIZE_MAX, 0);
         EXPECT(KemotuikiRows, route, (n, 2 * n - 2, NULL, 0, NULL, 0, 1, NULL, 0), KEMOTUIKI_BAD_ROW_COUNT, 2 * n - 2, 0);
-        EXPECT(KemotuikiBytes, write_links, (n, n - 1, NULL, 0, NULL, 0, NULL, 0), KEMOTUIKI_BAD_ROW_COUNT, n - 1, 0);
+        EXPECT(KemotuikiBytes, write_links, (SIZE_MAX, n, n - 1, NULL, 0, NULL, 0, NULL, 0), KEMOTUIKI_BAD_ROW_COUNT, n - 1, 0);
         EXPECT(KemotuikiComparison, compare, (n, NULL, 0, NULL, 0), KEMOTUIKI_BAD_LENGTH, 0, 1);
         EXPECT(KemotuikiRows, consensus, (n, 1, NULL, 0, NULL, 0, NULL, 0), KEMOTUIKI_BAD_LENGTH, 0, 0);
         EXPECT(KemotuikiRows, consensus, (n, KEMOTUIKI_TABLES, NULL, 0, NULL, 0, NULL, 0), KEMOTUIKI_BAD_LENGTH, 0, 0);
@@ -469,15 +505,57 @@ static void no_team(void) {
     EXPECT(KemotuikiRows, consensus, (4, 1, zeros, 16, NULL, 0, NULL, 0), KEMOTUIKI_NO_ROOM, 0, 0);
 }
 
-/* No bytes, read at any position; an empty batch, which is accepted; no bytes to choose from. */
+/* No bytes, read at any position; an empty batch, which is accepted; no bytes to convert, and none to choose from. */
 static void no_bytes(void) {
     static const size_t positions[] = {0, 1, 7, 8, 9, (size_t)1 << 61, (size_t)1 << 63, SIZE_MAX - 7, SIZE_MAX};
     for (size_t k = 0; k < sizeof positions / sizeof *positions; k++) {
         EXPECT(KemotuikiCosts, read_costs, (NULL, 0, positions[k], NULL, 0), KEMOTUIKI_BYTES_END, 0, 0);
         EXPECT(KemotuikiLinks, read_links, (NULL, 0, positions[k], NULL, 0, NULL, 0), KEMOTUIKI_BYTES_END, 0, 0);
     }
-    EXPECT(KemotuikiBytes, write_batch, (NULL, 0, NULL, 0, NULL, 0, NULL, 0, NULL, 0), KEMOTUIKI_ACCEPTED, 0, 0);
+    for (size_t f = 0; f < sizeof forms / sizeof *forms; f++) {
+        EXPECT(KemotuikiBytes, write_batch, (forms[f], NULL, 0, NULL, 0, NULL, 0, NULL, 0, NULL, 0), KEMOTUIKI_ACCEPTED, 0, 0);
+        EXPECT(KemotuikiBytes, convert_costs, (forms[f], NULL, 0, NULL, 0), KEMOTUIKI_BYTES_END, 0, 0);
+        EXPECT(KemotuikiBytes, convert_links, (forms[f], NULL, 0, NULL, 0), KEMOTUIKI_BYTES_END, 0, 0);
+    }
     EXPECT(KemotuikiChoice, choice, (NULL, 0, NULL, 0), KEMOTUIKI_BYTES_END, 0, 1);
+}
+
+/*
+ * The longest tables of each form, with every number at the form's limit, in exactly the room that the header has for them and in one
+ * byte less; and what becomes of them in the other form.
+ */
+static void longest_tables(void) {
+    static uint32_t t[KEMOTUIKI_IMAGES * KEMOTUIKI_IMAGES], costs[KEMOTUIKI_ROWS];
+    static uint64_t fars[KEMOTUIKI_ROWS];
+    static uint8_t bytes[KEMOTUIKI_COST_BYTES], again[KEMOTUIKI_COST_BYTES];
+    const size_t n = KEMOTUIKI_IMAGES, rows = KEMOTUIKI_ROWS, all = n * n;
+    size_t k = 0;
+    for (size_t i = 1; i < n; i++) {
+        fars[k++] = (uint64_t)1 << i;
+        if (i > 1) fars[k++] = (uint64_t)-1 >> (63 - i) & ~(uint64_t)1;
+    }
+    for (size_t f = 0; f < sizeof forms / sizeof *forms; f++) {
+        size_t form = forms[f], cost_bytes = form ? KEMOTUIKI_COST_BYTES : KEMOTUIKI_OLD_COST_BYTES;
+        size_t link_bytes = form ? KEMOTUIKI_LINK_BYTES : KEMOTUIKI_OLD_LINK_BYTES;
+        uint32_t most = form ? KEMOTUIKI_ENTRY_LIMIT : KEMOTUIKI_OLD_ENTRY_LIMIT;
+        call_name = "the longest tables";
+        for (size_t i = 0; i < all; i++) t[i] = i / n == i % n ? 0 : most;
+        for (size_t i = 0; i < rows; i++) costs[i] = 2 * most;
+        EXPECT(KemotuikiBytes, write_costs, (form, n, t, all, bytes, cost_bytes - 1), KEMOTUIKI_NO_ROOM, 0, 0);
+        EXPECT(KemotuikiBytes, write_links, (form, n, rows, fars, rows, costs, rows, bytes, link_bytes - 1), KEMOTUIKI_NO_ROOM, 0, 0);
+        KemotuikiBytes r = kemotuiki_write_costs(form, n, t, all, bytes, cost_bytes);
+        if (r.number || r.used != cost_bytes) fault("the room for costs is not what the header has");
+        r = kemotuiki_convert_costs(form, bytes, cost_bytes, again, cost_bytes);
+        if (r.number || r.used != cost_bytes || memcmp(again, bytes, cost_bytes)) fault("costs converted to their own form differ");
+        r = kemotuiki_convert_costs(KEMOTUIKI_OLD_FORM, bytes, cost_bytes, again, cost_bytes);
+        if (form ? r.number != KEMOTUIKI_ABOVE_OLD_LIMITS || r.a != 1 || r.b != 2 : r.number) fault("costs converted to the old form");
+        r = kemotuiki_write_links(form, n, rows, fars, rows, costs, rows, bytes, link_bytes);
+        if (r.number || r.used != link_bytes) fault("the room for links is not what the header has");
+        r = kemotuiki_convert_links(KEMOTUIKI_OLD_FORM, bytes, link_bytes, again, link_bytes);
+        if (form ? r.number != KEMOTUIKI_ABOVE_OLD_LIMITS || r.a != 1 || r.b != 0 : r.number) fault("links converted to the old form");
+        r = kemotuiki_convert_links(KEMOTUIKI_NEW_FORM, bytes, link_bytes, again, KEMOTUIKI_LINK_BYTES);
+        if (r.number || r.used != KEMOTUIKI_LINK_BYTES) fault("links converted to the new form");
+    }
 }
 
 /* ---- the text of an answer ---- */
@@ -492,7 +570,7 @@ static const struct {
     {{2, 0, 0, 0, 0, 0}, "a length does not fit n or the row count"},
     {{2, 3, 0, 0, 0, 0}, "table 3: a length does not fit n or the row count"},
     {{3, 0, 0, 0, 0, 0}, "too little room"},
-    {{4, 0, 1, 5, 0, 0}, "entry above 1,000,000: row and column 1 5"},
+    {{4, 0, 1, 5, 0, 0}, "entry above the limit: row and column 1 5"},
     {{5, 0, 3, 0, 0, 0}, "diagonal not zero: image 3"},
     {{6, 2, 1, 3, 0, 0}, "table 2: asymmetric: row and column 1 3"},
     {{7, 0, 1, 2, 3, 5}, "no wiring: images 1 2 3 5"},
@@ -509,7 +587,10 @@ static const struct {
     {{14, 0, 0, 0, 0, 0}, "neither table includes the other"},
     {{15, 0, 0, 0, 0, 0}, "stored tables of different n"},
     {{16, 0, 0, 0, 0, 0}, "no tables or more than sixteen"},
-    {{17, 0, 0, 0, 0, 0}, "no such refusal: number 17"},
+    {{17, 0, 4, 0, 0, 0}, "number above the old limits: row 4"},
+    {{17, 0, 1, 5, 0, 0}, "number above the old limits: row and column 1 5"},
+    {{17, 2, 125, 0, 0, 0}, "table 2: number above the old limits: row 125"},
+    {{18, 0, 0, 0, 0, 0}, "no such refusal: number 18"},
     {{SIZE_MAX, 0, 1, 2, 3, 4}, "no such refusal: number 18446744073709551615"},
 };
 
@@ -537,6 +618,7 @@ static int edges(void) {
     no_places();
     no_team();
     no_bytes();
+    longest_tables();
     text_of_answers();
     return faults ? 1 : 0;
 }

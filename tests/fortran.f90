@@ -2,8 +2,8 @@
 !
 !   fortran DATA ANSWERS       writes to ANSWERS what crates/cases/stdout has for the exported calls. A case that cannot be said in
 !                              Fortran, such as a table with fewer entries than its n asks for, has the line "-" instead.
-!   fortran --by-hand VERSION  compares the version, the texts of all refusals, and what only Fortran can say: tables by rows,
-!                              tables of another shape, teams of rank 3, sections, and integers of either kind.
+!   fortran --by-hand VERSION  compares the version, the texts of all refusals, the room for each stored form, and what only Fortran
+!                              can say: tables by rows, tables of another shape, teams of rank 3, sections, and integers of either kind.
 !
 ! What is wrong is printed; then the status is 1.
 
@@ -22,7 +22,7 @@ module case_text
     integer :: at, answers, faults = 0
     logical :: can_be_said
     ! Of the call that is run: the numbers that were answered, and the accepted cases of 64 images with a negative far side.
-    logical :: answered(0:16)
+    logical :: answered(0:17)
     integer :: negative
 
     abstract interface
@@ -76,7 +76,7 @@ contains
     pure function fits(bits)
         integer(int64), intent(in) :: bits
         logical :: fits
-        fits = abs(bits) <= huge(0)
+        fits = bits >= -huge(0) .and. bits <= huge(0)
     end function
 
     ! A number that is a default integer in Fortran. 2^64 - 1 is -1.
@@ -234,7 +234,7 @@ contains
         procedure(one_case) :: do_case
         integer, intent(in) :: refusals(:)
         logical, intent(in), optional :: far_sides
-        logical :: listed(0:16)
+        logical :: listed(0:17)
         integer :: cases, status
         call_name = name
         answered = .false.
@@ -262,7 +262,7 @@ contains
 end module
 
 ! One subroutine a call: the arguments from the line, then the answer and every lent output as it was left. A case of the exact reading
-! is read by both its engines.
+! is read by both its engines, and what a conversion wrote is converted once more.
 module case_calls
     use, intrinsic :: iso_fortran_env, only: int8, int32, int64
     use kemotuiki
@@ -279,6 +279,13 @@ module case_calls
             integer(int32), intent(inout), contiguous :: costs(:)
             type(kemotuiki_rows_answer) :: r
         end function
+        function converter(form, bytes, out) result(r)
+            import
+            integer, intent(in) :: form
+            integer(int8), intent(in), contiguous :: bytes(:)
+            integer(int8), intent(inout), contiguous :: out(:)
+            type(kemotuiki_bytes_answer) :: r
+        end function
     end interface
 
 contains
@@ -293,14 +300,16 @@ contains
         call run('upper_rows', do_upper_rows, folder, [1, 2, 3, 10, 12, 13], far_sides=.true.)
         call run('route', do_route, folder, [1, 2, 3, 8, 10, 12, 13], far_sides=.true.)
         call run('compare', do_compare, folder, [1, 2, 4, 5, 6, 7])
-        call run('write_costs', do_write_costs, folder, [1, 2, 3, 4, 5, 6])
+        call run('write_costs', do_write_costs, folder, [1, 2, 3, 4, 5, 6, 17])
         call run('read_costs', do_read_costs, folder, [1, 3, 4, 9, 11])
-        call run('write_links', do_write_links, folder, [1, 2, 3, 10, 12, 13], far_sides=.true.)
+        call run('write_links', do_write_links, folder, [1, 2, 3, 10, 12, 13, 17], far_sides=.true.)
         call run('read_links', do_read_links, folder, [1, 3, 9, 10, 11, 12, 13], far_sides=.true.)
-        call run('write_batch', do_write_batch, folder, [1, 2, 3, 10, 12, 13])
+        call run('write_batch', do_write_batch, folder, [1, 2, 3, 10, 12, 13, 17])
         call run('choice', do_choice, folder, [1, 9, 10, 11, 12, 13, 14, 15])
         call run('consensus', do_consensus, folder, [1, 2, 3, 4, 5, 6, 7, 16], far_sides=.true.)
         call run('exact_grafted', do_exact_grafted, folder, [1, 2, 3, 4, 5, 6, 7], far_sides=.true.)
+        call run('convert_costs', do_convert_costs, folder, [1, 3, 4, 9, 11, 17])
+        call run('convert_links', do_convert_links, folder, [1, 3, 9, 10, 11, 12, 13, 17])
     end subroutine
 
     ! With a far side that is a default integer, where it can be one.
@@ -470,11 +479,12 @@ contains
         type(kemotuiki_bytes_answer) :: r
         integer(int32), allocatable :: t(:, :)
         integer(int8), allocatable :: out(:)
-        integer :: n
+        integer :: form, n
+        form = small_number()
         call read_table(n, t)
         out = slice8()
         if (.not. can_be_said) return
-        r = kemotuiki_write_costs(t, out)
+        r = kemotuiki_write_costs(form, t, out)
         call put_answer(r, [r%used])
         call put(out)
     end subroutine
@@ -513,11 +523,12 @@ contains
         integer(int64), allocatable :: fars(:)
         integer(int32), allocatable :: costs(:)
         integer(int8), allocatable :: out(:)
-        integer :: n
+        integer :: form, n
+        form = small_number()
         call read_rows(n, fars, costs)
         out = slice8()
         if (.not. can_be_said) return
-        r = kemotuiki_write_links(n, fars, costs, out)
+        r = kemotuiki_write_links(form, n, fars, costs, out)
         call put_answer(r, [r%used])
         call put(out)
         call note_far_sides(r, n, fars)
@@ -549,13 +560,45 @@ contains
         integer(int32), allocatable :: ns(:), counts(:), costs(:)
         integer(int64), allocatable :: fars(:)
         integer(int8), allocatable :: out(:)
+        integer :: form
+        form = small_number()
         ns = slice32()
         counts = slice32()
         fars = slice64()
         costs = slice32()
         out = slice8()
-        r = kemotuiki_write_batch(ns, counts, fars, costs, out)
+        if (.not. can_be_said) return
+        r = kemotuiki_write_batch(form, ns, counts, fars, costs, out)
         call put_answer(r, [r%used], tables=.true.)
+        call put(out)
+    end subroutine
+
+    subroutine do_convert_costs()
+        call conversion(kemotuiki_convert_costs)
+    end subroutine
+
+    subroutine do_convert_links()
+        call conversion(kemotuiki_convert_links)
+    end subroutine
+
+    ! What was written is converted once more to the form that it then has, and must stay.
+    subroutine conversion(convert)
+        procedure(converter) :: convert
+        type(kemotuiki_bytes_answer) :: r, s
+        integer(int8), allocatable :: bytes(:), out(:), again(:)
+        integer :: form
+        form = small_number()
+        bytes = slice8()
+        out = slice8()
+        if (.not. can_be_said) return
+        r = convert(form, bytes, out)
+        if (r%accepted()) then
+            allocate (again(r%used))
+            again = 0
+            s = convert(-form, out(:r%used), again)
+            if (s%used /= r%used .or. any(again /= out(:r%used))) call fault('converted to its own form, it is not the same')
+        end if
+        call put_answer(r, [r%used])
         call put(out)
     end subroutine
 
@@ -599,6 +642,7 @@ contains
         call another_shape()
         call teams()
         call stored_in_a_corner()
+        call stored_forms()
         call sections()
         faults = wrong
     end subroutine
@@ -618,7 +662,7 @@ contains
         call say(kemotuiki_bad_length, 0, [0, 0, 0, 0], 'a length does not fit n or the row count')
         call say(kemotuiki_bad_length, 3, [0, 0, 0, 0], 'table 3: a length does not fit n or the row count')
         call say(kemotuiki_no_room, 0, [0, 0, 0, 0], 'too little room')
-        call say(kemotuiki_entry_too_large, 0, [1, 5, 0, 0], 'entry above 1,000,000: row and column 1 5')
+        call say(kemotuiki_entry_too_large, 0, [1, 5, 0, 0], 'entry above the limit: row and column 1 5')
         call say(kemotuiki_diagonal_not_zero, 0, [3, 0, 0, 0], 'diagonal not zero: image 3')
         call say(kemotuiki_asymmetric, 0, [1, 3, 0, 0], 'asymmetric: row and column 1 3')
         call say(kemotuiki_no_wiring, 0, [1, 2, 3, 5], 'no wiring: images 1 2 3 5')
@@ -633,7 +677,9 @@ contains
         call say(kemotuiki_neither_includes, 0, [0, 0, 0, 0], 'neither table includes the other')
         call say(kemotuiki_different_n, 0, [0, 0, 0, 0], 'stored tables of different n')
         call say(kemotuiki_bad_table_count, 0, [0, 0, 0, 0], 'no tables or more than sixteen')
-        call say(17, 0, [0, 0, 0, 0], 'no such refusal: number 17')
+        call say(kemotuiki_above_old_limits, 0, [4, 0, 0, 0], 'number above the old limits: row 4')
+        call say(kemotuiki_above_old_limits, 2, [1, 5, 0, 0], 'table 2: number above the old limits: row and column 1 5')
+        call say(18, 0, [0, 0, 0, 0], 'no such refusal: number 18')
     end subroutine
 
     subroutine say(number, table, places, text)
@@ -663,14 +709,15 @@ contains
         integer(int64) :: fars(9)
         integer(int8) :: bytes(64)
         t = star(6)
-        t(2, 5) = 1000001
-        t(4, 1) = 1000001
+        t(2, 5) = kemotuiki_entry_limit + 1
+        t(4, 1) = kemotuiki_entry_limit + 1
         call hold('index by rows', refused_at(kemotuiki_index(t, 2), 0, 2, 5))
         call hold('order by rows', refused_at(kemotuiki_order(t, 1, 2, out), 0, 2, 5))
         call hold('measured by rows', refused_at(kemotuiki_measured(t, fars, costs), 0, 2, 5))
         call hold('exact by rows', refused_at(kemotuiki_exact(t, fars, costs), 0, 2, 5))
         call hold('exact_grafted by rows', refused_at(kemotuiki_exact_grafted(t, fars, costs), 0, 2, 5))
-        call hold('write_costs by rows', refused_at(kemotuiki_write_costs(t, bytes), 0, 2, 5))
+        call hold('write_costs by rows', refused_at(kemotuiki_write_costs(kemotuiki_old_form, t, bytes), 0, 2, 5))
+        call hold('write_costs by rows, new form', refused_at(kemotuiki_write_costs(kemotuiki_new_form, t, bytes), 0, 2, 5))
         call hold('compare by rows, first table', refused_at(kemotuiki_compare(t, star(6)), 1, 2, 5))
         call hold('compare by rows, second table', refused_at(kemotuiki_compare(star(6), t), 2, 2, 5))
         call hold('consensus by rows, third table', refused_at(kemotuiki_consensus(stars_and(t), fars, costs), 3, 2, 5))
@@ -730,8 +777,8 @@ contains
         integer(int8) :: bytes(64)
         type(kemotuiki_bytes_answer) :: first, second
         type(kemotuiki_costs_answer) :: r
-        first = kemotuiki_write_costs(star(3), bytes)
-        second = kemotuiki_write_costs(star(5), bytes(first%used + 1:))
+        first = kemotuiki_write_costs(kemotuiki_old_form, star(3), bytes)
+        second = kemotuiki_write_costs(kemotuiki_old_form, star(5), bytes(first%used + 1:))
         call hold('two tables written', first%accepted() .and. first%used == 9 .and. second%accepted() .and. second%used == 26)
         t = -1
         r = kemotuiki_read_costs(bytes, 0, t)
@@ -747,6 +794,39 @@ contains
         call hold('room in a wide table', r%n == 3 .and. all(wide(:3, :) == star(3)) .and. all(wide(4:, :) == -1))
         r = kemotuiki_read_costs(bytes, -8, wide)
         call hold('a position below 0', r%number == kemotuiki_bytes_end)
+    end subroutine
+
+    ! The room and the limits that the module has for each form, on tables whose numbers are all at a limit; one number above the old
+    ! limits, in row 2 and column 5 on both sides of the diagonal; and the same table in both forms.
+    subroutine stored_forms()
+        integer, parameter :: n = kemotuiki_images
+        integer(int8) :: bytes(kemotuiki_cost_bytes), other(kemotuiki_cost_bytes)
+        type(kemotuiki_bytes_answer) :: r
+        type(kemotuiki_costs_answer) :: read_back
+        integer :: t(6, 6), back(6, 6), big(n, n)
+        big = star(n) / 2
+        r = kemotuiki_write_costs(kemotuiki_old_form, kemotuiki_old_entry_limit * big, bytes(:kemotuiki_old_cost_bytes))
+        call hold('the longest old table', r%accepted() .and. r%used == kemotuiki_old_cost_bytes)
+        r = kemotuiki_write_costs(kemotuiki_new_form, kemotuiki_entry_limit * big, bytes)
+        call hold('the longest new table', r%accepted() .and. r%used == kemotuiki_cost_bytes)
+        r = kemotuiki_convert_costs(kemotuiki_old_form, bytes, other)
+        call hold('the longest new table in the old form', r%number == kemotuiki_above_old_limits .and. r%a == 1 .and. r%b == 2)
+        t = star(6)
+        t(2, 5) = kemotuiki_old_entry_limit + 1
+        t(5, 2) = kemotuiki_old_entry_limit + 1
+        r = kemotuiki_write_costs(kemotuiki_old_form, t, bytes)
+        call hold('above the old limits', r%number == kemotuiki_above_old_limits .and. r%a == 2 .and. r%b == 5)
+        r = kemotuiki_write_costs(-1, t, bytes)
+        read_back = kemotuiki_read_costs(bytes, 0, back)
+        call hold('a number that is not 0 is the new form', r%accepted() .and. read_back%used == r%used .and. all(back == t))
+        r = kemotuiki_write_costs(kemotuiki_old_form, star(6), bytes)
+        r = kemotuiki_convert_costs(kemotuiki_new_form, bytes(:r%used), other)
+        read_back = kemotuiki_read_costs(other, 0, back)
+        call hold('old to new', r%accepted() .and. read_back%used == r%used .and. all(back == star(6)))
+        bytes(:40) = 7
+        r = kemotuiki_convert_costs(kemotuiki_old_form, other(:r%used), bytes)
+        read_back = kemotuiki_read_costs(bytes, 0, back)
+        call hold('and back to old', r%used == 39 .and. bytes(40) == 7 .and. read_back%used == 39 .and. all(back == star(6)))
     end subroutine
 
     ! Every second element of larger arrays: 4 images in a star, whose four own links cost 2, doubled.

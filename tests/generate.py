@@ -22,7 +22,7 @@ if not __debug__:
 sys.dont_write_bytecode = True
 
 import independent as law
-from independent import (Dice, holds, is_inner, own_link, pairs, stored_costs, table_from,
+from independent import (NEW, OLD, Dice, holds, is_inner, own_link, pairs, stored_costs, table_from,
                          tree_rows, tree_table)
 
 ROOT = os.path.dirname(os.path.dirname(os.path.abspath(__file__)))
@@ -33,13 +33,14 @@ ROOT = os.path.dirname(os.path.dirname(os.path.abspath(__file__)))
 LONGEST_LINE = 140000
 LONGEST_SLICE = 4200
 LONGEST_TEAM = 65600
-LONGEST_BYTES = 5200
-LONGEST_READ = 10200
+LONGEST_BYTES = 5900
+LONGEST_READ = 11800
 LARGEST_FILE = 400000
 LARGEST_ANSWERS = 1000000
 LARGEST_TOTAL = 4000000
 FEWEST_CASES = 2500
 FEWEST_OF_EACH_REFUSAL = 8
+FEWEST_IN_EACH_FORM = 5
 
 # With so many images the index is negative, 0 and positive in some cases each.
 EVERY_SIGN = (3, 4, 5, 9, 17, 33, 64)
@@ -56,11 +57,11 @@ CALLS = {
     "upper_rows": (law.upper_rows, "n n 64 32 32*", (1, 2, 3, 10, 12, 13)),
     "route": (law.route, "n n 64 32 n 32*", (1, 2, 3, 8, 10, 12, 13)),
     "compare": (law.compare, "n 32 32", (1, 2, 4, 5, 6, 7)),
-    "write_costs": (law.write_costs, "n 32 8*", (1, 2, 3, 4, 5, 6)),
+    "write_costs": (law.write_costs, "n n 32 8*", (1, 2, 3, 4, 5, 6, 17)),
     "read_costs": (law.read_costs, "8 n 32*", (1, 3, 4, 9, 11)),
-    "write_links": (law.write_links, "n n 64 32 8*", (1, 2, 3, 10, 12, 13)),
+    "write_links": (law.write_links, "n n n 64 32 8*", (1, 2, 3, 10, 12, 13, 17)),
     "read_links": (law.read_links, "8 n 64* 32*", (1, 3, 9, 10, 11, 12, 13)),
-    "write_batch": (law.write_batch, "32 32 64 32 8*", (1, 2, 3, 10, 12, 13)),
+    "write_batch": (law.write_batch, "n 32 32 64 32 8*", (1, 2, 3, 10, 12, 13, 17)),
     "choice": (law.choice, "8 8", (1, 9, 10, 11, 12, 13, 14, 15)),
     "first_two": (law.first_two, "8 n 32* 32*", (1, 3, 4, 9, 11)),
     "first_links": (law.first_links, "8 n 64* 32*", (1, 3, 9, 10, 11, 12, 13)),
@@ -70,7 +71,16 @@ CALLS = {
     "consensus": (law.consensus, "n n 32 64* 32*", (1, 2, 3, 4, 5, 6, 7, 16)),
     "listing": (law.listing, "8", (1, 4, 7, 9, 11)),
     "exact_grafted": (law.exact_grafted, "n 32 64* 32*", (1, 2, 3, 4, 5, 6, 7)),
+    "convert_costs": (law.convert_costs, "n 8 8*", (1, 3, 4, 9, 11, 17)),
+    "convert_links": (law.convert_links, "n 8 8*", (1, 3, 9, 10, 11, 12, 13, 17)),
 }
+
+# Those that are told a form, and those that find it in the bytes. Every refusal of these calls
+# is met in both forms, but for those that one form alone has or that are about no one table.
+TOLD_A_FORM = ("write_costs", "write_links", "write_batch")
+FIND_A_FORM = ("read_costs", "read_links", "choice", "first_two", "first_links", "two_costs", "listing",
+               "convert_costs", "convert_links")
+OF_ONE_FORM = (14, 15, 17)
 
 # The engines of the exact reading, each with the other one, which answers the same.
 OTHER_ENGINE = {"exact": law.exact_grafted, "exact_grafted": law.exact}
@@ -96,8 +106,17 @@ TWICE = {"first_two": 3, "two_fields": 2}
 BAD_N = [0, 1, 2, 65, 66, 127, 2 ** 32 + 3, 2 ** 32 + 4, 2 ** 40, 2 ** 63, 2 ** 64 - 1]
 HUGE = [2 ** 32, 2 ** 32 + 1, 2 ** 40, 2 ** 63, 2 ** 64 - 8, 2 ** 64 - 1]
 BAD_IN_LIST = [0, 1, 2, 65, 127, 2 ** 31, 2 ** 32 - 1]
-BAD_ENTRY = [1000001, 1000001, 1048575, 2000000, 2 ** 31, 2 ** 32 - 1]
-BAD_COST = [2000001, 2000001, 2097151, 2 ** 32 - 1]
+BAD_ENTRY = [8000001, 8000001, 8388607, 16000000, 2 ** 31, 2 ** 32 - 1]
+BAD_COST = [16000001, 16000001, 16777215, 2 ** 32 - 1]
+BAD_OLD_COST = [2000001, 2000001, 2097151, 2 ** 32 - 1]
+
+# Entries and costs that a table may have, but not in the old form.
+ABOVE_OLD_ENTRY = [1000001, 1000001, 1048575, 1048576, 8000000]
+ABOVE_OLD_COST = [2000001, 2000001, 2097151, 2097152, 16000000]
+
+# What a writer is told for the form: 0, and numbers that all say the new one, 2^32 among them,
+# whose low 32 bits are 0.
+FORM_NUMBERS = [0, 0, 0, 0, 0, 1, 1, 1, 1, 2, 127, 2 ** 32, 2 ** 63, 2 ** 64 - 1]
 
 
 # Small parts
@@ -173,6 +192,49 @@ def sides_and_costs(rows):
     return [far for far, _ in rows], [cost for _, cost in rows]
 
 
+# The two stored forms
+
+def any_form(dice):
+    return dice.one_of([OLD, NEW])
+
+
+def fitted(t, form):
+    """The table with entries that this form can have: an eighth of those above its limit, but
+    for entries that no table has."""
+    return [entry // 8 if form.most_entry < entry <= NEW.most_entry else entry for entry in t]
+
+
+def fitted_rows(rows, form):
+    """The same of rows."""
+    return [(far, cost // 8 if form.most_cost < cost <= NEW.most_cost else cost) for far, cost in rows]
+
+
+def costs_in(n, t, form):
+    return stored_costs(n, fitted(t, form), form)
+
+
+def links_in(n, rows, form):
+    return law.stored_links(n, *sides_and_costs(fitted_rows(rows, form)), form)
+
+
+def costs_length(form, n):
+    return (len(form.mark) + 7 + form.entry_bits * n * (n - 1) // 2 + 7) // 8
+
+
+def links_length(form, n, count):
+    return (len(form.mark) + 14 + count * (n - 1 + form.cost_bits) + 7) // 8
+
+
+def images_of(stored):
+    """What the header of a stored table of either form has for n."""
+    return law.header_of(stored, 1)[1][0]
+
+
+def sparse_table(dice, n, most):
+    """One entry in four is large and the others are 0, so that the lines stay short."""
+    return table_from(n, [dice.between(0, most) if dice.chance(1, 4) else 0 for _ in pairs(n)])
+
+
 # Cost tables
 
 def tree(dice, n, most=None, shape=None):
@@ -189,10 +251,10 @@ def good_table(dice, n):
     if kind < 9:
         return law.random_table(dice, n, dice.one_of([1, 2, 3, 9]))
     if kind == 9 and n < 7:
-        return law.random_table(dice, n, 1000000)
+        return law.random_table(dice, n, 8000000)
     if kind == 10:
-        return table_from(n, [dice.one_of([0, 1000000]) for _ in pairs(n)])
-    return table_from(n, [dice.one_of([0, 1000000, 999999])] * (n * n))
+        return table_from(n, [dice.one_of([0, 8000000]) for _ in pairs(n)])
+    return table_from(n, [dice.one_of([0, 8000000, 7999999, 1000001])] * (n * n))
 
 
 TABLE_FAULTS = ["n", "length", "entry", "diagonal", "asymmetric"]
@@ -201,6 +263,9 @@ TABLE_FAULTS = ["n", "length", "entry", "diagonal", "asymmetric"]
 def damage_table(dice, n, t, faults):
     """The table with these faults, and the n that goes with it."""
     t = list(t)
+    if "old" in faults:
+        for i, j in dice.mixed(pairs(n))[:dice.between(1, 2)]:
+            t = with_entry(n, t, i, j, dice.one_of(ABOVE_OLD_ENTRY))
     for _ in range(dice.between(1, 2)):
         i, j = dice.below(n), dice.below(n)
         other = dice.one_of([k for k in range(n) if k != i])
@@ -208,10 +273,10 @@ def damage_table(dice, n, t, faults):
             t[i * n + j] = dice.one_of(BAD_ENTRY)
         if "diagonal" in faults:
             k = dice.below(n)
-            t[k * n + k] = max(t[k * n + k], dice.one_of([1, 5, 1000000]))
+            t[k * n + k] = max(t[k * n + k], dice.one_of([1, 5, 8000000]))
         if "asymmetric" in faults:
             at = i * n + other
-            t[at] += -1 if t[at] > 999999 or (t[at] > 0 and dice.chance(1, 2)) else 1
+            t[at] += -1 if t[at] > 7999999 or (t[at] > 0 and dice.chance(1, 2)) else 1
     if "length" in faults:
         t = dice.one_of([t[:-1], t + [0], [], t[:n], t[:(n - 1) ** 2], t + t[:2 * n + 1]])
     if "n" in faults:
@@ -302,17 +367,17 @@ def signed_index_cases(dice):
         inners = [2 ** (n - 1) + 2 ** dice.between(1, n - 2), 2 ** n - 4] if n > 3 else []
         for s in owns + inners if n < 10 else owns[1:] + inners[:1]:
             for inside, across in (3, 1), (2, 1), (1, 1), (0, 0), (2, 3):
-                if n < 10 or inside * across > 0:
+                if n < 10 or (inside * across > 0 and (n < 64 or inside != 2 * across)):
                     yield n, two_groups(n, s, inside, across), s
-        for s in owns[:1] + inners[:1]:
-            for inside, across in (1000000, 0), (0, 1000000):
+        for s in owns[:1] + inners[:1] if n < 64 else inners[:1]:
+            for inside, across in (8000000, 0), (0, 8000000):
                 yield n, two_groups(n, s, inside, across), s
         # Where all entries are 4 the index is 0; one that is 5 inside or 3 across makes it -1.
         for s in inners[:1]:
             t = two_groups(n, s, 4, 4)
             t[1] = t[n] = 5 if not holds(s, 2) else 3
             yield n, t, s
-        for _ in range(2):
+        for _ in range(2 if n < 64 else 1):
             yield n, law.random_table(dice, n, 9), 2 * dice.between(1, 2 ** (n - 1) - 1)
 
 
@@ -472,43 +537,66 @@ def compare_cases(dice):
 
 
 def write_costs_cases(dice):
-    def stored_length(n):
-        return (7 + 10 * n * (n - 1) + 7) // 8
-
     for n, t, sound in tables(dice, 40):
-        yield n, t, byte_places(dice, room(dice, stored_length(n), False) if sound else 9)
-    for n, bad_n, bad_t, faults in damaged(dice, TABLE_FAULTS + ["room"], 7, 60):
-        yield bad_n, bad_t, byte_places(dice, room(dice, stored_length(n), "room" in faults))
+        number = dice.one_of(FORM_NUMBERS)
+        form = law.form_named(number)
+        needed = room(dice, costs_length(form, n), False) if sound else 9
+        yield number, n, fitted(t, form), byte_places(dice, needed)
+    for n, bad_n, bad_t, faults in damaged(dice, TABLE_FAULTS + ["old", "room"], 7, 66):
+        number = 0 if "old" in faults else dice.one_of(FORM_NUMBERS)
+        form = law.form_named(number)
+        bad_t = bad_t if "old" in faults else fitted(bad_t, form)
+        yield number, bad_n, bad_t, byte_places(dice, room(dice, costs_length(form, n), "room" in faults))
     for n in (4, 5, 8):
-        t = law.random_table(dice, n, 1000000)
-        for more in (-1, 0, 1):
-            yield n, t, byte_places(dice, stored_length(n) + more)
-    yield 33, law.random_table(dice, 33, 1000000), byte_places(dice, stored_length(33))
-    yield 58, tree(dice, 58, 1, "uneven"), [9] * (stored_length(58) + 1)
-    yield 64, table_from(64, [1] * 2016), byte_places(dice, 50)
-    # 64 images, whose stored form has 5,041 bytes and one fill bit.
-    n, needed = 64, stored_length(64)
-    assert needed == 5041
-    yield n, tree(dice, n, 3000, "uneven"), byte_places(dice, needed)
-    yield n, law.random_table(dice, n, 1000000), [9] * (needed + 4)
+        for number in (0, 1):
+            form = law.form_named(number)
+            t = law.random_table(dice, n, form.most_entry)
+            for more in (-1, 0, 1):
+                yield number, n, t, byte_places(dice, costs_length(form, n) + more)
+    # The same table in each form, at each limit and just above it, with just enough room, one
+    # byte less and none: the first entry, the last one, or one between them.
+    for n in (3, 4, 9):
+        for entry in (1000000, 1000001, 8000000, 8000001):
+            i, j = dice.one_of([(1, 2), (n - 1, n), dice.one_of(pairs(n))])
+            t = with_entry(n, [0] * (n * n), i, j, entry)
+            for number in (0, dice.one_of([1, 2, 2 ** 32, 2 ** 64 - 1])):
+                needed = costs_length(law.form_named(number), n)
+                yield number, n, t, byte_places(dice, dice.one_of([needed, needed, needed - 1, 0]))
+    # Many images: above the old limits in the first, the last and a later entry, with little room.
+    for n in (9, 33, 64):
+        for i, j in ((1, 2), (n - 1, n), dice.one_of(pairs(n))):
+            t = with_entry(n, [0] * (n * n), i, j, 1000001)
+            yield 0, n, with_entry(n, t, n - 1, n, 8000000) if (i, j) != (n - 1, n) else t, byte_places(dice, 20)
+    for form, number in ((OLD, 0), (NEW, 1)):
+        yield number, 33, law.random_table(dice, 33, form.most_entry), byte_places(dice, costs_length(form, 33))
+        for row, column, entry in ((33, 32, 8000001), (33, 33, 1), (32, 33, 5)):
+            t = [0] * 33 * 33
+            t[(row - 1) * 33 + column - 1] = entry
+            yield number, 33, t, byte_places(dice, 30)
+    # 64 images: the old form has 5,041 bytes and one fill bit, the new one 5,798 bytes and two.
+    n = 64
+    assert costs_length(OLD, n) == 5041 and costs_length(NEW, n) == 5798
+    last = table_from(n, [1000000] + [0] * 2014 + [1000000])
+    yield 0, n, last, [9] * 5041
+    yield 2, n, last, [9] * 5797
+    yield 1, n, law.random_table(dice, n, 8000000), [9] * 5802
     plain = table_from(n, [0] * 2016)
-    for more in (-1, 0, 1):
-        yield n, table_from(n, [1000000] + [0] * 2014 + [1000000]), [9] * (needed + more)
-    for row, column, entry in ((64, 63, 1000001), (64, 64, 1), (63, 64, 5)):
+    for row, column, entry in ((64, 63, 8000001), (64, 64, 1), (63, 64, 5)):
         t = list(plain)
         t[(row - 1) * n + column - 1] = entry
-        yield n, t, [9] * needed
-    yield n, plain[:-1], [9] * needed
+        for number in (0, 1):
+            yield number, n, t, [9] * 40
+    yield 1, n, plain[:-1], [9] * 40
 
 
 # Link tables
 
 def good_links(dice, n):
-    most = dice.one_of([1, 2, 9, 9, 300, 1999999])
+    most = dice.one_of([1, 2, 9, 9, 300, 15999999])
     return tree_rows(dice, n, law.random_shape(dice), most, even=False)
 
 
-def damage_row(dice, n, fars, costs):
+def damage_row(dice, n, fars, costs, bad_cost):
     """One bad row, or several."""
     row = dice.below(len(fars))
     kind = dice.below(9)
@@ -528,7 +616,7 @@ def damage_row(dice, n, fars, costs):
         row = dice.one_of(inner)
         costs[row] = 0
     elif kind < 7:
-        costs[row] = dice.one_of(BAD_COST)
+        costs[row] = dice.one_of(bad_cost)
     else:
         # A far side that fits between its neighbours as a number, and may cross.
         least = fars[row - 1] // 2 + 1 if row > 0 else 1
@@ -536,10 +624,10 @@ def damage_row(dice, n, fars, costs):
         if least <= most:
             fars[row] = 2 * dice.between(least, most)
         else:
-            costs[row] = dice.one_of(BAD_COST)
+            costs[row] = dice.one_of(bad_cost)
 
 
-def damage_links(dice, n, rows, faults):
+def damage_links(dice, n, rows, faults, bad_cost=BAD_COST):
     """n, count, far sides and costs with these faults."""
     if "own" in faults and n > 3:
         rows = tree_rows(dice, n, "caterpillar", 9, even=False)
@@ -547,9 +635,12 @@ def damage_links(dice, n, rows, faults):
         images = dice.mixed(range(1, n + 1))[:lost]
         rows = [row for row in rows if row[0] not in [own_link(n, i) for i in images]]
     fars, costs = sides_and_costs(rows)
+    if "old" in faults:
+        for row in dice.mixed(range(len(rows)))[:dice.between(1, 2)]:
+            costs[row] = dice.one_of(ABOVE_OLD_COST)
     if "row" in faults:
         for _ in range(dice.between(1, 2)):
-            damage_row(dice, n, fars, costs)
+            damage_row(dice, n, fars, costs, bad_cost)
     count = len(fars)
     if "count" in faults:
         kind = dice.below(4)
@@ -652,10 +743,10 @@ def changed_stars(dice):
         elif change == 1:
             rows[2 ** 63 + 2] = 0
         elif change == 2:
-            rows[2 ** 63 + 2 ** 62] = 2000000
+            rows[2 ** 63 + 2 ** 62] = 16000000
             del rows[2 ** 63]
         else:
-            rows[2 ** 64 - 4] = 2000001
+            rows[2 ** 64 - 4] = 16000001
         fars, costs = sides_and_costs(sorted(rows.items()))
         yield n, (n, len(fars), fars, costs), {"row"}
 
@@ -672,12 +763,16 @@ def path_cases(dice):
     for image in [0, 4, 65] + HUGE:
         for i, j in ((1, image), (image, 2), (image, image)):
             yield 3, 3, [2, 4, 6], [1, 1, 1], i, j
-    # The largest path cost: 125 links of 2,000,000 would need every row on the path.
+    # The largest path cost: 125 links of 16,000,000 would need every row on the path.
     n = 64
     fars = law.tree_far_sides(dice, n, "caterpillar")
     deepest = dice.one_of([far for far in fars if law.ones(far) == 1])
     for i, j in ((1, deepest.bit_length()), (64, 64)):
-        yield n, len(fars), fars, [2000000] * len(fars), i, j
+        yield n, len(fars), fars, [16000000] * len(fars), i, j
+    # Costs above the old limit, which every link table may have.
+    for n in (3, 4, 9):
+        rows = [(far, cost + 2000000) for far, cost in tree_rows(dice, n, "uneven", 9)]
+        yield (n, len(rows)) + sides_and_costs(rows) + (1, n)
 
 
 def upper_rows_cases(dice):
@@ -707,20 +802,45 @@ def route_cases(dice):
     yield n, len(fars), fars, costs, 1, places(dice, 2 * n - 4)
 
 
-def links_length(n, count):
-    return (14 + count * (n + 20) + 7) // 8
+def in_some_form(dice, table, faults):
+    """The form's number, and the table with costs that fit it, but for those that are to be
+    above its limits."""
+    number = 0 if "old" in faults else dice.one_of(FORM_NUMBERS)
+    n, count, fars, costs = table
+    if "old" not in faults:
+        costs = [cost for _, cost in fitted_rows([(0, cost) for cost in costs], law.form_named(number))]
+    return number, (n, count, fars, costs)
 
 
 def write_links_cases(dice):
-    kinds = ["n", "count", "length", "row", "own", "room"]
-    for n, table, faults in link_tables(dice, 40, kinds, 7, 60):
+    kinds = ["n", "count", "length", "row", "own", "old", "room"]
+    for n, table, faults in link_tables(dice, 40, kinds, 7, 66):
+        number, table = in_some_form(dice, table, faults)
         count = min(table[1], 2 * n - 3)
-        needed = links_length(n, count) if n < 64 or not faults else 40
-        yield table + (byte_places(dice, room(dice, needed, "room" in faults)),)
+        needed = links_length(law.form_named(number), n, count) if n < 64 or not faults else 40
+        yield (number,) + table + (byte_places(dice, room(dice, needed, "room" in faults)),)
     for n in (3, 4, 5, 9, 9):
-        fars, costs = sides_and_costs(good_links(dice, n))
-        for more in (-1, 0, 1):
-            yield n, len(fars), fars, costs, byte_places(dice, links_length(n, len(fars)) + more)
+        rows = good_links(dice, n)
+        for number in (0, dice.one_of([1, 2, 2 ** 32, 2 ** 64 - 1])):
+            form = law.form_named(number)
+            fars, costs = sides_and_costs(fitted_rows(rows, form))
+            for more in (-1, 0, 1):
+                yield number, n, len(fars), fars, costs, byte_places(dice, links_length(form, n, len(fars)) + more)
+    # The same rows in each form, one cost at each limit and just above it, with just enough room,
+    # one byte less and none; many images among them, the last row and an inner one.
+    for n in (3, 4, 9, 33, 64):
+        fars = law.tree_far_sides(dice, n, "star" if n == 64 else "uneven")
+        for cost in (2000000, 2000001, 16000000, 16000001):
+            costs = [1] * len(fars)
+            costs[dice.one_of([0, len(fars) - 1, dice.below(len(fars))])] = cost
+            for number in (0, dice.one_of([1, 2, 2 ** 32, 2 ** 64 - 1])):
+                needed = links_length(law.form_named(number), n, len(fars))
+                needed = dice.one_of([needed, needed, needed - 1, 0]) if n < 10 or cost == 2000000 else 20
+                yield number, n, len(fars), fars, costs, byte_places(dice, needed)
+    # The longest link table in the new form.
+    fars = law.tree_far_sides(dice, 64, "caterpillar")
+    assert links_length(NEW, 64, len(fars)) == 1362
+    yield 1, 64, len(fars), fars, [dice.between(1, 16000000) for _ in fars], [9] * 1362
 
 
 def joined(several):
@@ -730,32 +850,32 @@ def joined(several):
     return [table[0] for table in several], [table[1] for table in several], fars, costs
 
 
-def batch_length(several):
-    return sum(links_length(table[0], table[1]) for table in several)
+def batch_length(form, several):
+    return sum(links_length(form, table[0], table[1]) for table in several)
 
 
-def sound_table(dice, n):
-    rows = good_links(dice, n)
+def sound_table(dice, n, form):
+    rows = fitted_rows(good_links(dice, n), form)
     return (n, len(rows)) + sides_and_costs(rows)
 
 
-def damaged_tables(dice, faults):
+def damaged_tables(dice, form, faults):
     """Tables of a batch, one or two of them damaged, and the bytes that the sound ones need."""
-    several = [sound_table(dice, damaged_n(dice)) for _ in range(dice.one_of([1, 2, 2, 3]))]
-    out = batch_length(several)
+    several = [sound_table(dice, damaged_n(dice), form) for _ in range(dice.one_of([1, 2, 2, 3]))]
+    out = batch_length(form, several)
     last = len(several) - 1
     for at in dice.one_of([[last], [last], [0], dice.mixed(range(last + 1))[:2]]):
         some = some_of(dice, faults)
         n = max(several[at][0], 4 if "own" in some else 3)
-        rows_faults = some & {"n", "count", "row", "own"}
-        bad = list(damage_links(dice, n, good_links(dice, n), rows_faults))
+        rows_faults = some & {"n", "count", "row", "own", "old"}
+        bad = list(damage_links(dice, n, fitted_rows(good_links(dice, n), form), rows_faults))
         if "n" in some:
             bad[0] = dice.one_of(BAD_IN_LIST)
         bad[1] = min(bad[1], 2 ** 32 - 1)
         several[at] = tuple(bad)
         if not some & {"n", "count"}:
-            out = batch_length([table for table in several
-                                if 3 <= table[0] <= 64 and table[1] <= 125])
+            out = batch_length(form, [table for table in several
+                                      if 3 <= table[0] <= 64 and table[1] <= 125])
     return several, out
 
 
@@ -777,33 +897,63 @@ def damaged_lists(dice, faults, ns, counts, fars, costs):
 
 
 def batch_cases(dice):
-    yield [], [], [], [], []
-    yield [], [], [], [], byte_places(dice, 5)
-    yield [], [], [2], [], byte_places(dice, 5)
-    yield [], [], [], [1], []
-    yield [], [3], [2, 4, 6], [1, 1, 1], byte_places(dice, 11)
-    yield [3], [], [2, 4, 6], [1, 1, 1], byte_places(dice, 11)
-    yield [2, 3], [3], [], [], []
+    for number in (0, 1):
+        yield number, [], [], [], [], []
+        yield number, [], [], [], [], byte_places(dice, 5)
+        yield number, [], [], [2], [], byte_places(dice, 5)
+        yield number, [], [], [], [1], []
+        yield number, [], [3], [2, 4, 6], [1, 1, 1], byte_places(dice, 13)
+        yield number, [3], [], [2, 4, 6], [1, 1, 1], byte_places(dice, 13)
+        yield number, [2, 3], [3], [], [], []
     for _ in range(36):
-        several = [sound_table(dice, small_n(dice)) for _ in range(dice.one_of([1, 2, 2, 3, 4]))]
-        yield joined(several) + (byte_places(dice, room(dice, batch_length(several), False)),)
-    several = [sound_table(dice, n) for n in (64, 3, 33)]
-    yield joined(several) + (byte_places(dice, batch_length(several) + 2),)
-    kinds = ["lists", "n", "count", "joined", "row", "own", "room", "left"]
-    for faults in fault_sets(dice, kinds, 8, 90):
-        several, out = damaged_tables(dice, faults)
+        number = dice.one_of(FORM_NUMBERS)
+        form = law.form_named(number)
+        several = [sound_table(dice, small_n(dice), form) for _ in range(dice.one_of([1, 2, 2, 3, 4]))]
+        needed = room(dice, batch_length(form, several), False)
+        yield (number,) + joined(several) + (byte_places(dice, needed),)
+    for number, sizes in ((0, (64, 3, 33)), (1, (3, 64, 9))):
+        form = law.form_named(number)
+        several = [sound_table(dice, n, form) for n in sizes]
+        yield (number,) + joined(several) + (byte_places(dice, batch_length(form, several) + 2),)
+    kinds = ["lists", "n", "count", "joined", "row", "own", "old", "room", "left"]
+    for faults in fault_sets(dice, kinds, 8, 96):
+        number = 0 if "old" in faults else dice.one_of(FORM_NUMBERS)
+        several, out = damaged_tables(dice, law.form_named(number), faults)
         lists = damaged_lists(dice, faults, *joined(several))
-        yield lists + (byte_places(dice, room(dice, max(out, 2), "room" in faults)),)
+        yield (number,) + lists + (byte_places(dice, room(dice, max(out, 2), "room" in faults)),)
+    for n in BAD_IN_LIST:
+        for number in (0, dice.one_of([1, 2 ** 32])):
+            yield number, [3, n], [3, 3], [2, 4, 6] * 2, [1] * 6, byte_places(dice, 26)
+    # Above the old limits in the first table, in the second, and in both, beside each later fault
+    # and an earlier one of the other table; then the same in the new form, which takes them.
+    good = (4, 4, [2, 4, 8, 14], [1, 2, 3, 4])
+    high = (4, 4, [2, 4, 8, 14], [1, 2000000, 2000001, 16000000])
+    lost = (4, 4, [2, 4, 12, 14], [1, 2000001, 3, 4])
+    too_large = (4, 4, [2, 4, 8, 14], [2000001, 16000001, 1, 1])
+    for pair in ((high, good), (good, high), (high, high), (high, lost), (lost, high), (high, too_large),
+                 (too_large, high), (good, lost), (good, too_large)):
+        for number in (0, 1):
+            for more in (0, -1):
+                needed = batch_length(law.form_named(number), pair) + more
+                yield (number,) + joined(pair) + (byte_places(dice, needed),)
+    yield (0,) + joined([good, high]) + ([],)
+    yield (0,) + joined([good, high]) + (byte_places(dice, links_length(OLD, 4, 4)),)
+    n, fars = 33, law.tree_far_sides(dice, 33, "star")
+    last = (n, n, fars, [1] * (n - 1) + [2000001])
+    yield (0,) + joined([good, last]) + (byte_places(dice, 30),)
 
 
 # Stored bytes
 
-def bits_of_links(n, count, rows):
-    """Fields of a link table as they stand, whatever they hold."""
-    bits = law.field(7, n % 128) + law.field(7, count % 128)
-    for far, cost in rows:
-        bits += law.field(n - 1, far // 2 % 2 ** (n - 1)) + law.field(21, cost % 2 ** 21)
-    return bits
+def bits_of_rows(n, rows, form):
+    """The rows of a link table as they stand, whatever they hold."""
+    return "".join(law.field(n - 1, far // 2 % 2 ** (n - 1))
+                   + law.field(form.cost_bits, cost % 2 ** form.cost_bits) for far, cost in rows)
+
+
+def bits_of_links(n, count, rows, form):
+    """Fields of a link table as they stand."""
+    return form.mark + law.field(7, n) + law.field(7, count) + bits_of_rows(n, rows, form)
 
 
 def filled(dice, bits, bad):
@@ -842,135 +992,208 @@ def placed(dice, front, stored, faults):
     return whole, position
 
 
-def damaged_stored_links(dice, n, rows, faults):
+def bad_header_n(dice, form):
+    """127 is no n of the old form: there it says that the table is in the new one."""
+    return dice.one_of([0, 1, 2, 65, 66, 100, 126 if form == OLD else 127])
+
+
+def damaged_stored_links(dice, n, rows, faults, form):
     """Stored bytes of a link table with the faults that bytes can have."""
     if "own" in faults and n < 4:
         n, rows = 4, good_links(dice, 4)
-    _, count, fars, costs = damage_links(dice, n, rows, faults & {"row", "own"})
-    rows = list(zip(fars, costs))
+    rows = fitted_rows(rows, form)
+    bad_cost = BAD_OLD_COST if form == OLD else BAD_COST
+    _, count, fars, costs = damage_links(dice, n, rows, faults & {"row", "own", "old"}, bad_cost)
     header_n, header_count = n, count
     if "n" in faults:
-        header_n = dice.one_of([0, 1, 2, 65, 66, 100, 127])
+        header_n = bad_header_n(dice, form)
     if "count" in faults:
         header_count = dice.one_of([0, 1, n - 1, 2 * n - 2, 127])
-    bits = bits_of_links(n, count, rows)
-    bits = law.field(7, header_n) + law.field(7, header_count) + bits[14:]
+    bits = form.mark + law.field(7, header_n) + law.field(7, header_count)
+    bits += bits_of_rows(n, list(zip(fars, costs)), form)
     stored = filled(dice, bits, "fill" in faults)
+    header = 2 if form == OLD else 3
     if "body" in faults:
-        stored = cut_body(dice, stored, 2)
+        stored = cut_body(dice, stored, header)
     if "header" in faults:
-        stored = stored[:dice.below(2)]
+        stored = stored[:dice.below(header)]
     return n, stored
+
+
+def short_headers():
+    """Bytes that end in the header or right behind it: 127 in front needs a byte more, and a
+    second 127 is an n."""
+    for stored in ([254], [255], [252], [253], [6], [130], [254, 12], [255, 255], [255, 254], [255, 252],
+                   [254, 0], [254, 9], [252, 255], [253, 255], [6, 0], [6, 13], [254, 12, 26],
+                   [254, 12, 24], [254, 12, 16], [255, 255, 255], [255, 252, 0], [255, 0, 0], [254, 1, 26],
+                   [255, 255, 255, 255]):
+        yield stored
 
 
 def read_links_cases(dice):
     yield [], 0, far_places(dice, 3), places(dice, 3)
     yield law.STORED_A_LINKS, 0, far_places(dice, 3), places(dice, 3)
+    yield law.STORED_A_LINKS_NEW, 0, far_places(dice, 3), places(dice, 3)
 
     def outputs(n, short):
         room1, room2 = two_rooms(dice, 2 * n - 3, short)
         return far_places(dice, room1), places(dice, room2)
 
     for n, rows in links(dice, 40):
-        stored = law.stored_links(n, *sides_and_costs(rows))
-        yield around(dice, stored, set()) + outputs(n, False)
+        yield around(dice, links_in(n, rows, any_form(dice)), set()) + outputs(n, False)
     for fars in subsets_of_four():
-        stored = law.bytes_of_bits(bits_of_links(4, len(fars), [(far, 1) for far in fars]))
+        stored = law.bytes_of_bits(bits_of_links(4, len(fars), [(far, 1) for far in fars], any_form(dice)))
         yield stored, 0, [8] * 5, [8] * 5
     kinds = ["position", "header", "n", "count", "room", "body", "fill", "row", "own"]
-    for faults in fault_sets(dice, kinds, 7, 80):
-        n = damaged_n(dice)
-        n, stored = damaged_stored_links(dice, n, good_links(dice, n), faults)
-        yield around(dice, stored, faults) + outputs(n, "room" in faults)
-    # Two tables one after another, read at both starts and at every bit between.
-    first, second = law.stored_links(4, [2, 4, 8, 12, 14], [1, 2, 3, 4, 5]), law.STORED_A_LINKS
+    for form in (OLD, NEW):
+        for faults in fault_sets(dice, kinds, 5, 48):
+            n = damaged_n(dice)
+            n, stored = damaged_stored_links(dice, n, good_links(dice, n), faults, form)
+            yield around(dice, stored, faults) + outputs(n, "room" in faults)
+    for stored in short_headers():
+        yield stored, 0, [8] * 3, [8] * 3
+        yield [9] + stored, 8, [8] * 3, [8] * 2
+    yield from at_link_limits(dice, lambda n, stored: (stored, 0, [8] * (2 * n - 3), [7] * (2 * n - 3)))
+    # Two tables one after another, of both forms, read at both starts and at every bit between.
+    first, second = law.stored_links(4, [2, 4, 8, 12, 14], [1, 2, 3, 4, 5]), law.STORED_A_LINKS_NEW
     for position in list(range(0, 20)) + [8 * len(first) - 8, 8 * len(first), 8 * len(first) + 8]:
         yield first + second, position, [9] * 6, [9] * 6
     for position in HUGE:
         yield first, position, [9] * 6, [9] * 6
-    for _ in range(24):
-        n = dice.one_of([3, 3, 4])
+    for _ in range(30):
+        n, form = dice.one_of([3, 3, 4]), any_form(dice)
         count = dice.between(n, 2 * n - 3)
-        bits = law.field(7, n) + law.field(7, count)
-        body = [dice.one_of([0, 0, 1, 2, 4, 8, 64, 255]) for _ in range(links_length(n, count))]
-        stored = law.bytes_of_bits(bits + law.bits_of_bytes(body)[:8 * links_length(n, count) - 14])
+        bits = form.mark + law.field(7, n) + law.field(7, count)
+        length = links_length(form, n, count)
+        body = [dice.one_of([0, 0, 1, 2, 4, 8, 64, 255]) for _ in range(length)]
+        stored = law.bytes_of_bits(bits + law.bits_of_bytes(body)[:8 * length - len(bits)])
         yield stored, 0, [7] * 5, [7] * 5
+    # The longest table of each form.
+    fars = law.tree_far_sides(dice, 64, "caterpillar")
+    for form in (OLD, NEW):
+        stored = law.stored_links(64, fars, [dice.one_of([1, 2, form.most_cost]) for _ in fars], form)
+        yield stored, 0, [8] * 125, [7] * 125
+        yield stored[:-1], 0, [8] * 125, [7] * 125
 
 
-def damaged_stored_costs(dice, n, t, faults):
+def at_link_limits(dice, case):
+    """Stored link tables of both forms with one cost at each limit and just above it; the old
+    form has no bits for the two that are higher."""
+    for n in (3, 4, 9, 33):
+        fars = law.tree_far_sides(dice, n, "star" if n == 33 else "uneven")
+        for form, limits in ((OLD, (2000000, 2000001)), (NEW, (2000000, 2000001, 16000000, 16000001))):
+            for cost in limits:
+                costs = [1] * len(fars)
+                costs[dice.one_of([0, len(fars) - 1, dice.below(len(fars))])] = cost
+                yield case(n, law.stored_links(n, fars, costs, form))
+
+
+def at_cost_limits(dice, case, sizes=(3, 4, 9, 33)):
+    """The same of stored cost tables."""
+    for n in sizes:
+        for form, limits in ((OLD, (1000000, 1000001)), (NEW, (1000000, 1000001, 8000000, 8000001))):
+            for entry in limits:
+                i, j = dice.one_of([(1, 2), (n - 1, n), dice.one_of(pairs(n))])
+                yield case(n, stored_costs(n, with_entry(n, [0] * (n * n), i, j, entry), form))
+
+
+def damaged_stored_costs(dice, n, t, faults, form):
     """Stored bytes of a cost table with the faults that bytes can have."""
-    t = list(t)
+    t = fitted(t, form)
+    if "old" in faults:
+        for i, j in dice.mixed(pairs(n))[:dice.between(1, 2)]:
+            t = with_entry(n, t, i, j, dice.one_of(ABOVE_OLD_ENTRY))
     if "entry" in faults:
         for _ in range(dice.between(1, 2)):
             i, j = sorted(dice.mixed(range(n))[:2])
-            t[i * n + j] = dice.one_of([1000001, 1000001, 1048575])
-    header = dice.one_of([0, 1, 2, 65, 66, 100, 127]) if "n" in faults else n
-    bits = law.field(7, header)
-    bits += "".join(law.field(20, t[(i - 1) * n + j - 1]) for i, j in pairs(n))
+            t[i * n + j] = dice.one_of([form.most_entry + 1, form.most_entry + 1, 2 ** form.entry_bits - 1])
+    header = bad_header_n(dice, form) if "n" in faults else n
+    bits = form.mark + law.field(7, header)
+    bits += "".join(law.field(form.entry_bits, t[(i - 1) * n + j - 1]) for i, j in pairs(n))
     stored = filled(dice, bits, "fill" in faults)
+    header = 1 if form == OLD else 2
     if "body" in faults:
-        stored = cut_body(dice, stored, 1)
+        stored = cut_body(dice, stored, header)
     if "header" in faults:
-        stored = []
+        stored = stored[:dice.below(header)]
     return stored
 
 
 def read_costs_cases(dice):
     yield [], 0, places(dice, 9)
     yield law.STORED_A_COSTS, 0, places(dice, 9)
+    yield law.STORED_A_COSTS_NEW, 0, places(dice, 9)
 
     def output(n, short):
         return (places(dice, room(dice, n * n, short)),)
 
     for n, t in example_tables():
-        yield around(dice, stored_costs(n, t), set()) + output(n, False)
+        yield around(dice, costs_in(n, t, any_form(dice)), set()) + output(n, False)
     for _ in range(40):
         n = small_n(dice)
-        yield around(dice, stored_costs(n, good_table(dice, n)), set()) + output(n, False)
+        yield around(dice, costs_in(n, good_table(dice, n), any_form(dice)), set()) + output(n, False)
     kinds = ["position", "header", "n", "room", "body", "fill", "entry"]
-    for faults in fault_sets(dice, kinds, 8, 72):
-        n = damaged_n(dice)
-        stored = damaged_stored_costs(dice, n, good_table(dice, n), faults)
-        yield around(dice, stored, faults) + output(n, "room" in faults)
-    first, second = stored_costs(4, law.random_table(dice, 4, 9)), law.STORED_A_COSTS
+    for form in (OLD, NEW):
+        for faults in fault_sets(dice, kinds, 5, 42):
+            n = damaged_n(dice)
+            stored = damaged_stored_costs(dice, n, good_table(dice, n), faults, form)
+            yield around(dice, stored, faults) + output(n, "room" in faults)
+    for stored in short_headers():
+        yield stored, 0, [8] * 9
+        yield [9] + stored, 8, [8] * 9
+    yield from at_cost_limits(dice, lambda n, stored: (stored, 0, [8] * (n * n)), (3, 4, 9))
+    first, second = stored_costs(4, law.random_table(dice, 4, 9)), law.STORED_A_COSTS_NEW
     for position in list(range(0, 18)) + [8 * len(first) - 8, 8 * len(first), 8 * len(first) + 8]:
         yield first + second, position, [9] * 16
     for position in HUGE:
         yield first, position, [9] * 16
-    for n, most in ((33, 30), (58, 1)):
-        yield stored_costs(n, tree(dice, n, most, "uneven")), 0, [8] * (n * n + 1)
-    # 64 images: too little room, then too few bytes.
-    start = stored_costs(64, [1] * 4096)[:40]
-    yield start, 0, places(dice, 64)
-    yield start, 0, [8] * 4096
-    # All of the 5,041 bytes: accepted, with just enough room and with more, alone and between
-    # other bytes; then each fault alone, and two at once.
-    yield stored_costs(64, tree(dice, 64, 3000, "uneven")), 0, [8] * 4096
-    yield [7] + stored_costs(64, law.random_table(dice, 64, 1000000)) + [6, 0], 8, [8] * 4097
-    upper = [1000000] + [0] * 2014 + [1000000]
-    stored = stored_costs(64, table_from(64, upper))
-    assert len(stored) == 5041
-    too_large = stored_costs(64, table_from(64, upper[:-1] + [1000001]))
-    yield stored, 0, [8] * 4096
-    yield stored, 0, [8] * 4095
+    # 33 images in each form: accepted, too little room, each fault, and two at once.
+    for form in (OLD, NEW):
+        top = form.most_entry
+        stored = costs_in(33, sparse_table(dice, 33, top), form)
+        too_large = stored_costs(33, table_from(33, [0] * 527 + [top + 1]), form)
+        yield stored, 0, [8] * 1090
+        yield stored, 0, [8] * 1088
+        yield stored[:-1], 0, [8] * 1089
+        yield stored[:-1] + [stored[-1] + 1], 0, [8] * 1089
+        yield too_large, 0, [8] * 1089
+        yield too_large[:-1] + [too_large[-1] + 1], 0, [8] * 1089
+        yield too_large[:-1], 0, [8] * 1089
+    # 64 images: too little room, which is looked at before the bytes behind the header.
+    for form in (OLD, NEW):
+        start = stored_costs(64, [1] * 4096, form)[:40]
+        yield start, 0, places(dice, 64)
+    # All of the 5,041 or 5,798 bytes: accepted, with just enough room and with more, alone and
+    # between other bytes; then faults of the last place.
+    yield costs_in(64, sparse_table(dice, 64, 1000000), OLD), 0, [8] * 4096
+    yield [7] + costs_in(64, sparse_table(dice, 64, 8000000), NEW) + [6, 0], 8, [8] * 4097
+    upper = [1000000] + [0] * 2014
+    stored = stored_costs(64, table_from(64, upper + [1000000]), OLD)
+    new = stored_costs(64, table_from(64, upper + [8000000]), NEW)
+    assert len(stored) == 5041 and len(new) == 5798
     yield stored[:-1], 0, [8] * 4096
-    yield stored[:-1], 0, [8] * 4095
-    yield stored[:-1] + [stored[-1] + 1], 0, [8] * 4096
-    yield too_large, 0, [8] * 4096
-    yield too_large[:-1] + [too_large[-1] + 1], 0, [8] * 4096
-    yield stored_costs(64, table_from(64, [1000001] + upper[1:]))[:-1], 0, [8] * 4096
-    yield [130] + stored[1:], 0, [8] * 4096
-    yield [7] + stored, 8 * 5042, [8] * 4096
+    yield new[:-1] + [new[-1] + 1], 0, [8] * 4096
+    yield stored_costs(64, table_from(64, upper + [8000001]), NEW), 0, [8] * 4096
+    yield [130] + stored[1:], 0, [8] * 50
+    yield new[:1] + [new[1] + 4] + new[2:], 0, [8] * 50
+    yield [7] + stored, 8 * 5042, [8] * 50
 
 
 def choice_cases(dice):
     def stored(n, rows):
         behind = [dice.below(256) for _ in range(dice.one_of([0, 0, 1, 3]))]
-        return law.stored_links(n, *sides_and_costs(rows)) + behind
+        return links_in(n, rows, any_form(dice)) + behind
 
+    old, new = law.STORED_A_LINKS, law.STORED_A_LINKS_NEW
     yield [], []
-    yield law.STORED_A_LINKS, []
-    yield [], law.STORED_A_LINKS
+    for one in (old, new):
+        yield one, []
+        yield [], one
+        for other in (old, new):
+            yield one, other
+    for header in short_headers():
+        yield header, dice.one_of([old, new])
+        yield dice.one_of([old, new]), header
     for name in sorted(law.EXAMPLES):
         for other in sorted(law.EXAMPLES):
             if dice.chance(1, 2):
@@ -982,6 +1205,17 @@ def choice_cases(dice):
     for n in (33, 64):
         rows = tree_rows(dice, n, "uneven", 9, even=False)
         yield stored(n, fewer_inner(dice, n, rows)), stored(n, rows)
+    # Each form beside each: the first includes the other, the second does, both do, neither does.
+    for n in (5, 9, 33):
+        rows = tree_rows(dice, n, "caterpillar", 9, even=False)
+        inner = [row for row in rows if is_inner(n, row[0])]
+        fewer, other = [[row for row in rows if row != lost] for lost in (inner[0], inner[-1])]
+        for one, two in ((rows, fewer), (fewer, rows), (rows, even_rows(rows)), (fewer, other)):
+            for form in (OLD, NEW):
+                for form2 in (OLD, NEW):
+                    if n < 33 or form != form2:
+                        yield links_in(n, one, form), links_in(n, two, form2)
+    yield from at_link_limits(dice, lambda n, table: (table, old) if n == 3 else (table, table[:]))
     for _ in range(10):
         n = damaged_n(dice, 4)
         yield stored(n, good_links(dice, n)), stored(n - 1, good_links(dice, n - 1))
@@ -989,15 +1223,15 @@ def choice_cases(dice):
     # Each fault in the first table with each in the second.
     for fault in kinds:
         for fault2 in kinds:
-            yield (damaged_stored_links(dice, 4, good_links(dice, 4), {fault})[1],
-                   damaged_stored_links(dice, 4, good_links(dice, 4), {fault2})[1])
-    for faults in fault_sets(dice, kinds, 7, 72):
+            yield (damaged_stored_links(dice, 4, good_links(dice, 4), {fault}, any_form(dice))[1],
+                   damaged_stored_links(dice, 4, good_links(dice, 4), {fault2}, any_form(dice))[1])
+    for faults in fault_sets(dice, kinds, 9, 84):
         n = damaged_n(dice)
         one, two = related_rows(dice, n)
         both = [stored(n, one), stored(n, two)]
         for which in dice.one_of([[0], [1], [1], [0, 1]]):
             some = some_of(dice, faults)
-            both[which] = damaged_stored_links(dice, n, one, some)[1]
+            both[which] = damaged_stored_links(dice, n, one, some, any_form(dice))[1]
         yield both[0], both[1]
 
 
@@ -1009,21 +1243,23 @@ def few_images(dice):
 
 
 def any_stored(dice):
-    """A stored table of either kind."""
+    """A stored table of either kind, in either form."""
     n = few_images(dice)
     if dice.chance(1, 2):
-        return stored_costs(n, good_table(dice, n))
-    return law.stored_links(n, *sides_and_costs(good_links(dice, n)))
+        return costs_in(n, good_table(dice, n), any_form(dice))
+    return links_in(n, good_links(dice, n), any_form(dice))
 
 
 def tables_in_a_row(dice):
-    """Lists of stored tables of both kinds that stand one after another."""
+    """Lists of stored tables of both kinds and forms that stand one after another."""
     one, other = law.STORED_A_COSTS, law.STORED_A_LINKS
+    new, other_new = law.STORED_A_COSTS_NEW, law.STORED_A_LINKS_NEW
     yield from ([], [one], [other], [one, one], [one, other], [other, one], [other, other])
+    yield from ([new], [other_new], [one, new], [new, one], [new, other_new], [other_new, other, new])
     for name in sorted(law.EXAMPLES)[1:]:
         n, t = law.example(name)
-        yield dice.mixed([stored_costs(n, t),
-                          law.stored_links(n, *sides_and_costs(law.MEASURED[name]))])
+        yield dice.mixed([costs_in(n, t, any_form(dice)),
+                          links_in(n, law.MEASURED[name], any_form(dice))])
     for _ in range(2):
         yield [any_stored(dice) for _ in range(3)]
 
@@ -1036,7 +1272,7 @@ def reader_stops(dice):
         stored = sum(several, [])
         at = 0
         for table in several:
-            yield stored, 8 * at, table[0] // 2
+            yield stored, 8 * at, images_of(table)
             at += len(table)
         yield stored, 8 * at, 3
     stored = law.STORED_A_COSTS + law.STORED_A_LINKS
@@ -1064,48 +1300,55 @@ def first_two_cases(dice):
         return places(dice, room(dice, n * n, short))
 
     one, other_kind = law.STORED_A_COSTS, law.STORED_A_LINKS
+    new = law.STORED_A_COSTS_NEW
     for stored, position, n in reader_stops(dice):
         yield stored, position, output(n, False), output(few_images(dice), False)
-    for stored in (one + one, one + other_kind, one + one[:-1], one + one + one):
+    for stored in (one + one, one + other_kind, one + one[:-1], one + one + one, one + new, new + one,
+                   new + new, new + new[:-1], one + [254], one + [255, 255], new + [255]):
         yield stored, 0, places(dice, 9), places(dice, 9)
     for n, t in example_tables():
         n2 = few_images(dice)
-        yield (stored_costs(n, t) + stored_costs(n2, good_table(dice, n2)), 0, output(n, False),
-               output(n2, False))
+        yield (costs_in(n, t, any_form(dice)) + costs_in(n2, good_table(dice, n2), any_form(dice)), 0,
+               output(n, False), output(n2, False))
     # The first is damaged, so that the reader stays and the second take is of it too.
     kinds = ["position", "header", "n", "room", "body", "fill", "entry"]
-    for faults in fault_sets(dice, kinds, 4, 24):
-        n = few_images(dice)
-        stored = damaged_stored_costs(dice, n, good_table(dice, n), faults)
-        yield (placed(dice, tables_in_front(dice), stored, faults)
-               + (output(n, "room" in faults), output(n, dice.chance(1, 2))))
+    for form in (OLD, NEW):
+        for faults in fault_sets(dice, kinds, 4, 15):
+            n = few_images(dice)
+            stored = damaged_stored_costs(dice, n, good_table(dice, n), faults, form)
+            yield (placed(dice, tables_in_front(dice), stored, faults)
+                   + (output(n, "room" in faults), output(n, dice.chance(1, 2))))
     # The second is damaged, behind an accepted one.
-    for faults in fault_sets(dice, kinds[1:], 8, 24):
-        n, n2 = few_images(dice), few_images(dice)
-        stored = stored_costs(n, good_table(dice, n))
-        stored += damaged_stored_costs(dice, n2, good_table(dice, n2), faults)
-        yield (placed(dice, tables_in_front(dice), stored, faults)
-               + (output(n, False), output(n2, "room" in faults)))
+    for form in (OLD, NEW):
+        for faults in fault_sets(dice, kinds[1:], 5, 15):
+            n, n2 = few_images(dice), few_images(dice)
+            stored = costs_in(n, good_table(dice, n), any_form(dice))
+            stored += damaged_stored_costs(dice, n2, good_table(dice, n2), faults, form)
+            yield (placed(dice, tables_in_front(dice), stored, faults)
+                   + (output(n, False), output(n2, "room" in faults)))
     for stored in each_fill_bit(one):
-        yield one + stored, 0, places(dice, 9), places(dice, 9)
+        yield new + stored, 0, places(dice, 9), places(dice, 9)
         yield stored + one, 0, places(dice, 9), places(dice, 9)
+    for stored in each_fill_bit(new):
+        yield one + stored, 0, places(dice, 9), places(dice, 9)
+        yield stored + new, 0, places(dice, 9), places(dice, 9)
     for n in (3, 4, 8):
-        stored = other_kind + stored_costs(n, law.random_table(dice, n, 9)) + one
+        stored = other_kind + costs_in(n, law.random_table(dice, n, 9), any_form(dice)) + one
         for more in (-1, 0, 1):
             yield stored, 88, places(dice, n * n + more), places(dice, n * n + more)
     for n, n2 in ((9, 33), (33, 9), (33, 3)):
-        stored = one + stored_costs(n, good_table(dice, n)) + stored_costs(n2, good_table(dice, n2))
+        stored = one + costs_in(n, good_table(dice, n), NEW)
+        stored += costs_in(n2, good_table(dice, n2), any_form(dice))
         yield stored + [6, 0], 72, places(dice, n * n + 1), places(dice, n2 * n2)
-    # 64 images: accepted, before and behind another table; with few bytes; with too little room.
-    stored = stored_costs(64, tree(dice, 64, 1, "star"))
-    yield one + stored, 0, places(dice, 9), places(dice, 4096)
-    yield stored + one, 0, places(dice, 4097), places(dice, 9)
-    yield one + [128, 0], 0, places(dice, 9), places(dice, 4096)
-    yield [128, 0], 0, places(dice, 4095), places(dice, 4096)
-    # Two of 64 images: both accepted, the second one byte short.
-    stored = stored_costs(64, table_from(64, [0] * 2015 + [1000000]))
-    yield stored * 2, 0, [8] * 4096, [9] * 4096
-    yield stored + stored[:-1], 0, [8] * 4096, [9] * 4096
+    # Too little room and then too few bytes, for 33 images; the second of 33 one byte short.
+    yield [66, 0], 0, [8] * 1088, [9] * 1089
+    stored = stored_costs(33, table_from(33, [0] * 527 + [8000000]), NEW)
+    yield stored + stored[:-1], 0, [8] * 1089, [9] * 1089
+    # 64 images: before and behind another table; two of 64, one of them in the new form.
+    stored = stored_costs(64, tree(dice, 64, 1, "star"), NEW)
+    yield one + stored, 0, places(dice, 9), [8] * 4096
+    last = table_from(64, [0] * 2015 + [1000000])
+    yield stored_costs(64, last, NEW) + stored_costs(64, last), 0, [8] * 4096, [9] * 4096
 
 
 def first_links_cases(dice):
@@ -1116,32 +1359,38 @@ def first_links_cases(dice):
     for stored, position, n in reader_stops(dice):
         yield (stored, position) + outputs(n, False)
     kinds = ["position", "header", "n", "count", "room", "body", "fill", "row", "own"]
-    for faults in fault_sets(dice, kinds, 4, 22):
-        n = few_images(dice)
-        n, stored = damaged_stored_links(dice, n, good_links(dice, n), faults)
-        yield placed(dice, tables_in_front(dice), stored, faults) + outputs(n, "room" in faults)
-    for stored in each_fill_bit(law.STORED_A_LINKS):
+    for form in (OLD, NEW):
+        for faults in fault_sets(dice, kinds, 4, 20):
+            n = few_images(dice)
+            n, stored = damaged_stored_links(dice, n, good_links(dice, n), faults, form)
+            yield placed(dice, tables_in_front(dice), stored, faults) + outputs(n, "room" in faults)
+    for table in (law.STORED_A_LINKS, law.STORED_A_LINKS_NEW):
+        for stored in each_fill_bit(table):
+            yield (law.STORED_A_COSTS + stored, 72) + outputs(3, False)
+    for stored in short_headers():
         yield (law.STORED_A_COSTS + stored, 72) + outputs(3, False)
+    yield from at_link_limits(dice, lambda n, stored: (law.STORED_A_COSTS_NEW + stored, 88) + outputs(n, False))
     for _ in range(8):
         n = few_images(dice)
-        stored = law.stored_links(n, *sides_and_costs(good_links(dice, n)))
+        stored = links_in(n, good_links(dice, n), any_form(dice))
         yield placed(dice, tables_in_front(dice), stored, set()) + outputs(n, False)
     # One row of example E spoilt, behind another table: repeated, without images, across
     # a later one, an inner cost of 0, a cost above the most.
-    for row, far, cost in ((1, 2, 2), (0, 0, 2), (2, 6, 2), (3, 12, 0), (4, 14, 2000001)):
-        rows = list(law.MEASURED["E"])
-        rows[row] = far, cost
-        stored = law.STORED_A_LINKS + law.bytes_of_bits(bits_of_links(4, 5, rows))
-        yield stored, 88, far_places(dice, 5), places(dice, 5)
+    for form in (OLD, NEW):
+        for row, far, cost in ((1, 2, 2), (0, 0, 2), (2, 6, 2), (3, 12, 0), (4, 14, form.most_cost + 1)):
+            rows = list(law.MEASURED["E"])
+            rows[row] = far, cost
+            stored = law.STORED_A_LINKS + law.bytes_of_bits(bits_of_links(4, 5, rows, form))
+            yield stored, 88, far_places(dice, 5), places(dice, 5)
     for n in (3, 5):
-        stored = law.STORED_A_COSTS + law.stored_links(n, *sides_and_costs(good_links(dice, n)))
+        stored = law.STORED_A_COSTS + links_in(n, good_links(dice, n), NEW)
         for more, more2 in ((0, 0), (-1, 0), (0, -1), (1, 2)):
             yield (stored, 72, far_places(dice, 2 * n - 3 + more),
                    places(dice, 2 * n - 3 + more2))
     for n, shape in ((17, "uneven"), (64, "star"), (9, "uneven"), (33, "caterpillar"),
                      (64, "uneven")):
         rows = tree_rows(dice, n, shape, 9, even=False)
-        stored = law.STORED_A_COSTS + law.stored_links(n, *sides_and_costs(rows))
+        stored = law.STORED_A_COSTS + links_in(n, rows, any_form(dice))
         yield stored + [6, 13], 72, far_places(dice, 2 * n), places(dice, 2 * n - 3)
 
 
@@ -1149,9 +1398,9 @@ def two_damaged(dice, faults, faults2):
     """Two cost tables with these faults, and their outputs. Where bytes of the first
     are missing, the second stands right behind or is missing too."""
     n, n2 = few_images(dice), few_images(dice)
-    stored = damaged_stored_costs(dice, n, good_table(dice, n), faults)
+    stored = damaged_stored_costs(dice, n, good_table(dice, n), faults, any_form(dice))
     if not faults & {"header", "body"} or dice.chance(1, 3):
-        stored = stored + damaged_stored_costs(dice, n2, good_table(dice, n2), faults2)
+        stored = stored + damaged_stored_costs(dice, n2, good_table(dice, n2), faults2, any_form(dice))
         if not faults2 & {"header", "body"}:
             stored = stored + [dice.below(256) for _ in range(dice.below(3))]
     return (stored, places(dice, room(dice, n * n, "room" in faults)),
@@ -1159,18 +1408,21 @@ def two_damaged(dice, faults, faults2):
 
 
 def two_costs_cases(dice):
-    one, other_kind = law.STORED_A_COSTS, law.STORED_A_LINKS
-    for stored in ([], one, one + one, one * 3, one + other_kind, other_kind + one):
+    one, other_kind, new = law.STORED_A_COSTS, law.STORED_A_LINKS, law.STORED_A_COSTS_NEW
+    for stored in ([], one, one + one, one * 3, one + other_kind, other_kind + one, new, one + new, new + one,
+                   new + new, new * 3, [254], [255, 255]):
         yield stored, places(dice, 9), places(dice, 9)
+    for stored in short_headers():
+        yield dice.one_of([one, new]) + stored, places(dice, 9), places(dice, 9)
     for n, t in example_tables():
         n2, t2 = dice.one_of(example_tables())
-        yield (stored_costs(n, t) + stored_costs(n2, t2),
+        yield (costs_in(n, t, any_form(dice)) + costs_in(n2, t2, any_form(dice)),
                places(dice, room(dice, n * n, False)), places(dice, room(dice, n2 * n2, False)))
     for _ in range(8):
         yield two_damaged(dice, set(), set())
     # Each output too short, exact and too long.
     for n, n2 in ((3, 3), (4, 5)):
-        stored = stored_costs(n, good_table(dice, n)) + stored_costs(n2, good_table(dice, n2))
+        stored = costs_in(n, good_table(dice, n), OLD) + costs_in(n2, good_table(dice, n2), NEW)
         for more in (-1, 0, 2):
             for more2 in (-1, 0, 2):
                 yield stored, places(dice, n * n + more), places(dice, n2 * n2 + more2)
@@ -1179,23 +1431,26 @@ def two_costs_cases(dice):
     for fault in kinds:
         for fault2 in kinds:
             yield two_damaged(dice, {fault}, {fault2})
-    for faults in fault_sets(dice, kinds, 3, 24):
+    for faults in fault_sets(dice, kinds, 5, 36):
         damage = [set(), set()]
         for which in dice.one_of([[0], [1], [1], [0, 1]]):
             damage[which] = some_of(dice, faults)
         yield two_damaged(dice, damage[0], damage[1])
+    yield from at_cost_limits(dice, lambda n, stored: (one + stored, places(dice, 9), places(dice, n * n)), (3, 4))
+    yield from at_cost_limits(dice, lambda n, stored: (stored + new, places(dice, n * n), places(dice, 9)), (3, 4))
+    for stored in each_fill_bit(new):
+        yield stored + one, places(dice, 9), places(dice, 9)
+        yield one + stored, places(dice, 9), places(dice, 9)
     n = 17
-    stored = stored_costs(n, tree(dice, n, 3, "uneven"))
+    stored = costs_in(n, tree(dice, n, 3, "uneven"), NEW)
     yield one + stored, places(dice, 10), places(dice, n * n)
-    # 64 images: in the first, in the second, in both; the last entry, or the fill bit, of the second spoilt.
-    stored = stored_costs(64, table_from(64, [0] * 2015 + [1000000]))
-    too_large = stored_costs(64, table_from(64, [0] * 2015 + [1000001]))
-    yield stored + one, [8] * 4096, [9] * 9
-    yield one + stored, [8] * 9, [9] * 4097
+    # 64 images: in the second, one byte short or with its last entry spoilt; in both.
+    last = [0] * 2015 + [1000000]
+    stored = stored_costs(64, table_from(64, last), NEW)
+    too_large = stored_costs(64, table_from(64, last[:-1] + [8000001]), NEW)
     yield one + stored[:-1], [8] * 9, [9] * 4096
-    yield stored * 2 + [1], [8] * 4096, [9] * 4096
-    yield stored + too_large, [8] * 4096, [9] * 4096
-    yield stored + stored[:-1] + [stored[-1] + 1], [8] * 4096, [9] * 4096
+    yield one + too_large, [8] * 9, [9] * 4096
+    yield stored_costs(64, table_from(64, last)) + stored + [1], [8] * 4096, [9] * 4096
 
 
 def two_fields_cases(dice):
@@ -1203,12 +1458,15 @@ def two_fields_cases(dice):
     # n and the first entry of a stored cost table, n and the row count of a link table,
     # and a row: its far side and its doubled cost.
     for n in (3, 9, 33, 64):
-        costs = stored_costs(n, good_table(dice, n))[:40]
-        links = law.stored_links(n, *sides_and_costs(good_links(dice, n)))
-        yield costs, 0, 7, 20
-        yield costs, 27, 20, 20
-        yield links, 0, 7, 7
-        yield links, 14, n - 1, 21
+        for form in (OLD, NEW):
+            costs = costs_in(n, good_table(dice, n), form)[:40]
+            links = links_in(n, good_links(dice, n), form)[:80]
+            front, entry = len(form.mark) + 7, form.entry_bits
+            yield costs, front - 7, 7, entry
+            yield costs, front + entry, entry, entry
+            yield links, front - 7, 7, 7
+            yield links, front + 7, n - 1, form.cost_bits
+            yield links, 0, 7, 7
     # Each width at each bit of a byte, with more bits than are needed, as many, one too few.
     for width in (0, 1, 7, 8, 20, 31, 32, 33, 56, 57, 63, 64):
         for start in range(0, 16, 3):
@@ -1236,14 +1494,23 @@ def refusal_text_cases(dice):
     """Every number with a table and without one, in just enough room and in more; numbers that
     no refusal has; the longest text; and too little room."""
     enough = law.TEXT_BYTES
-    unknown = [17, 64, 99, 2 ** 32 + 7, 2 ** 63, 2 ** 64 - 1]
-    for number in list(range(17)) + unknown:
-        for table in (0, 1, dice.one_of([2, 10, 64, 500])):
+    unknown = [18, 64, 99, 2 ** 32 + 7, 2 ** 63, 2 ** 64 - 1]
+
+    def bytes_of_text(length):
+        """One digit a place, since there are many lines of these."""
+        return [k % 10 for k in range(length)]
+
+    for number in list(range(18)) + unknown:
+        for table in (0, dice.one_of([1, 2, 10, 64, 500])):
             places_of = [dice.one_of([1, 2, 9, 10, 33, 64, 99, 100, 12345]) for _ in range(4)]
-            yield (number, table, *places_of, byte_places(dice, dice.one_of([enough, enough, enough + 3])))
-        yield number, 0, 0, 0, 0, 0, byte_places(dice, enough)
-        yield (number, *[2 ** 64 - 1] * 5, byte_places(dice, enough))
+            yield (number, table, *places_of, bytes_of_text(dice.one_of([enough, enough, enough + 3])))
+        yield number, 0, 0, 0, 0, 0, bytes_of_text(enough)
+        yield (number, *[2 ** 64 - 1] * 5, bytes_of_text(enough))
         yield number, 3, 1, 2, 3, 5, byte_places(dice, dice.one_of([0, 1, 20, enough - 1, enough - 1]))
+    # Refusal 17 of a row alone, and of a row and a column; 12 beside a second place, which it has not.
+    for number in (12, 17):
+        for a, b in ((1, 0), (125, 0), (0, 0), (0, 3), (1, 2), (63, 64), (2 ** 64 - 1, 0), (2 ** 64 - 1, 1)):
+            yield number, dice.one_of([0, 0, 2]), a, b, 0, 0, bytes_of_text(enough)
 
 
 # Teams: tables over the same images, joined
@@ -1338,7 +1605,7 @@ def team_of_examples(dice):
 
 def teams_of_trees(dice):
     """Trees that share all far sides, some or none; one row that one tree lacks, wherever it
-    stands; all costs lowered to 0 by one table after another; entries of 1,000,000."""
+    stands; all costs lowered to 0 by one table after another; entries of 8,000,000."""
     for kind in TEAMS:
         for number in (1, 2, 3, 5, 16):
             for n in (small_n(dice), dice.one_of([4, 5, 6])):
@@ -1350,12 +1617,13 @@ def teams_of_trees(dice):
         for place in range(number):
             yield n, team_tables(n, [fewer if k == place else rows for k in range(number)])
     for n in (3, 4):
-        far_away = [table_from(n, [1000000 if image in pair else 0 for pair in pairs(n)])
+        far_away = [table_from(n, [8000000 if image in pair else 0 for pair in pairs(n)])
                     for image in range(1, n + 1)]
         yield n, far_away[:1]
         yield n, far_away[:2]
         yield n, far_away
-        yield n, [table_from(n, [1000000] * (n * n)), table_from(n, [999999] * (n * n))]
+        yield n, [table_from(n, [8000000] * (n * n)), table_from(n, [7999999] * (n * n))]
+        yield n, [table_from(n, [1000001] * (n * n)), table_from(n, [8000000] * (n * n))]
     for kind in ("all", "but one", "some", "any"):
         yield 9, team_tables(9, team(dice, 9, dice.one_of([2, 3, 4]), kind))
     yield 9, team_tables(9, team(dice, 9, 16, "some", 3))
@@ -1385,7 +1653,7 @@ def no_teams(dice):
     that fit them as far as there can be; 2^60 tables over four images have 2^64 entries."""
     for n in BAD_N:
         yield n, dice.one_of([1, 2, 16]), [], 3
-        yield n, bad_number(dice, 1), dice.one_of([[], [1000001] * 4]), 3
+        yield n, bad_number(dice, 1), dice.one_of([[], [8000001] * 4]), 3
     for n in (1, 2):
         yield n, 2, [0] * (2 * n * n), 3
     for n in (3, 4):
@@ -1394,7 +1662,7 @@ def no_teams(dice):
             yield n, number, [0] * (n * n * min(number, 18)), n
     for number in (1, 2, 15, 16):
         yield 3, number, [0] * (9 * number + dice.one_of([-9, -1, 1, 9])), 3
-        yield 3, number, [1000001] * (9 * number + dice.one_of([-9, -1, 1, 9])), 3
+        yield 3, number, [8000001] * (9 * number + dice.one_of([-9, -1, 1, 9])), 3
 
 
 def large_teams(dice):
@@ -1453,10 +1721,10 @@ def far_ends(dice):
         for farthest in ({2}, {3}, {n - 1}, {n}, {2, n}, {3, n}, {n - 1, n}, set()):
             for own in (0, dice.between(1, 9)):
                 yield n, star(n, [own] + [7 if i in farthest else dice.below(7) for i in range(2, n + 1)])
-    for n in (3, 4, 9, 33, 64):
+    for n in (3, 4, 9, 33):
         yield n, star(n, [1] * n)
         yield n, [0] * (n * n)
-    for n in (9, 9, 9, 33, 64):
+    for n in (9, 9, 9, 33):
         yield n, tree(dice, n, 2, "uneven")
 
 
@@ -1467,20 +1735,33 @@ def listing_cases(dice):
     yield [],
     for source in (example_tables(), ((3, t) for t in all_small_tables()), far_ends(dice)):
         for n, t in source:
-            yield followed(stored_costs(n, t)),
+            yield followed(stored_costs(n, t, any_form(dice))),
+    for n, t in example_tables():
+        yield stored_costs(n, t, NEW),
     for n in [small_n(dice) for _ in range(24)]:
-        yield followed(stored_costs(n, tree(dice, n))),
+        yield followed(stored_costs(n, tree(dice, n), any_form(dice))),
+    for entry in (1000000, 1000001, 8000000, 8000001):
+        yield stored_costs(4, table_from(4, [entry] * 6), NEW),
+        if entry < 8000000:
+            yield stored_costs(4, table_from(4, [entry] * 6), OLD),
+    for n, i in ((3, 1), (9, 2), (33, 33)):
+        own = [0] * n
+        own[i - 1] = 8000000
+        yield stored_costs(n, star(n, own), NEW),
+    for stored in short_headers():
+        yield stored,
     yield stored_costs(33, tree(dice, 33, 3000, "caterpillar")),
-    yield stored_costs(64, tree(dice, 64, 9000, "caterpillar")),
-    for n in (33, 64):
-        yield stored_costs(n, crooked(dice, n)),
-        yield stored_costs(n, tree(dice, n))[:-1],
+    yield stored_costs(64, star(64, [4000000] + [dice.below(4000001) for _ in range(63)]), NEW),
+    for n, form in ((33, NEW), (64, OLD), (64, NEW)):
+        yield stored_costs(n, crooked(dice, n), form),
+        yield stored_costs(n, tree(dice, n), form)[:-1],
     kinds = ["header", "n", "body", "fill", "entry", "wiring"]
-    for faults in fault_sets(dice, kinds, 6, 40):
-        n = damaged_n(dice)
-        t = crooked(dice, n) if "wiring" in faults else tree(dice, n)
-        stored = damaged_stored_costs(dice, n, t, faults)
-        yield (stored if faults & {"header", "body"} else followed(stored)),
+    for form in (OLD, NEW):
+        for faults in fault_sets(dice, kinds, 6, 25):
+            n = damaged_n(dice)
+            t = crooked(dice, n) if "wiring" in faults else tree(dice, n)
+            stored = damaged_stored_costs(dice, n, t, faults, form)
+            yield (stored if faults & {"header", "body"} else followed(stored)),
 
 
 # The second engine of the exact reading
@@ -1530,7 +1811,7 @@ def bare_tree(dice, n, most, shape=None):
 
 
 def grafted_trees(dice):
-    """Own links and entries of 0, ties, halves, entries of 1,000,000; few images and many."""
+    """Own links and entries of 0, ties, halves, entries of 8,000,000; few images and many."""
     for n in (3, 3, 3, 4, 4, 5, 5, 6, 7, 8, 9, 9):
         yield n, bare_tree(dice, n, dice.one_of([1, 3, 30]))
     for n, few in ((4, 3), (5, 3), (6, 4), (9, 4), (9, 7), (33, 6)):
@@ -1539,9 +1820,9 @@ def grafted_trees(dice):
         yield n, on_a_line(dice.mixed(range(0, 3 * n, 3)))
         yield n, in_halves(n)
         yield n, star(n, [dice.below(3) for _ in range(n)])
-        yield n, table_from(n, [1000000 if 1 in pair else 0 for pair in pairs(n)])
-        yield n, table_from(n, [1000000 if n in pair else 0 for pair in pairs(n)])
-        yield n, on_a_line([1000000 // i for i in range(1, n)] + [0])
+        yield n, table_from(n, [8000000 if 1 in pair else 0 for pair in pairs(n)])
+        yield n, table_from(n, [8000000 if n in pair else 0 for pair in pairs(n)])
+        yield n, on_a_line([8000000 // i for i in range(1, n)] + [0])
     yield 9, [0] * 81
     yield 33, in_halves(33)
     yield 33, bare_tree(dice, 33, 40, "uneven")
@@ -1595,6 +1876,123 @@ def grafted_cases(dice):
         yield n, t, far_places(dice, 2 * n - 3), places(dice, 2 * n - 4)
 
 
+# Conversions from one stored form into the other, and into the form that a table has
+
+def needed_bytes(convert, number, stored):
+    """The bytes that a conversion writes, or those that a small table would need."""
+    answer = convert(number, stored, [0] * LONGEST_BYTES)
+    return answer[1] if answer[0] == 0 else 14
+
+
+def conversion_cases(dice, convert, some_stored, damaged_stored, kinds, limits):
+    """Conversions of one kind of table: of examples and others with what may stand behind, into
+    each form; each limit; each fault and several at once, with 17 behind the reader's faults and
+    before room; short headers. `some_stored` gives a stored table of this form."""
+    def followed(stored):
+        return stored + [dice.below(256) for _ in range(dice.one_of([0, 0, 0, 1, 3]))]
+
+    def out(number, stored, short=False):
+        return byte_places(dice, room(dice, needed_bytes(convert, number, stored), short))
+
+    for stored in [[]] + list(short_headers()):
+        for number in (0, 1):
+            yield number, stored, byte_places(dice, 14)
+    for form in (OLD, NEW):
+        for stored in some_stored(form):
+            for number in (0, dice.one_of(FORM_NUMBERS[5:])):
+                yield number, followed(stored), out(number, stored)
+    # Just enough room, one byte less and one more.
+    for form in (OLD, NEW):
+        for stored in some_stored(form)[:2] + some_stored(form)[-2:]:
+            for number in (0, 1):
+                for more in (-1, 0, 1):
+                    yield number, stored, byte_places(dice, needed_bytes(convert, number, stored) + more)
+    for n, stored in limits:
+        for number in (0, 1):
+            yield number, stored, out(number, stored) if n < 10 else byte_places(dice, 20)
+    for form in (OLD, NEW):
+        for faults in fault_sets(dice, [kind for kind in kinds if kind != "old" or form == NEW], 5, 42):
+            number = 0 if "old" in faults else dice.one_of(FORM_NUMBERS)
+            stored = damaged_stored(damaged_n(dice), faults, form)
+            stored = stored if faults & {"header", "body"} else followed(stored)
+            yield number, stored, out(number, stored, "room" in faults)
+
+
+def convert_costs_cases(dice):
+    def some_stored(form):
+        sizes = [small_n(dice) for _ in range(12)] + [9, 9]
+        found = [stored_costs(n, t, form) for n, t in example_tables()]
+        return found + [costs_in(n, law.random_table(dice, n, dice.one_of([9, 1000000])), form) for n in sizes]
+
+    def damaged_stored(n, faults, form):
+        return damaged_stored_costs(dice, n, good_table(dice, n), faults, form)
+
+    kinds = ["header", "n", "body", "fill", "entry", "old", "room"]
+    limits = list(at_cost_limits(dice, lambda n, stored: (n, stored)))
+    yield from conversion_cases(dice, law.convert_costs, some_stored, damaged_stored, kinds, limits)
+    # Entries above the old limits: the first of several counts.
+    for n in (3, 4, 9, 33):
+        for high in (1, 2, 3):
+            upper = [dice.below(10) for _ in pairs(n)]
+            for place in dice.mixed(range(len(upper)))[:high]:
+                upper[place] = dice.one_of(ABOVE_OLD_ENTRY)
+            stored = stored_costs(n, table_from(n, upper), NEW)
+            yield 0, stored, byte_places(dice, dice.one_of([0, 9, 60]))
+            if n < 33:
+                yield 1, stored, byte_places(dice, len(stored))
+    for form, number in ((OLD, 1), (NEW, 0), (NEW, 1)):
+        stored = costs_in(33, sparse_table(dice, 33, 1000000), form)
+        yield number, stored, [9] * costs_length(law.form_named(number), 33)
+    # 64 images: each way, the whole room and one byte less, and the last entry above the old limits.
+    t = sparse_table(dice, 64, 1000000)
+    yield 1, stored_costs(64, t), [9] * 5800
+    yield 0, stored_costs(64, t, NEW) + [3], [9] * 5041
+    t = table_from(64, [0] * 2015 + [1000000])
+    yield 0, stored_costs(64, t, NEW), [9] * 5040
+    yield 1, stored_costs(64, t), [9] * 50
+    for entry in (1000001, 8000000, 8000001):
+        yield 0, stored_costs(64, table_from(64, [0] * 2015 + [entry]), NEW), [9] * 50
+
+
+def convert_links_cases(dice):
+    def some_stored(form):
+        found = [law.stored_links(law.EXAMPLES[name][0], *sides_and_costs(law.MEASURED[name]), form)
+                 for name in sorted(law.EXAMPLES)]
+        for n in [small_n(dice) for _ in range(12)] + [9, 9]:
+            found.append(links_in(n, fitted_rows(good_links(dice, n), dice.one_of([OLD, OLD, NEW])), form))
+        return found
+
+    def damaged_stored(n, faults, form):
+        return damaged_stored_links(dice, n, good_links(dice, n), faults, form)[1]
+
+    kinds = ["header", "n", "count", "body", "fill", "row", "own", "old", "room"]
+    limits = list(at_link_limits(dice, lambda n, stored: (n, stored)))
+    yield from conversion_cases(dice, law.convert_links, some_stored, damaged_stored, kinds, limits)
+    for fars in subsets_of_four():
+        stored = law.bytes_of_bits(bits_of_links(4, len(fars), [(far, 1) for far in fars], any_form(dice)))
+        yield dice.one_of([0, 1]), stored, byte_places(dice, 22)
+    # Costs above the old limits: the first of several counts.
+    for n in (3, 4, 9, 33, 64):
+        fars = law.tree_far_sides(dice, n, "uneven")
+        for high in (1, 2, 3):
+            costs = [dice.between(1, 9) for _ in fars]
+            for row in dice.mixed(range(len(fars)))[:high]:
+                costs[row] = dice.one_of(ABOVE_OLD_COST)
+            stored = law.stored_links(n, fars, costs, NEW)
+            yield 0, stored, byte_places(dice, dice.one_of([0, 9, 60]))
+            if n < 33:
+                yield 1, stored, byte_places(dice, len(stored))
+    # The longest tables, each way and one byte short.
+    fars = law.tree_far_sides(dice, 64, "caterpillar")
+    costs = [dice.between(1, 2000000) for _ in fars]
+    old, new = law.stored_links(64, fars, costs), law.stored_links(64, fars, costs, NEW)
+    assert len(old) == 1315 and len(new) == 1362
+    yield 1, old + [3], [9] * 1362
+    yield 0, new, [9] * 1316
+    yield 1, old, [9] * 1361
+    yield 0, new, [9] * 1314
+
+
 CASES = {
     "index": index_cases,
     "order": order_cases,
@@ -1618,6 +2016,8 @@ CASES = {
     "consensus": consensus_cases,
     "listing": listing_cases,
     "exact_grafted": grafted_cases,
+    "convert_costs": convert_costs_cases,
+    "convert_links": convert_links_cases,
 }
 
 
@@ -1684,11 +2084,29 @@ def listing_answer(texts):
     return tuple(map(int, first[1:]))
 
 
+def form_met(name, arguments, answer):
+    """The form of the table that the answer is about, 0 or 1; None where none is told."""
+    if name in TOLD_A_FORM:
+        return int(arguments[0] != 0)
+    if name not in FIND_A_FORM:
+        return None
+    stored, at = arguments[0], 0
+    if name.startswith("convert"):
+        stored = arguments[1]
+    elif name == "choice":
+        stored = arguments[1 if answer[1] == 2 else 0]
+    elif name == "two_costs" and answer[0] != 0 and answer[1] == 2:
+        return None
+    elif name not in ("two_costs", "listing"):
+        at = arguments[1] // 8
+    return int(stored[at] >= 254) if at < len(stored) else None
+
+
 def make():
     """All files by name, and what was made of each call."""
     files, report, answers, signs, tests = {}, [], [], set(), set()
     for seed, name in enumerate(CALLS, 1):
-        inputs, seen, refusals, behind, by_table = [], set(), {}, {}, set()
+        inputs, seen, refusals, behind, by_table, by_form = [], set(), {}, {}, set(), {}
         answers.append(name)
         for arguments in CASES[name](Dice(1000 * seed)):
             arguments = list(arguments)
@@ -1702,6 +2120,8 @@ def make():
             answers.append(text)
             assert max(len(line), len(text)) <= LONGEST_LINE, (name, len(line), len(text))
             refusals[answer[0]] = refusals.get(answer[0], 0) + 1
+            met = answer[0], form_met(name, arguments, answer)
+            by_form[met] = by_form.get(met, 0) + 1
             if name in TWICE and answer[0] == 0:
                 second = answer[TWICE[name] + 1]
                 behind[second] = behind.get(second, 0) + 1
@@ -1715,6 +2135,10 @@ def make():
             assert refusals.get(number, 0) >= FEWEST_OF_EACH_REFUSAL, (name, number, refusals)
             if name in TWICE:
                 assert behind.get(number, 0) >= FEWEST_OF_EACH_REFUSAL, (name, number, behind)
+        if name in TOLD_A_FORM + FIND_A_FORM:
+            for number in set((0,) + CALLS[name][2]) - set(OF_ONE_FORM):
+                for form in (0, 1):
+                    assert by_form.get((number, form), 0) >= FEWEST_IN_EACH_FORM, (name, number, form, by_form)
         assert set(refusals) == {0} | set(CALLS[name][2]), (name, refusals)
         for number, table in by_table:
             assert table == 0 or {(number, 1), (number, 2)} <= by_table, (name, number, table)
@@ -1760,6 +2184,13 @@ def listing_inputs():
     yield "far_end_n", stored_costs(9, star(9, [0, 3, 3, 3, 3, 3, 3, 3, 4]))
     yield "tie_in_tree", stored_costs(*law.example("E"))
     yield "tie64", stored_costs(64, tree(dice, 64, 2, "uneven"))
+    # The new form: example H, trees with entries that the old form has no place for, one of them the
+    # longest input that a table can have, an entry above the limit, and a header that ends early.
+    yield "new_form", stored_costs(*law.example("H"), NEW)
+    yield "nanoseconds", stored_costs(9, tree(dice, 9, 1500000, "uneven"), NEW) + [255]
+    yield "nanoseconds64", stored_costs(64, tree(dice, 64, 900000, "uneven"), NEW)
+    yield "new_damaged", stored_costs(4, table_from(4, [1, 8000000, 1000001, 8000001, 0, 0]), NEW)
+    yield "new_short", [255]
 
 
 def check(files):
@@ -1798,7 +2229,7 @@ def main(arguments):
             file.write(text)
     for name, count, refusals in report:
         numbers = " ".join("%d:%d" % pair for pair in sorted(refusals.items()))
-        print("%-12s %4d cases, by first number %s" % (name, count, numbers))
+        print("%-13s %4d cases, by first number %s" % (name, count, numbers))
     print("%d cases, %d bytes" % (sum(count for _, count, _ in report),
                                   sum(map(len, files.values()))))
     return 0

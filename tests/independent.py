@@ -1,7 +1,7 @@
 #!/usr/bin/env python3
 """Every public call of document 01, and of document 02 the links that a team shares,
-the far end of the listing and the second engine of the exact reading, written from
-their definitions.
+the far end of the listing, the second engine of the exact reading, and the larger costs
+with the new stored forms, written from their definitions.
 
 Nothing here is taken from the crates: the words, the orders of checks and the
 numbers are the documents', and where they leave a point open, the decision noted
@@ -20,21 +20,29 @@ writes into. A refused call alters no list.
 
 runs the settled examples of document 01, checks of demands 2 and 3 on tables drawn
 from a fixed seed, and what document 02 says of the links that a team shares, of the
-far end and of the second engine, which answers as the first on every table tried.
+far end, of the second engine, which answers as the first on every table tried, and of
+the two stored forms and the conversions between them.
 """
 
 import functools
 import itertools
 import operator
 import sys
+from collections import namedtuple
 from fractions import Fraction
 
 if not __debug__:
     sys.exit("independent.py: run it without -O, which leaves out the assertions")
 
-MOST_ENTRY = 1000000
-MOST_COST = 2000000
+MOST_ENTRY = 8000000
+MOST_COST = 16000000
 MOST_TABLES = 16
+
+# A stored form: the bits in front of n, the bits and the limit of an entry, and those of a
+# doubled cost. The limits of the new form are those of every table.
+Form = namedtuple("Form", "mark entry_bits most_entry cost_bits most_cost")
+OLD = Form("", 20, 1000000, 21, 2000000)
+NEW = Form("1111111", 23, MOST_ENTRY, 24, MOST_COST)
 
 
 # Refusals
@@ -141,17 +149,17 @@ def check_both_lengths(count, fars, costs):
         refuse(2)
 
 
-def check_rows(n, fars, costs):
+def check_rows(n, fars, costs, most_cost=MOST_COST):
     """12 at the lowest bad row, then 13 at the lowest image without its own link."""
     for row in range(len(fars)):
-        if is_bad_row(n, fars, costs, row):
+        if is_bad_row(n, fars, costs, row, most_cost):
             refuse(12, row + 1)
     for image in range(1, n + 1):
         if own_link(n, image) not in fars:
             refuse(13, image)
 
 
-def is_bad_row(n, fars, costs, row):
+def is_bad_row(n, fars, costs, row, most_cost):
     """Is this row (counted from 0) bad, the rows before it being good?"""
     far, cost = fars[row], costs[row]
     if far == 0 or far % 2 == 1 or far >= 2 ** n:
@@ -160,7 +168,22 @@ def is_bad_row(n, fars, costs, row):
         return True
     if any(crosses(far, earlier) for earlier in fars[:row]):
         return True
-    return cost > MOST_COST or (is_inner(n, far) and cost == 0)
+    return cost > most_cost or (is_inner(n, far) and cost == 0)
+
+
+def check_entries_fit(n, t, form):
+    """17 at the lowest pair whose entry this form has no place for; the new form has one
+    for every entry."""
+    for i, j in pairs(n):
+        if t[(i - 1) * n + j - 1] > form.most_entry:
+            refuse(17, i, j)
+
+
+def check_costs_fit(costs, form):
+    """17 at the lowest row whose cost this form has no place for."""
+    for row, cost in enumerate(costs, 1):
+        if cost > form.most_cost:
+            refuse(17, row)
 
 
 # Divisions
@@ -468,7 +491,13 @@ def grafted_rows(n, t):
 # Stored forms
 
 def field(width, value):
+    assert 0 <= value < 2 ** width, (width, value)
     return format(value, "0%db" % width)
+
+
+def form_named(number):
+    """The form that a writer is told: 0 is the old one, every other number the new one."""
+    return OLD if number == 0 else NEW
 
 
 def bytes_of_bits(bits):
@@ -485,16 +514,17 @@ def pairs(n):
     return [(i, j) for i in range(1, n + 1) for j in range(i + 1, n + 1)]
 
 
-def stored_costs(n, t):
+def stored_costs(n, t, form=OLD):
     d = square(n, t)
-    return bytes_of_bits(field(7, n) + "".join(field(20, d[i][j]) for i, j in pairs(n)))
+    entries = "".join(field(form.entry_bits, d[i][j]) for i, j in pairs(n))
+    return bytes_of_bits(form.mark + field(7, n) + entries)
 
 
-def stored_links(n, fars, costs):
-    bits = field(7, n) + field(7, len(fars))
+def stored_links(n, fars, costs, form=OLD):
+    bits = form.mark + field(7, n) + field(7, len(fars))
     for far, cost in zip(fars, costs):
         bits += "".join("1" if holds(far, i) else "0" for i in range(n, 1, -1))
-        bits += field(21, cost)
+        bits += field(form.cost_bits, cost)
     return bytes_of_bits(bits)
 
 
@@ -503,6 +533,17 @@ def rest_at(stored, position):
     if position % 8 != 0 or position // 8 > len(stored):
         refuse(9)
     return stored[position // 8:]
+
+
+def header_of(stored, fields):
+    """The form of a stored table, told by its first bits, and the numbers of so many fields
+    of 7 bits in its header: 9 where the bytes of the header are not all there."""
+    form = NEW if bits_of_bytes(stored[:1]).startswith(NEW.mark) else OLD
+    ends = [len(form.mark) + 7 * place for place in range(fields + 1)]
+    if 8 * len(stored) < ends[-1]:
+        refuse(9)
+    bits = bits_of_bytes(stored[:ends[-1] // 8 + 1])
+    return form, [int(bits[start:end], 2) for start, end in zip(ends, ends[1:])]
 
 
 def body_of(stored, width):
@@ -520,40 +561,38 @@ def body_of(stored, width):
 def link_table_in(stored, outputs):
     """The link reader's checks, 3 for the outputs among them. Answers n, far
     sides, costs, bytes used."""
-    if len(stored) < 2:
-        refuse(9)
-    header = bits_of_bytes(stored[:2])
-    n, count = int(header[:7], 2), int(header[7:14], 2)
+    form, (n, count) = header_of(stored, 2)
     check_n(n)
     check_count(n, count)
     for out in outputs:
         check_room(out, 2 * n - 3)
-    each = n - 1 + 21
-    bits, used = body_of(stored, 14 + count * each)
+    header = len(form.mark) + 14
+    each = n - 1 + form.cost_bits
+    bits, used = body_of(stored, header + count * each)
     fars, costs = [], []
-    for at in range(14, len(bits), each):
+    for at in range(header, len(bits), each):
         marks = bits[at:at + n - 1]
         fars.append(sum(2 ** (image - 1)
                         for image, mark in zip(range(n, 1, -1), marks) if mark == "1"))
         costs.append(int(bits[at + n - 1:at + each], 2))
-    check_rows(n, fars, costs)
+    check_rows(n, fars, costs, form.most_cost)
     return n, fars, costs, used
 
 
 def cost_table_in(stored, room):
     """The cost reader's checks; `room` is the output's length, None for no 3.
     Answers n, the n*n entries, bytes used."""
-    if len(stored) < 1:
-        refuse(9)
-    n = int(bits_of_bytes(stored[:1])[:7], 2)
+    form, (n,) = header_of(stored, 1)
     check_n(n)
     if room is not None and room < n * n:
         refuse(3)
-    bits, used = body_of(stored, 7 + 20 * len(pairs(n)))
+    header = len(form.mark) + 7
+    bits, used = body_of(stored, header + form.entry_bits * len(pairs(n)))
     t = [0] * (n * n)
     for place, (i, j) in enumerate(pairs(n)):
-        entry = int(bits[7 + 20 * place:27 + 20 * place], 2)
-        if entry > MOST_ENTRY:
+        at = header + form.entry_bits * place
+        entry = int(bits[at:at + form.entry_bits], 2)
+        if entry > form.most_entry:
             refuse(4, i, j)
         t[(i - 1) * n + j - 1] = t[(j - 1) * n + i - 1] = entry
     return n, t, used
@@ -703,27 +742,46 @@ def consensus(n, number, tables, fars, costs):
     return 0, len(in_all)
 
 
-@call
-def write_costs(n, t, out):
-    check_n(n)
-    check_length(n, t)
-    check_entries(n, t)
-    stored = stored_costs(n, t)
+def written(stored, out):
+    """3, or the stored bytes at the front of the output."""
     check_room(out, len(stored))
     out[:len(stored)] = stored
     return 0, len(stored)
 
 
 @call
-def write_links(n, count, fars, costs, out):
+def write_costs(form, n, t, out):
+    check_n(n)
+    check_length(n, t)
+    check_entries(n, t)
+    check_entries_fit(n, t, form_named(form))
+    return written(stored_costs(n, t, form_named(form)), out)
+
+
+@call
+def write_links(form, n, count, fars, costs, out):
     check_n(n)
     check_count(n, count)
     check_both_lengths(count, fars, costs)
     check_rows(n, fars, costs)
-    stored = stored_links(n, fars, costs)
-    check_room(out, len(stored))
-    out[:len(stored)] = stored
-    return 0, len(stored)
+    check_costs_fit(costs, form_named(form))
+    return written(stored_links(n, fars, costs, form_named(form)), out)
+
+
+@call
+def convert_costs(form, stored, out):
+    """The cost table at the front of the bytes, which may be of either form, in this one."""
+    n, t, _ = cost_table_in(stored, None)
+    check_entries_fit(n, t, form_named(form))
+    return written(stored_costs(n, t, form_named(form)), out)
+
+
+@call
+def convert_links(form, stored, out):
+    """The same of a link table."""
+    n, fars, costs, _ = link_table_in(stored, [])
+    check_costs_fit(costs, form_named(form))
+    return written(stored_links(n, fars, costs, form_named(form)), out)
 
 
 @call
@@ -742,13 +800,14 @@ def read_links(stored, position, fars, costs):
 
 
 # What each number says, and what its places are called; the number of places is that of the
-# letters behind it. Refusal 12 has no place where the index call gives it.
+# letters behind it. Refusal 12 has no place where the index call gives it, and refusal 17 a
+# row alone where it is about a link table.
 SAYINGS = {
     0: ("accepted", None, ""),
     1: ("n outside 3..64", "n", "a"),
     2: ("a length does not fit n or the row count", None, ""),
     3: ("too little room", None, ""),
-    4: ("entry above 1,000,000", "row and column", "ab"),
+    4: ("entry above the limit", "row and column", "ab"),
     5: ("diagonal not zero", "image", "a"),
     6: ("asymmetric", "row and column", "ab"),
     7: ("no wiring", "images", "abcd"),
@@ -761,6 +820,7 @@ SAYINGS = {
     14: ("neither table includes the other", None, ""),
     15: ("stored tables of different n", None, ""),
     16: ("no tables or more than sixteen", None, ""),
+    17: ("number above the old limits", "row and column", "ab"),
 }
 TEXT_BYTES = 192
 
@@ -774,6 +834,8 @@ def answer_text(number, table, a, b, c, d):
         places = [{"a": a, "b": b, "c": c, "d": d}[letter] for letter in letters]
         if number == 12 and a == 0:
             places = []
+        if number == 17 and b == 0:
+            label, places = "row", [a]
         words = phrase + (": " + " ".join([label] + [str(place) for place in places]) if places else "")
     return ("table %d: " % table if number and table else "") + words
 
@@ -865,7 +927,7 @@ def two_costs(stored, first, second):
     return 0, n, n2, used + used2
 
 
-def one_of_batch(n, count, fars, costs, room):
+def one_of_batch(form, n, count, fars, costs, room):
     """The link writer's checks for the next table of a batch, its rows being the
     first of what is left of the joined slices. Answers its stored bytes."""
     check_n(n)
@@ -873,19 +935,20 @@ def one_of_batch(n, count, fars, costs, room):
     if len(fars) < count or len(costs) < count:
         refuse(2)
     check_rows(n, fars[:count], costs[:count])
-    stored = stored_links(n, fars[:count], costs[:count])
+    check_costs_fit(costs[:count], form)
+    stored = stored_links(n, fars[:count], costs[:count], form)
     if room < len(stored):
         refuse(3)
     return stored
 
 
 @call
-def write_batch(ns, counts, fars, costs, out):
+def write_batch(form, ns, counts, fars, costs, out):
     if len(ns) != len(counts):
         raise Refusal(2, table=0)
     stored, at = [], 0
     for table, (n, count) in enumerate(zip(ns, counts), 1):
-        stored += numbered(table, one_of_batch, n, count, fars[at:], costs[at:],
+        stored += numbered(table, one_of_batch, form_named(form), n, count, fars[at:], costs[at:],
                            len(out) - len(stored))
         at += count
     if len(fars) > at or len(costs) > at:
@@ -1093,6 +1156,13 @@ NOT_EXACT = {"C": (7, 1, 1, 2, 3), "F": (7, 1, 2, 3, 4)}
 STORED_A_COSTS = [0x06, 0x00, 0x00, 0x20, 0x00, 0x02, 0x00, 0x00, 0x20]
 STORED_A_LINKS = [0x06, 0x0D, 0x00, 0x00, 0x0C, 0x00, 0x00, 0x1C, 0x00, 0x00, 0x20]
 
+# The same behind seven ones, with 23 bits for an entry and 24 for a cost.
+STORED_A_COSTS_NEW = [0xFE, 0x0C, 0x00, 0x00, 0x08, 0x00, 0x00, 0x10, 0x00, 0x00, 0x20]
+STORED_A_LINKS_NEW = [0xFE, 0x0C, 0x1A, 0x00, 0x00, 0x03, 0x00, 0x00, 0x00, 0xE0, 0x00, 0x00, 0x20]
+
+# Numbers that a writer may be told for the form.
+FORM_NUMBERS = (0, 1, 2, 127, 2 ** 63, 2 ** 64 - 1)
+
 LISTING_A = "images 3 rows 3\n2 1 3\n4 1 3\n6 1 0\norder 1 3 2\n"
 LISTING_A_LAST_N = "images 3 rows 3\n2 1 3\n4 1 3\n6 1 0\norder 1 2 3\n"
 LISTING_C = "refused 7 1 1 2 3\n"
@@ -1179,47 +1249,88 @@ def test_settled_limits():
         assert upper_rows(n, n, [0] * n, [0] * n, [0] * 130) == refused
         assert route(n, n, [0] * n, [0] * n, 1, [0] * 130) == refused
         assert compare(n, t, t) == (1, 0, n, 0, 0, 0)
-        assert write_costs(n, t, [0] * 6000) == refused
-        assert write_links(n, n, [0] * n, [0] * n, [0] * 6000) == refused
-        assert write_batch([n], [n], [0] * n, [0] * n, [0] * 6000) == (1, 1, n, 0, 0, 0)
-        stored = bytes_of_bits(field(7, n) + field(7, n)) + [0] * 6000
-        assert read_costs(stored, 0, [0] * 5000) == refused
-        assert read_links(stored, 0, [0] * 130, [0] * 130) == refused
-        assert two_costs(stored, [0] * 5000, []) == (1, 1, n, 0, 0, 0)
-        assert choice(stored, stored) == (1, 1, n, 0, 0, 0)
-        assert listing(stored) == listing_last_n(stored) == "refused 1 %d 0 0 0\n" % n
+        for form in FORM_NUMBERS:
+            assert write_costs(form, n, t, [0] * 6000) == refused
+            assert write_links(form, n, n, [0] * n, [0] * n, [0] * 6000) == refused
+            assert write_batch(form, [n], [n], [0] * n, [0] * n, [0] * 6000) == (1, 1, n, 0, 0, 0)
+            stored = bytes_of_bits(form_named(form).mark + field(7, n) + field(7, n)) + [0] * 6000
+            assert read_costs(stored, 0, [0] * 5000) == refused
+            assert read_links(stored, 0, [0] * 130, [0] * 130) == refused
+            assert two_costs(stored, [0] * 5000, []) == (1, 1, n, 0, 0, 0)
+            assert choice(stored, stored) == (1, 1, n, 0, 0, 0)
+            assert convert_costs(form, stored, []) == convert_links(form, stored, []) == refused
+            assert listing(stored) == listing_last_n(stored) == "refused 1 %d 0 0 0\n" % n
     for n in (3, 4, 9):
         t = table_from(n, [MOST_ENTRY] * (n * n))
         rows = [(2 ** i, MOST_ENTRY) for i in range(1, n)] + [(2 ** n - 2, MOST_ENTRY)]
         assert read_rows(exact, n, t) == rows == read_rows(exact_grafted, n, t)
         t[1] += 1
         assert read_rows(exact, n, t) == (4, 1, 2, 0, 0) == read_rows(exact_grafted, n, t)
-        assert write_costs(n, t, []) == (4, 1, 2, 0, 0)
-        stored = stored_costs(n, table_from(n, [MOST_ENTRY + 1] + [0] * (n * n)))
-        assert read_costs(stored, 0, [0] * (n * n)) == (4, 1, 2, 0, 0)
+        for number in FORM_NUMBERS:
+            form = form_named(number)
+            assert write_costs(number, n, t, []) == (4, 1, 2, 0, 0)
+            for entry in (form.most_entry, form.most_entry + 1):
+                stored = stored_costs(n, table_from(n, [entry] + [0] * (n * n)), form)
+                good = entry == form.most_entry
+                refused = (4, 1, 2, 0, 0)
+                assert read_costs(stored, 0, [0] * (n * n)) == ((0, n, len(stored)) if good else refused)
+                assert convert_costs(number, stored, stored[:]) == ((0, len(stored)) if good else refused)
+            for cost in (form.most_cost, form.most_cost + 1):
+                fars = [own_link(n, image) for image in list(range(2, n + 1)) + [1]]
+                stored = stored_links(n, fars, [0] * (n - 1) + [cost], form)
+                good, refused = cost == form.most_cost, (12, n, 0, 0, 0)
+                assert convert_links(number, stored, stored[:]) == ((0, len(stored)) if good else refused)
+                assert choice(stored, stored) == ((0, 1, len(stored)) if good else (12, 1, n, 0, 0, 0))
 
 
 def test_stored_a():
     n, t = example("A")
     fars, costs = [2, 4, 6], [1, 1, 1]
-    out = [0xFF] * 12
-    assert write_costs(n, t, out) == (0, 9) and out == STORED_A_COSTS + [0xFF] * 3
-    out = [0xFF] * 12
-    assert write_links(n, 3, fars, costs, out) == (0, 11) and out == STORED_A_LINKS + [0xFF]
-    out = [7] * 10
-    assert read_costs(STORED_A_COSTS, 0, out) == (0, 3, 9) and out == t + [7]
-    fars, costs = [8] * 4, [8] * 4
-    assert read_links([255] + STORED_A_LINKS, 8, fars, costs) == (0, 3, 3, 11)
-    assert fars == [2, 4, 6, 8] and costs == [1, 1, 1, 8]
-    assert choose(STORED_A_LINKS + [1], STORED_A_LINKS) == STORED_A_LINKS
-    assert choice(STORED_A_LINKS + [1], STORED_A_LINKS) == (0, 1, 11)
+    for form in FORM_NUMBERS:
+        stored = STORED_A_COSTS if form == 0 else STORED_A_COSTS_NEW
+        used, out = len(stored), [0xFF] * 16
+        assert write_costs(form, n, t, out) == (0, used) and out == stored + [0xFF] * (16 - used)
+        out = [7] * 10
+        assert read_costs(stored, 0, out) == (0, 3, used) and out == t + [7]
+        stored = STORED_A_LINKS if form == 0 else STORED_A_LINKS_NEW
+        used, out = len(stored), [0xFF] * 16
+        assert write_links(form, n, 3, fars, costs, out) == (0, used)
+        assert out == stored + [0xFF] * (16 - used)
+        found, found_costs = [8] * 4, [8] * 4
+        assert read_links([255] + stored, 8, found, found_costs) == (0, 3, 3, used)
+        assert found == fars + [8] and found_costs == costs + [8]
+        assert choose(stored + [1], stored) == stored and choice(stored + [1], stored) == (0, 1, used)
+    # Of two tables with the same inner far sides the first is chosen, whatever their forms are.
+    for first, second in ((STORED_A_LINKS, STORED_A_LINKS_NEW), (STORED_A_LINKS_NEW, STORED_A_LINKS)):
+        assert choose(first + [1], second) == first
+
+
+def test_first_seven_bits():
+    """127 in front is the new form, and needs its whole header; a second 127 is an n."""
+    refused, early = (1, 127, 0, 0, 0), (9, 0, 0, 0, 0)
+    for stored, costs, links in (
+            ([], early, early), ([0xFE], early, early), ([0xFF], early, early),
+            ([0xFE, 0x0C], early, early), ([0xFF, 0xFF], refused, early),
+            ([0xFF, 0xFF, 0xFF], refused, refused), ([0xFF, 0xFC, 0], refused, refused),
+            ([0xFE, 0x01, 0], (1, 0, 0, 0, 0), (1, 0, 0, 0, 0)), ([0xFC], (1, 126, 0, 0, 0), early),
+            ([0xFC, 0xFF], (1, 126, 0, 0, 0), (1, 126, 0, 0, 0)), ([6], early, early),
+            ([6, 0], early, (10, 0, 0, 0, 0)), ([0xFE, 0x0C, 0x18], early, early),
+            ([0xFE, 0x0C, 0x10], early, (10, 2, 0, 0, 0))):
+        for form in FORM_NUMBERS:
+            assert convert_costs(form, stored, []) == costs == read_costs(stored, 0, [0] * 9)
+            assert convert_links(form, stored, []) == links == read_links(stored, 0, [0] * 3, [0] * 3)
+        assert choice(stored, STORED_A_LINKS) == links[:1] + (1,) + links[1:]
+        assert choice(STORED_A_LINKS_NEW, stored) == links[:1] + (2,) + links[1:]
+        assert listing(stored) == listing_last_n(stored) == "refused %d %d %d %d %d\n" % costs
 
 
 def test_listing():
     n, c = example("C")
     for program, text in ((listing, LISTING_A), (listing_last_n, LISTING_A_LAST_N)):
         assert program(STORED_A_COSTS) == program(STORED_A_COSTS + [1, 2, 3]) == text
-        assert program(stored_costs(n, c)) == LISTING_C
+        assert program(STORED_A_COSTS_NEW) == program(STORED_A_COSTS_NEW + [1, 2, 3]) == text
+        for form in (OLD, NEW):
+            assert program(stored_costs(n, c, form)) == LISTING_C
         assert program([]) == "refused 9 0 0 0 0\n"
 
 
@@ -1243,7 +1354,7 @@ def test_far_end(dice):
 
 
 def tables_to_try(dice, n, count):
-    """Tree tables, noisy ones, random ones, and ones of zeros and 1,000,000s."""
+    """Tree tables, noisy ones, random ones, and ones of zeros and 8,000,000s."""
     for turn in range(count):
         kind = turn % 6
         rows = tree_rows(dice, n, random_shape(dice), dice.one_of([2, 6, 40]))
@@ -1474,8 +1585,9 @@ def test_consensus(dice):
             fars, costs = [far for far, _ in found], [cost for _, cost in found]
             uppers = [0] * (2 * n - 3)
             assert upper_rows(n, len(found), fars, costs, uppers) == (0, len(found))
-            room = len(stored_links(n, fars, costs))
-            assert write_links(n, len(found), fars, costs, [0] * room) == (0, room)
+            for form in (0, 1):
+                room = len(stored_links(n, fars, costs, form_named(form)))
+                assert write_links(form, n, len(found), fars, costs, [0] * room) == (0, room)
 
 
 def test_routes(dice):
@@ -1493,21 +1605,22 @@ def test_routes(dice):
 
 
 def test_stored_forms(dice):
-    """Reading undoes writing, writing gives the used bytes again, a second table
-    is read where the first ended, and a batch is its tables one after another."""
-    for n in (3, 4, 5, 8, 9, 33, 64):
-        t = random_table(dice, n, MOST_ENTRY)
-        out = [255] * (len(stored_costs(n, t)) + 2)
-        used = write_costs(n, t, out)[1]
+    """In each form reading undoes writing, writing gives the used bytes again, a second
+    table is read where the first ended, and a batch is its tables one after another."""
+    for n, number in itertools.product((3, 4, 5, 8, 9, 33, 64), FORM_NUMBERS[:3]):
+        form = form_named(number)
+        t = random_table(dice, n, form.most_entry)
+        out = [255] * (len(stored_costs(n, t, form)) + 2)
+        used = write_costs(number, n, t, out)[1]
         assert out[used:] == [255, 255]
         found = [0] * (n * n)
         assert read_costs([9] + out, 8, found) == (0, n, used) and found == t
-        tables = [tree_rows(dice, n, random_shape(dice), MOST_COST - 1, even=False)
+        tables = [tree_rows(dice, n, random_shape(dice), form.most_cost - 1, even=False)
                   for _ in range(3)]
         fars = [far for rows in tables for far, _ in rows]
         costs = [cost for rows in tables for _, cost in rows]
         out = [255] * 6000
-        answer = write_batch([n] * 3, [len(rows) for rows in tables], fars, costs, out)
+        answer = write_batch(number, [n] * 3, [len(rows) for rows in tables], fars, costs, out)
         assert answer[0] == 0
         at = 0
         for rows in tables:
@@ -1518,13 +1631,142 @@ def test_stored_forms(dice):
             assert answer2[:2] == (0, n) and count == len(rows)
             assert list(zip(found, found_costs))[:count] == rows
             again = [0] * used
-            assert write_links(n, count, found[:count], found_costs[:count], again) == (0, used)
+            assert write_links(number, n, count, found[:count], found_costs[:count], again) == (0, used)
             assert again == out[at:at + used]
             at += used
         assert at == answer[1] and out[at:] == [255] * (6000 - at)
-    assert write_batch([], [], [], [], []) == (0, 0)
-    assert write_batch([], [], [2], [], []) == (2, 0, 0, 0, 0, 0)
-    assert write_batch([3], [], [], [], []) == (2, 0, 0, 0, 0, 0)
+    for form in FORM_NUMBERS:
+        assert write_batch(form, [], [], [], [], []) == (0, 0)
+        assert write_batch(form, [], [], [2], [], []) == (2, 0, 0, 0, 0, 0)
+        assert write_batch(form, [3], [], [], [], []) == (2, 0, 0, 0, 0, 0)
+
+
+def test_longest_stored_tables():
+    """The bytes of the longest tables, by document 02's words: 7 bits for the mark, 7 for each
+    number of the header, then the entries or the rows."""
+    n = 64
+    rows = [2 ** (i - 1) for i in range(2, n + 1)] + [2 ** i - 2 for i in range(3, n + 1)]
+    rows.sort()
+    for form, costs, links in ((OLD, 5041, 1315), (NEW, 5798, 1362)):
+        assert len(stored_costs(n, [0] * (n * n), form)) == costs
+        assert len(rows) == 2 * n - 3 and len(stored_links(n, rows, [1] * len(rows), form)) == links
+
+
+def widened(stored, header, count, before, width):
+    """An old stored table as a new one, by its bits alone: seven ones in front of the header,
+    and three zeros in front of each of so many numbers of this width, which stand each behind
+    `before` other bits."""
+    bits, each = bits_of_bytes(stored), before + width
+    parts = [bits[at:at + each] for at in range(header, header + count * each, each)]
+    parts = [part[:before] + "000" + part[before:] for part in parts]
+    return bytes_of_bits("1" * 7 + bits[:header] + "".join(parts))
+
+
+def converted(convert, form, stored):
+    """What a conversion writes into just enough room; or its refusal. One byte less is 3, what
+    stands behind the table plays no part, and more room is left as it was."""
+    out = [77] * 6000
+    answer = convert(form, stored, out)
+    used = answer[1] if answer[0] == 0 else 0
+    assert out[used:] == [77] * (6000 - used)
+    again = [78] * used
+    assert convert(form, stored + [255, 6, 0], again) == answer
+    if answer[0] != 0:
+        return answer
+    assert again == out[:used] and convert(form, stored, again[1:]) == (3, 0, 0, 0, 0)
+    return again
+
+
+def test_conversions(dice):
+    """Old to new always works and gives the same rows or entries; to its own form a table is
+    left as it is; old to new to old gives the same bytes; new to old works exactly when all
+    numbers fit, and else says the first that does not, before it asks for room."""
+    for n, shape in itertools.product((3, 4, 5, 8, 9, 33, 64), ("star", "caterpillar", "uneven")):
+        t = random_table(dice, n, dice.one_of([9, OLD.most_entry]))
+        old = stored_costs(n, t)
+        new = converted(convert_costs, 1, old)
+        assert new == stored_costs(n, t, NEW) == widened(old, 7, len(pairs(n)), 0, 20)
+        rows = tree_rows(dice, n, shape, dice.one_of([9, OLD.most_cost - 1]), even=False)
+        fars, costs = [far for far, _ in rows], [cost for _, cost in rows]
+        old_links = stored_links(n, fars, costs)
+        new_links = converted(convert_links, 1, old_links)
+        assert new_links == stored_links(n, fars, costs, NEW)
+        assert new_links == widened(old_links, 14, len(rows), n - 1, 21)
+        for number in FORM_NUMBERS:
+            for stored in (old, new):
+                assert converted(convert_costs, number, stored) == (new if number else old)
+            for stored in (old_links, new_links):
+                assert converted(convert_links, number, stored) == (new_links if number else old_links)
+        # Some numbers above the old limits, the lowest of them with the least that does not fit.
+        for high in (0, 1, 3):
+            moved = dice.mixed(range(len(pairs(n))))[:high]
+            upper = [OLD.most_entry + 1 + dice.below(7000000) if place in moved else dice.below(OLD.most_entry + 1)
+                     for place in range(len(pairs(n)))]
+            if moved:
+                upper[min(moved)] = OLD.most_entry + 1
+            stored = stored_costs(n, table_from(n, upper), NEW)
+            found = converted(convert_costs, 0, stored)
+            if moved:
+                assert found == (17,) + pairs(n)[min(moved)] + (0, 0) == convert_costs(0, stored, [])
+            else:
+                assert converted(convert_costs, 1, found) == stored
+            assert converted(convert_costs, 1, stored) == stored
+            moved = dice.mixed(range(len(rows)))[:high]
+            raised = [OLD.most_cost + 1 + dice.below(14000000) if row in moved else cost
+                      for row, cost in enumerate(costs)]
+            if moved:
+                raised[min(moved)] = OLD.most_cost + 1
+            stored = stored_links(n, fars, raised, NEW)
+            found = converted(convert_links, 0, stored)
+            if moved:
+                assert found == (17, min(moved) + 1, 0, 0, 0) == convert_links(0, stored, [])
+                assert write_links(0, n, len(rows), fars, raised, []) == found
+                assert write_batch(0, [n], [len(rows)], fars, raised, []) == (17, 1) + found[1:]
+            else:
+                assert converted(convert_links, 1, found) == stored
+            assert converted(convert_links, 1, stored) == stored
+
+
+def test_old_limits():
+    """17 in the writers: behind all faults of the table, before room, in the old form alone."""
+    n, low, high = 3, OLD.most_entry, OLD.most_entry + 1
+    t = table_from(n, [low, high, MOST_ENTRY])
+    assert write_costs(0, n, t, []) == (17, 1, 3, 0, 0) and write_costs(1, n, t, []) == (3, 0, 0, 0, 0)
+    assert write_costs(0, n, table_from(n, [low, low, high]), []) == (17, 2, 3, 0, 0)
+    assert write_costs(0, n, table_from(n, [low] * 3), []) == (3, 0, 0, 0, 0)
+    for place, entry, refused in ((8, 1, (5, 3, 0, 0, 0)), (7, 0, (6, 2, 3, 0, 0)),
+                                  (5, MOST_ENTRY + 1, (4, 2, 3, 0, 0))):
+        bad = list(t)
+        bad[place] = entry
+        assert write_costs(0, n, bad, []) == refused == write_costs(1, n, bad, [])
+    fars, low, high = [2, 4, 6], OLD.most_cost, OLD.most_cost + 1
+    for costs, refused in (([low, high, MOST_COST], (17, 2, 0, 0, 0)), ([low] * 3, (3, 0, 0, 0, 0)),
+                           ([high, 0, MOST_COST + 1], (12, 3, 0, 0, 0))):
+        assert write_links(0, n, 3, fars, costs, []) == refused
+        two = [3, 3], [3, 3], fars * 2, [low] * 3 + costs, [0] * 11
+        assert write_batch(0, *two) == refused[:1] + (2,) + refused[1:]
+    # The first of two tables has no room for its bytes, the second a number too large.
+    assert write_batch(0, [3, 3], [3, 3], fars * 2, [low] * 3 + [high] * 3, []) == (3, 1, 0, 0, 0, 0)
+    assert write_links(0, n, 3, [2, 4, 5], [high] * 3, []) == (12, 3, 0, 0, 0)
+    assert write_links(0, 4, 4, [2, 4, 12, 14], [high] * 4, []) == (13, 4, 0, 0, 0)
+
+
+def test_reader_on_new_a():
+    """Example A's tables of both forms one after another: each is told by its own first bits."""
+    t = example("A")[1]
+    reader = Reader(STORED_A_COSTS + STORED_A_COSTS_NEW + STORED_A_LINKS_NEW + STORED_A_LINKS)
+    for used, stands in ((9, 72), (11, 160)):
+        out = [7] * 9
+        assert reader.take_costs(out) == (0, 3, used) and out == t and reader.position == stands
+    for used, stands in ((13, 264), (11, 352)):
+        fars, costs = [8] * 3, [8] * 3
+        assert reader.take_links(fars, costs) == (0, 3, 3, used) and reader.position == stands
+        assert fars == [2, 4, 6] and costs == [1, 1, 1]
+    for first, second in ((STORED_A_COSTS, STORED_A_COSTS_NEW), (STORED_A_COSTS_NEW, STORED_A_COSTS)):
+        assert two_costs(first + second, [7] * 9, [8] * 9) == (0, 3, 3, 20)
+        assert two_costs(first + second[:-1], [7] * 9, [8] * 9) == (9, 2, 0, 0, 0, 0)
+    assert two_fields(STORED_A_COSTS_NEW, 0, 7, 7) == (0, 127, 7, 0, 3, 14)
+    assert two_fields(STORED_A_LINKS_NEW, 21, 2, 24) == (0, 1, 23, 0, 1, 47)
 
 
 def test_reader_on_a():
@@ -1559,11 +1801,12 @@ def test_reader_on_a():
 def test_reader(dice):
     """A reader takes written tables of both kinds in turn and stands at the end.
     Two cost tables are what it takes twice, or a refusal that writes nothing."""
-    for n in (3, 4, 5, 9, 33):
-        t, t2 = random_table(dice, n, MOST_ENTRY), random_table(dice, 4, 9)
+    for n, form in itertools.product((3, 4, 5, 9, 33), (OLD, NEW)):
+        t, t2 = random_table(dice, n, form.most_entry), random_table(dice, 4, 9)
         rows = tree_rows(dice, n, random_shape(dice), 9, even=False)
         fars, costs = [far for far, _ in rows], [cost for _, cost in rows]
-        parts = [stored_costs(n, t), stored_links(n, fars, costs), stored_costs(4, t2)]
+        parts = [stored_costs(n, t, form), stored_links(n, fars, costs, dice.one_of([OLD, NEW])),
+                 stored_costs(4, t2, dice.one_of([OLD, NEW]))]
         reader = Reader(sum(parts, []))
         out, found, found_costs = [0] * (n * n), [0] * (2 * n), [0] * (2 * n)
         assert reader.take_costs(out) == (0, n, len(parts[0])) and out == t
@@ -1573,9 +1816,11 @@ def test_reader(dice):
         assert reader.take_costs(out) == (0, 4, len(parts[2])) and out == t2
         assert reader.position == 8 * len(reader.stored)
         reader = Reader(parts[0])
+        if form == NEW:
+            assert reader.take_field(7) == (0, 127)
         assert reader.take_field(7) == (0, n)
         for i, j in pairs(n):
-            assert reader.take_field(20) == (0, t[(i - 1) * n + j - 1])
+            assert reader.take_field(form.entry_bits) == (0, t[(i - 1) * n + j - 1])
         both, out = parts[0] + parts[2], [0] * (n * n)
         assert two_costs(both, out, [0] * 16) == (0, n, 4, len(both)) and out == t
         for short, table in (([], 1), (parts[0], 2), (both[:-1], 2), (parts[0][:-1], 1)):
@@ -1587,19 +1832,20 @@ def test_reader(dice):
 
 
 def test_choice(dice):
-    """A tree against itself with inner rows left out, in both orders."""
-    for n in (4, 5, 9, 33, 64):
+    """A tree against itself with inner rows left out, in both orders and all forms."""
+    for n, form, form2 in itertools.product((4, 5, 9, 33, 64), (OLD, NEW), (OLD, NEW)):
         rows = tree_rows(dice, n, "caterpillar", 9, even=False)
         inner = [far for far, _ in rows if is_inner(n, far)]
         left_out = dice.one_of(inner)
         fewer = [row for row in rows if row[0] != left_out]
-        more = stored_links(n, [far for far, _ in rows], [cost for _, cost in rows])
-        less = stored_links(n, [far for far, _ in fewer], [cost for _, cost in fewer])
+        more = stored_links(n, [far for far, _ in rows], [cost for _, cost in rows], form)
+        less = stored_links(n, [far for far, _ in fewer], [cost for _, cost in fewer], form2)
         assert choose(more + [3], less) == more and choice(more + [3], less) == (0, 1, len(more))
         assert choose(less, more + [3]) == more and choice(less, more + [3]) == (0, 2, len(more))
         assert choice(more, STORED_A_LINKS) == (15, 0, 0, 0, 0, 0)
-    crossing = [stored_links(4, sorted([2, 4, 8, 14, far]), [1] * 5) for far in (6, 12)]
-    assert choice(*crossing) == (14, 0, 0, 0, 0, 0) and choose(*crossing) == []
+    for form in (OLD, NEW):
+        crossing = [stored_links(4, sorted([2, 4, 8, 14, far]), [1] * 5, form) for far in (6, 12)]
+        assert choice(*crossing) == (14, 0, 0, 0, 0, 0) and choose(*crossing) == []
 
 
 def test_sixty_four(dice):
@@ -1671,6 +1917,8 @@ def self_test():
         (test_all_small_tables, ()), (test_only_one_table, ()), (test_demand_2, (dice,)),
         (test_demand_3, (dice,)), (test_comparison, (dice,)), (test_routes, (dice,)),
         (test_stored_forms, (dice,)), (test_choice, (dice,)), (test_sixty_four, (dice,)),
+        (test_first_seven_bits, ()), (test_longest_stored_tables, ()), (test_conversions, (dice,)),
+        (test_old_limits, ()), (test_reader_on_new_a, ()),
         (test_reader_on_a, ()), (test_reader, (dice,)), (test_consensus_examples, ()),
         (test_consensus_refusals, (dice,)), (test_consensus, (dice,)), (test_far_end, (dice,)),
         (test_ends_of_the_index, ()), (test_moved_index, (dice,)),

@@ -76,8 +76,8 @@ def text_of(rows, between=" ", end="\n"):
     return "".join(between.join(map(str, row)) + end for row in rows).encode()
 
 
-def stored_of(n, upper):
-    return bytes(law.stored_costs(n, law.table_from(n, upper)))
+def stored_of(n, upper, form=law.OLD):
+    return bytes(law.stored_costs(n, law.table_from(n, upper), form))
 
 
 FOUR = [2, 4, 4, 4, 4, 2]
@@ -112,6 +112,7 @@ def test_which_triangle():
     check("three lines, one not zero", run("store.py", given=b"0 7 8\n0 9\n1\n"), (0, stored_of(4, [0, 7, 8, 0, 9, 1]), ""))
 
 
+TOO_LARGE_FOR_OLD = ", the limit of the old form; --form new takes it"
 # What is given, and the message without the script's name and "standard input".
 REFUSED_TEXTS = (
     ("", "there are no numbers ({})"),
@@ -119,8 +120,11 @@ REFUSED_TEXTS = (
     ("1 2 3\n4 x4\n6\n", 'row 2, column 4: "x4" is no number ({}, line 2)'),
     ("0 1 1\n\n1 0 x4\n1 1 0\n", 'row 2, column 3: "x4" is no number ({}, line 3)'),
     ("# a\n# b\n0 1 1\n0 x4\n0\n", 'row 2, column 3: "x4" is no number ({}, line 4)'),
-    ("0 1 1\n1 0 1000001\n1 1000001 0\n", "row 2, column 3: 1000001 is above 1,000,000 ({}, line 2)"),
-    ("0 1 1\n1 0 1\n1 " + "9" * 5000 + " 0\n", "row 3, column 2: " + "9" * 5000 + " is above 1,000,000 ({}, line 3)"),
+    ("0 1 1\n1 0 8000001\n1 8000001 0\n", "row 2, column 3: 8000001 is above 8,000,000 ({}, line 2)"),
+    ("0 1 1\n1 0 1\n1 " + "9" * 5000 + " 0\n", "row 3, column 2: " + "9" * 5000 + " is above 8,000,000 ({}, line 3)"),
+    ("0 1 1\n1 0 1000001\n1 1000001 0\n", "row 2, column 3: 1000001 is above 1,000,000" + TOO_LARGE_FOR_OLD + " ({})"),
+    ("1000000 8000000\n1000001\n", "row 1, column 3: 8000000 is above 1,000,000" + TOO_LARGE_FOR_OLD + " ({})"),
+    ("0 1 1\n1 0 1000001\n1 1000002 0\n", "rows 2 and 3: d(2,3) is 1000001 and d(3,2) is 1000002 ({})"),
     ("0 1 1\n1 0 1.5\n1 1.5 0\n", "row 2, column 3: 1.5 is not written as a whole number ({}, line 2)"),
     ("1 2\n1e3\n", "row 2, column 3: 1e3 is not written as a whole number ({}, line 2)"),
     ("1 -3\n2\n", "row 1, column 3: -3 is below 0 ({}, line 1)"),
@@ -143,7 +147,10 @@ REFUSED_ARGUMENTS = (
     ("2 1", "2 images, and it must be 3 to 64"),
     ("65", "65 images, and it must be 3 to 64"),
     ("4 2 4 4 4 x 2", 'row 2, column 4: "x" is no number'),
-    ("3 1 1000001 1", "row 1, column 3: 1000001 is above 1,000,000"),
+    ("3 1 8000001 1", "row 1, column 3: 8000001 is above 8,000,000"),
+    ("3 1 1000001 1", "row 1, column 3: 1000001 is above 1,000,000" + TOO_LARGE_FOR_OLD),
+    ("--form old 3 1 1000001 1", "row 1, column 3: 1000001 is above 1,000,000" + TOO_LARGE_FOR_OLD),
+    ("--form new 3 1 8000001 1", "row 1, column 3: 8000001 is above 8,000,000"),
     ("nowhere", "nowhere cannot be read: No such file or directory"),
 )
 
@@ -165,30 +172,47 @@ def test_messages():
     check("no text", run("store.py", given=b"1 2\n\xfe"), no_text)
     for arguments, words in REFUSED_ARGUMENTS:
         check(f"the arguments {arguments}", run("store.py", *arguments.split()), refusal(words))
-    for call in ("store.py a b", "store.py --matrix a b", "store.py --rows", "draw.py a b", "draw.py -x"):
+    for call in ("store.py a b", "store.py --matrix a b", "store.py --rows", "store.py --form", "store.py --form newer",
+                 "store.py --form new a b", "store.py --form new --matrix", "store.py --matrix --form new", "draw.py a b",
+                 "draw.py -x"):
         status, answer, said = run(*call.split())
         check(call, (status, answer, f"python3 scripts/{call.split()[0]} [" in said), (2, b"", True))
+
+
+def test_forms():
+    """Each form by its name, the old one where nothing is said, from text and from arguments."""
+    text = text_of(rows_of(4, FOUR, "matrix"))
+    for said, form in (((), law.OLD), (("--form", "old"), law.OLD), (("--form", "new"), law.NEW)):
+        answer = 0, stored_of(4, FOUR, form), ""
+        check(f"the form {said}", run("store.py", *said, given=text), answer)
+        check(f"the form {said}, a lone -", run("store.py", *said, "-", given=text), answer)
+        check(f"the form {said}, a file", run("store.py", *said, put("costs.txt", text)), answer)
+        check(f"the form {said}, arguments", run("store.py", *said, "4", *map(str, FOUR)), answer)
+    upper = [8_000_000, 1_000_001, 1_000_000]
+    check("the largest costs", run("store.py", "--form", "new", "3", *map(str, upper)), (0, stored_of(3, upper, law.NEW), ""))
 
 
 def test_limits_of_n():
     """The smallest and the largest tables, in each shape, with the smallest and the largest costs."""
     for n in (3, 64):
         for shape in ("matrix", "triangle", "diagonal"):
-            upper = [1_000_000, 0, 1] * (n * (n - 1) // 6)
-            check(f"{shape} of {n}", run("store.py", given=text_of(rows_of(n, upper, shape)))[:2], (0, stored_of(n, upper)))
+            for name, form in (("old", law.OLD), ("new", law.NEW)):
+                upper = [form.most_entry, 0, 1] * (n * (n - 1) // 6)
+                answer = run("store.py", "--form", name, given=text_of(rows_of(n, upper, shape)))
+                check(f"{shape} of {n}, {name} form", answer[:2], (0, stored_of(n, upper, form)))
 
 
 def test_round_trips(dice):
     """Stored, printed as a matrix, and stored again; the matrix is the one that is made here."""
     for n in (3, 4, 9, 33, 64):
-        for most in (9, 1_000_000):
+        for most, name, form in ((9, "old", law.OLD), (1_000_000, "old", law.OLD), (8_000_000, "new", law.NEW)):
             upper = [dice.between(0, most) for _ in law.pairs(n)]
-            table = stored_of(n, upper)
+            table = stored_of(n, upper, form)
             status, text, said = run("store.py", "--matrix", put("table", table))
             wide = len(str(max(upper)))
             wanted = [[str(cost).rjust(wide) for cost in row] for row in rows_of(n, upper, "matrix")]
             check(f"the matrix of {n} images", (status, text, said), (0, text_of(wanted), ""))
-            check(f"{n} images stored again", run("store.py", given=text), (0, table, ""))
+            check(f"{n} images stored again", run("store.py", "--form", name, given=text), (0, table, ""))
 
 
 REFUSED_BYTES = {
@@ -197,6 +221,8 @@ REFUSED_BYTES = {
     "two_images": "2 images, and it must be 3 to 64",
     "fill": "the bits that fill byte 9, the last of 3 images, are not zero",
     "damaged": "row 2, column 5: 1000001 is above 1,000,000",
+    "new_damaged": "row 2, column 3: 8000001 is above 8,000,000",
+    "new_short": "the bytes end early: the new form has 2 before the costs, and there is 1",
 }
 
 
@@ -212,9 +238,10 @@ def test_stored_bytes():
             continue
         n, used = places[:2]
         check(f"the matrix of {name}", [int(word) for word in text.split()], room[:n * n])
-        check(f"{name} stored again", run("store.py", "-", given=text), (0, data[:used], ""))
+        form = "new" if data[0] >= 254 else "old"
+        check(f"{name} stored again", run("store.py", "--form", form, "-", given=text), (0, data[:used], ""))
         over = len(data) - used
-        note = f"store.py: {over} bytes behind the table of {used} bytes, not looked at\n"
+        note = f"store.py: {over} byte{'s' * (over != 1)} behind the table of {used} bytes, not looked at\n"
         check(f"said of {name}", said, note if over else "")
 
 
@@ -375,6 +402,7 @@ with tempfile.TemporaryDirectory() as work:
     test_shapes()
     test_which_triangle()
     test_messages()
+    test_forms()
     test_limits_of_n()
     test_round_trips(law.Dice(1))
     test_stored_bytes()

@@ -1,8 +1,8 @@
 /*
- * Counts, from outside, how often each lent byte is touched while stored tables are written. The lent bytes stand on pages that may
- * be neither loaded nor stored; each touch faults, is counted by its address, width and kind, and is then let through alone, by
- * a single step. Each byte of the stored form, whose length is reckoned here, must be stored exactly once and never loaded, any
- * other never touched; a refused call must touch none.
+ * Counts, from outside, how often each lent byte is touched while stored tables of both forms are written, by the writers and by the
+ * conversions. The lent bytes stand on pages that may be neither loaded nor stored; each touch faults, is counted by its address,
+ * width and kind, and is then let through alone, by a single step. Each byte of the stored form, whose length is reckoned here, must
+ * be stored exactly once and never loaded, any other never touched; a refused call must touch none.
  */
 #define _GNU_SOURCE
 #include <signal.h>
@@ -92,8 +92,12 @@ static int counts_right(void) {
 
 static uint32_t t[4096], costs[TABLES * 125], ns[TABLES], counts[TABLES];
 static uint64_t fars[TABLES * 125];
+static uint8_t stored_costs[KEMOTUIKI_COST_BYTES], stored_links[KEMOTUIKI_LINK_BYTES];
 
-/* A cost table; and the same link table so many times: the own links in ascending order, and as inner links images 2 and 3, then 2 to 4, and so on. */
+/*
+ * A cost table; and the same link table so many times: the own links in ascending order, and as inner links images 2 and 3, then 2 to
+ * 4, and so on. All numbers are within the limits of the old form, so that both forms take them.
+ */
 static void fill(size_t n) {
     size_t rows = 2 * n - 3, k = 0;
     for (size_t i = 0; i < n; i++)
@@ -111,28 +115,55 @@ static void fill(size_t n) {
     }
 }
 
-static int writes_wrong(size_t n) {
+/* The bytes that the tables have in a form, by its bits: for the mark of the new one, n, and each entry or row. */
+static size_t cost_bytes(size_t form, size_t n) { return ((form ? 7 : 0) + 7 + n * (n - 1) / 2 * (form ? 23 : 20) + 7) / 8; }
+static size_t link_bytes(size_t form, size_t n, size_t rows) { return ((form ? 7 : 0) + 14 + rows * (n - 1 + (form ? 24 : 21)) + 7) / 8; }
+
+static int writes_wrong(size_t form, size_t n) {
     size_t rows = 2 * n - 3, all = TABLES * rows;
-    size_t cost_bytes = (7 + 10 * n * (n - 1) + 7) / 8, link_bytes = (14 + rows * (n + 20) + 7) / 8, batch_bytes = TABLES * link_bytes;
+    size_t of_costs = cost_bytes(form, n), of_links = link_bytes(form, n, rows), of_batch = TABLES * of_links;
     int wrong = 0;
     KemotuikiBytes r;
     fill(n);
-    begin(), r = kemotuiki_write_costs(n, t, n * n, lent, ROOM);
-    wrong |= is_wrong("write_costs", n, r, 0, cost_bytes);
-    begin(), r = kemotuiki_write_links(n, rows, fars, rows, costs, rows, lent, ROOM);
-    wrong |= is_wrong("write_links", n, r, 0, link_bytes);
-    begin(), r = kemotuiki_write_batch(ns, TABLES, counts, TABLES, fars, all, costs, all, lent, ROOM);
-    wrong |= is_wrong("write_batch", n, r, 0, batch_bytes);
-    /* too little room, by one byte; a batch that is refused at its last row */
-    begin(), r = kemotuiki_write_costs(n, t, n * n, lent, cost_bytes - 1);
+    begin(), r = kemotuiki_write_costs(form, n, t, n * n, lent, ROOM);
+    wrong |= is_wrong("write_costs", n, r, 0, of_costs);
+    begin(), r = kemotuiki_write_links(form, n, rows, fars, rows, costs, rows, lent, ROOM);
+    wrong |= is_wrong("write_links", n, r, 0, of_links);
+    begin(), r = kemotuiki_write_batch(form, ns, TABLES, counts, TABLES, fars, all, costs, all, lent, ROOM);
+    wrong |= is_wrong("write_batch", n, r, 0, of_batch);
+    /* too little room, by one byte; a batch that is refused at its last row, by each of two refusals */
+    begin(), r = kemotuiki_write_costs(form, n, t, n * n, lent, of_costs - 1);
     wrong |= is_wrong("write_costs refused", n, r, KEMOTUIKI_NO_ROOM, 0);
-    begin(), r = kemotuiki_write_links(n, rows, fars, rows, costs, rows, lent, link_bytes - 1);
+    begin(), r = kemotuiki_write_links(form, n, rows, fars, rows, costs, rows, lent, of_links - 1);
     wrong |= is_wrong("write_links refused", n, r, KEMOTUIKI_NO_ROOM, 0);
-    begin(), r = kemotuiki_write_batch(ns, TABLES, counts, TABLES, fars, all, costs, all, lent, batch_bytes - 1);
+    begin(), r = kemotuiki_write_batch(form, ns, TABLES, counts, TABLES, fars, all, costs, all, lent, of_batch - 1);
     wrong |= is_wrong("write_batch refused", n, r, KEMOTUIKI_NO_ROOM, 0);
-    costs[all - 1] = 2000001;
-    begin(), r = kemotuiki_write_batch(ns, TABLES, counts, TABLES, fars, all, costs, all, lent, ROOM);
-    return wrong | is_wrong("write_batch refused", n, r, KEMOTUIKI_BAD_ROW, 0);
+    costs[all - 1] = 2 * KEMOTUIKI_ENTRY_LIMIT + 1;
+    begin(), r = kemotuiki_write_batch(form, ns, TABLES, counts, TABLES, fars, all, costs, all, lent, ROOM);
+    wrong |= is_wrong("write_batch refused", n, r, KEMOTUIKI_BAD_ROW, 0);
+    costs[all - 1] = 2 * KEMOTUIKI_OLD_ENTRY_LIMIT + 1;
+    begin(), r = kemotuiki_write_batch(form, ns, TABLES, counts, TABLES, fars, all, costs, all, lent, ROOM);
+    return wrong | (form ? is_wrong("write_batch", n, r, 0, of_batch) : is_wrong("write_batch refused", n, r, KEMOTUIKI_ABOVE_OLD_LIMITS, 0));
+}
+
+/* From one form into another, or into the same; then with one byte too little room. */
+static int conversions_wrong(size_t from, size_t form, size_t n) {
+    size_t rows = 2 * n - 3, of_costs = cost_bytes(form, n), of_links = link_bytes(form, n, rows);
+    int wrong = 0;
+    KemotuikiBytes r;
+    fill(n);
+    r = kemotuiki_write_costs(from, n, t, n * n, stored_costs, sizeof stored_costs);
+    if (r.number) return 1;
+    begin(), r = kemotuiki_convert_costs(form, stored_costs, r.used, lent, ROOM);
+    wrong |= is_wrong("convert_costs", n, r, 0, of_costs);
+    begin(), r = kemotuiki_convert_costs(form, stored_costs, sizeof stored_costs, lent, of_costs - 1);
+    wrong |= is_wrong("convert_costs refused", n, r, KEMOTUIKI_NO_ROOM, 0);
+    r = kemotuiki_write_links(from, n, rows, fars, rows, costs, rows, stored_links, sizeof stored_links);
+    if (r.number) return 1;
+    begin(), r = kemotuiki_convert_links(form, stored_links, r.used, lent, ROOM);
+    wrong |= is_wrong("convert_links", n, r, 0, of_links);
+    begin(), r = kemotuiki_convert_links(form, stored_links, sizeof stored_links, lent, of_links - 1);
+    return wrong | is_wrong("convert_links refused", n, r, KEMOTUIKI_NO_ROOM, 0);
 }
 
 /* With an argument: only whether touches are counted here. */
@@ -143,6 +174,10 @@ int main(int argc, char **argv) {
     (void)argv;
     if (argc > 1) return !counts_right();
     int wrong = 0;
-    for (size_t n = 3; n <= 64; n++) wrong |= writes_wrong(n);
+    for (size_t n = 3; n <= 64; n++)
+        for (size_t form = 0; form < 2; form++) {
+            wrong |= writes_wrong(form, n);
+            for (size_t from = 0; from < 2; from++) wrong |= conversions_wrong(from, form, n);
+        }
     return wrong;
 }

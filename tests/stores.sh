@@ -1,7 +1,7 @@
 #!/usr/bin/env bash
-# Counts through the archive how often a lent byte is stored and loaded while stored tables are written, 3 to 64 images: one store for
-# each used byte, no load, and no touch of any other byte or by a refused call. Status 1 where it is otherwise, 0 if all is so or
-# nothing could be run, which is said.
+# Counts through the archive how often a lent byte is stored and loaded while stored tables are written and converted, 3 to 64 images
+# in both forms: one store for each used byte, no load, and no touch of any other byte or by a refused call. Status 1 where it is
+# otherwise, 0 if all is so or nothing could be run, which is said.
 set -euo pipefail
 cd "$(dirname "$0")/.."
 . scripts/cross.sh

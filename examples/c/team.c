@@ -84,9 +84,9 @@ static size_t measured_tree_of(int image, uint64_t *fars, uint32_t *costs) {
     return r.rows;
 }
 
-/* The stored form of a link table, into bytes; how many. */
+/* The old stored form of a link table, into bytes; how many. Every version reads it, and these costs are far below its limits. */
 static size_t stored(size_t count, const uint64_t *fars, const uint32_t *costs, uint8_t *bytes, size_t room) {
-    KemotuikiBytes r = kemotuiki_write_links(N, count, fars, count, costs, count, bytes, room);
+    KemotuikiBytes r = kemotuiki_write_links(KEMOTUIKI_OLD_FORM, N, count, fars, count, costs, count, bytes, room);
     NEED(r);
     return r.used;
 }
@@ -179,7 +179,7 @@ static void store(void) {
     uint32_t costs[ROOM], back[N * N];
     uint8_t bytes[512];
     size_t count = tree_of(1, fars, costs);
-    KemotuikiBytes front = kemotuiki_write_costs(N, tables[0], N * N, bytes, sizeof bytes);
+    KemotuikiBytes front = kemotuiki_write_costs(KEMOTUIKI_OLD_FORM, N, tables[0], N * N, bytes, sizeof bytes);
     NEED(front);
     size_t more = stored(count, fars, costs, bytes + front.used, sizeof bytes - front.used);
     printf("stored: %zu bytes of costs, %zu of links\n", front.used, more);
@@ -214,7 +214,7 @@ static void write_both(void) {
     counts[0] = (uint32_t)tree_of(1, fars, costs);
     counts[1] = (uint32_t)tree_of(7, fars + counts[0], costs + counts[0]);
     size_t both = counts[0] + counts[1];
-    KemotuikiBytes r = kemotuiki_write_batch(images, 2, counts, 2, fars, both, costs, both, bytes, sizeof bytes);
+    KemotuikiBytes r = kemotuiki_write_batch(KEMOTUIKI_OLD_FORM, images, 2, counts, 2, fars, both, costs, both, bytes, sizeof bytes);
     NEED(r);
     printf("both in one batch: %zu bytes\n", r.used);
 }

@@ -126,7 +126,8 @@ contains
         print '(a, i0)', 'and as image 7 has it: ', as_7%signed_index
     end subroutine
 
-    ! The cost table and, behind it, the link table, in one buffer; then both read back.
+    ! The cost table and, behind it, the link table, in one buffer; then both read back. Both have the old form, which every version
+    ! reads; these costs are far below its limits.
     subroutine store()
         integer(int64) :: fars(room)
         integer :: costs(room), back(n, n)
@@ -137,9 +138,9 @@ contains
         type(kemotuiki_links_answer) :: links
         tree = kemotuiki_exact(tables(:, :, 1), fars, costs)
         call require(tree)
-        first = kemotuiki_write_costs(tables(:, :, 1), bytes)
+        first = kemotuiki_write_costs(kemotuiki_old_form, tables(:, :, 1), bytes)
         call require(first)
-        second = kemotuiki_write_links(n, fars(:tree%rows), costs(:tree%rows), bytes(first%used + 1:))
+        second = kemotuiki_write_links(kemotuiki_old_form, n, fars(:tree%rows), costs(:tree%rows), bytes(first%used + 1:))
         call require(second)
         print '(2(a, i0), a)', 'stored: ', first%used, ' bytes of costs, ', second%used, ' of links'
 
@@ -164,18 +165,18 @@ contains
         type(kemotuiki_bytes_answer) :: first, second
         tree = kemotuiki_exact(tables(:, :, 1), fars, costs)
         call require(tree)
-        first = kemotuiki_write_links(n, fars(:tree%rows), costs(:tree%rows), mine)
+        first = kemotuiki_write_links(kemotuiki_old_form, n, fars(:tree%rows), costs(:tree%rows), mine)
         call require(first)
 
         tree = kemotuiki_measured(tables(:, :, 9), fars, costs)
         call require(tree)
-        second = kemotuiki_write_links(n, fars(:tree%rows), costs(:tree%rows), theirs)
+        second = kemotuiki_write_links(kemotuiki_old_form, n, fars(:tree%rows), costs(:tree%rows), theirs)
         call require(second)
         call print_choice("image 1's tree and the measured one: ", mine(:first%used), theirs(:second%used))
 
         tree = kemotuiki_exact(tables(:, :, 7), fars, costs)
         call require(tree)
-        second = kemotuiki_write_links(n, fars(:tree%rows), costs(:tree%rows), theirs)
+        second = kemotuiki_write_links(kemotuiki_old_form, n, fars(:tree%rows), costs(:tree%rows), theirs)
         call require(second)
         call print_choice("image 1's tree and image 7's: ", mine(:first%used), theirs(:second%used))
     end subroutine
@@ -205,7 +206,7 @@ contains
         second = kemotuiki_exact(tables(:, :, 7), fars(first%rows + 1:), costs(first%rows + 1:))
         call require(second)
         rows = first%rows + second%rows
-        batch = kemotuiki_write_batch([n, n], [first%rows, second%rows], fars(:rows), costs(:rows), bytes)
+        batch = kemotuiki_write_batch(kemotuiki_old_form, [n, n], [first%rows, second%rows], fars(:rows), costs(:rows), bytes)
         call require(batch)
         print '(a, i0, a)', 'both in one batch: ', batch%used, ' bytes'
     end subroutine
