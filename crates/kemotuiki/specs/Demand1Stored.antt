@@ -8,13 +8,17 @@ use Rattle.ground.specs.Outcomes.{Left}
 use Rattle.ground.specs.Ranges.{from, gather}
 use Rattle.ground.specs.Steps.{ofTable}
 use Rattle.theory.specs.Outcomes.{LeftRows}
-use Rattle.stored_costs.specs.Form.{oldCosts}
-use Rattle.stored_links.specs.Form.{oldLinks}
+use Rattle.bits.specs.Editions.{editionBy}
+use Rattle.stored_costs.specs.Form.{costForm, costFormAt}
+use Rattle.stored_links.specs.Form.{linkForm, linkFormAt}
 use Rattle.batch.specs.Batch.{batchOutcome}
 use Rattle.batch.specs.InOrder.{batch-decides, batch-numbers, batch-unaltered, batchSteps}
 use Rattle.batch.specs.Tables.{tables}
-use Rattle.choice.specs.Call.{choiceOf}
+use Rattle.choice.specs.Call.{choiceEither}
 use Rattle.choice.specs.InOrder.{choice-decides, choiceSteps}
+use Rattle.conversion.specs.Costs.{costChecks, costsConverted}
+use Rattle.conversion.specs.InOrder.{cost-order, costSteps, link-order, linkSteps}
+use Rattle.conversion.specs.Links.{linkChecks, linksConverted}
 use Rattle.refusal_text.specs.InOrder.{refusal-text-order, refusalTextSteps}
 use Rattle.refusal_text.specs.Text.{refusalTextCheck, refusalTextOutcome}
 use Rattle.numbers.specs.Stored.{ofBatched, ofBytes, ofChosen, ofCosts, ofLinks}
@@ -41,53 +45,80 @@ use Rattle.stored_links.specs.declared.StoredLinks.the-variants as stored-links
 use Rattle.batch.specs.declared.Batched.the-variants as batched
 use Rattle.choice.specs.declared.Chosen.the-variants as chosen
 
-pub write-costs : (n : ℕ) (t out out′ : List ℕ) (r : KemotuikiBytes) → Left (crossed ofBytes (costs-writing.writeOutcome oldCosts n t out)) r out′
-    → Refusals (ofTable 0 (1 ∷ 2 ∷ 4 ∷ 5 ∷ 6 ∷ 3 ∷ [])) (costs-written.writeSteps oldCosts n t (length out)) (r .head) (out ∷ []) (out′ ∷ [])
-write-costs n t out out′ r p =
-    by-left (λ (k : KemotuikiBytes). k .head) ofBytes written.Refused (λ q. refl) (costs-writing.writeChecks oldCosts n t (length out)) _ _ out refl refl
-    (costs-written.write-order oldCosts n t (length out)) p
+-- k is the number of the form, 0 for the old one
+
+pub write-costs : (k n : ℕ) (t out out′ : List ℕ) (r : KemotuikiBytes)
+    → Left (crossed ofBytes (costs-writing.writeOutcome (costForm (editionBy k)) n t out)) r out′
+    → Refusals (ofTable 0 (1 ∷ 2 ∷ 4 ∷ 5 ∷ 6 ∷ 17 ∷ 3 ∷ [])) (costs-written.writeSteps (costForm (editionBy k)) n t (length out)) (r .head) (out ∷ [])
+    (out′ ∷ [])
+write-costs k n t out out′ r p =
+    let form = costForm (editionBy k) in
+    by-left (λ (x : KemotuikiBytes). x .head) ofBytes written.Refused (λ q. refl) (costs-writing.writeChecks form n t (length out)) _ _ out refl refl
+    (costs-written.write-order form n t (length out)) p
 
 -- 9 of the position before all else
 pub read-costs : (bytes : List ℕ) (position : ℕ) (out out′ : List ℕ) (r : KemotuikiCosts)
-    → Left (crossed ofCosts (costs-reading.readOutcome oldCosts bytes position out)) r out′
-    → Refusals (ofTable 0 (9 ∷ 9 ∷ 1 ∷ 3 ∷ 9 ∷ 11 ∷ 4 ∷ [])) (costs-read.readAtSteps oldCosts bytes position (length out)) (r .head) (out ∷ []) (out′ ∷ [])
+    → Left (crossed ofCosts (costs-reading.readEither bytes position out)) r out′
+    → Refusals (ofTable 0 (9 ∷ 9 ∷ 1 ∷ 3 ∷ 9 ∷ 11 ∷ 4 ∷ [])) (costs-read.readAtSteps (costFormAt bytes position) bytes position (length out)) (r .head)
+    (out ∷ []) (out′ ∷ [])
 read-costs bytes position out out′ r p =
-    by-left (λ (k : KemotuikiCosts). k .head) ofCosts stored-costs.Refused (λ q. refl) (costs-checks.readAtChecks oldCosts bytes position (length out)) _ _
-    out refl refl (costs-read.read-at-order oldCosts bytes position (length out)) p
+    let form = costFormAt bytes position in
+    by-left (λ (x : KemotuikiCosts). x .head) ofCosts stored-costs.Refused (λ q. refl) (costs-checks.readAtChecks form bytes position (length out)) _ _
+    out refl refl (costs-read.read-at-order form bytes position (length out)) p
 
-pub write-links : (n N : ℕ) (f v out out′ : List ℕ) (r : KemotuikiBytes) → Left (crossed ofBytes (links-writing.writeOutcome oldLinks n N f v out)) r out′
-    → Refusals (ofTable 0 (1 ∷ 10 ∷ 2 ∷ 12 ∷ 13 ∷ 3 ∷ [])) (links-written.writeSteps oldLinks n N f v (length out)) (r .head) (out ∷ []) (out′ ∷ [])
-write-links n N f v out out′ r p =
-    by-left (λ (k : KemotuikiBytes). k .head) ofBytes written.Refused (λ q. refl) (links-writing.writeChecks oldLinks n N f v (length out)) _ _ out refl refl
-    (links-written.write-order oldLinks n N f v (length out)) p
+pub write-links : (k n N : ℕ) (f v out out′ : List ℕ) (r : KemotuikiBytes)
+    → Left (crossed ofBytes (links-writing.writeOutcome (linkForm (editionBy k)) n N f v out)) r out′
+    → Refusals (ofTable 0 (1 ∷ 10 ∷ 2 ∷ 12 ∷ 13 ∷ 17 ∷ 3 ∷ [])) (links-written.writeSteps (linkForm (editionBy k)) n N f v (length out)) (r .head)
+    (out ∷ []) (out′ ∷ [])
+write-links k n N f v out out′ r p =
+    let form = linkForm (editionBy k) in
+    by-left (λ (x : KemotuikiBytes). x .head) ofBytes written.Refused (λ q. refl) (links-writing.writeChecks form n N f v (length out)) _ _ out refl refl
+    (links-written.write-order form n N f v (length out)) p
 
 -- 9 of the position before all else; the shorter of the two lent buffers is the room
 pub read-links : (bytes : List ℕ) (position : ℕ) (f v f′ v′ : List ℕ) (r : KemotuikiLinks)
-    → LeftRows (crossedRows ofLinks (links-reading.readOutcome oldLinks bytes position f v)) r f′ v′
-    → Refusals (ofTable 0 (9 ∷ 9 ∷ 1 ∷ 10 ∷ 3 ∷ 9 ∷ 11 ∷ 12 ∷ 13 ∷ [])) (links-read.readAtSteps oldLinks bytes position (min (length f) (length v))) (r .head)
-    (f ∷ v ∷ []) (f′ ∷ v′ ∷ [])
+    → LeftRows (crossedRows ofLinks (links-reading.readEither bytes position f v)) r f′ v′
+    → Refusals (ofTable 0 (9 ∷ 9 ∷ 1 ∷ 10 ∷ 3 ∷ 9 ∷ 11 ∷ 12 ∷ 13 ∷ []))
+    (links-read.readAtSteps (linkFormAt bytes position) bytes position (min (length f) (length v))) (r .head) (f ∷ v ∷ []) (f′ ∷ v′ ∷ [])
 read-links bytes position f v f′ v′ r p =
-    let c = links-checks.readAtChecks oldLinks bytes position (min (length f) (length v)) in
-    by-rows (λ (k : KemotuikiLinks). k .head) ofLinks stored-links.Refused (λ q. refl) c _ (links-reading.readOutcome oldLinks bytes position f v) f v refl refl
-    (links-read.read-at-order oldLinks bytes position (min (length f) (length v))) refl (λ q e. (sym (front-stops c _ f e), sym (front-stops c _ v e))) p
+    let form = linkFormAt bytes position in
+    let c = links-checks.readAtChecks form bytes position (min (length f) (length v)) in
+    by-rows (λ (x : KemotuikiLinks). x .head) ofLinks stored-links.Refused (λ q. refl) c _ (links-reading.readOutcome form bytes position f v) f v refl refl
+    (links-read.read-at-order form bytes position (min (length f) (length v))) refl (λ q e. (sym (front-stops c _ f e), sym (front-stops c _ v e))) p
 
 -- 2 with number 0 for lists of two lengths; then the link writer's, table by table; then 2 for places left over, with the last table's number
-pub write-batch : (ns counts f v out out′ : List ℕ) (r : KemotuikiBytes) → Left (crossed ofBatched (batchOutcome oldLinks ns counts f v out)) r out′
+pub write-batch : (k : ℕ) (ns counts f v out out′ : List ℕ) (r : KemotuikiBytes)
+    → Left (crossed ofBatched (batchOutcome (linkForm (editionBy k)) ns counts f v out)) r out′
     → Refusals
     (ofTable 0 (2 ∷ [])
-    ++ (gather (from 1 (length (tables ns counts))) (λ k. ofTable k (1 ∷ 10 ∷ 2 ∷ 12 ∷ 13 ∷ 3 ∷ [])) ++ ofTable (length (tables ns counts)) (2 ∷ [])))
-    (batchSteps oldLinks ns counts f v (length out)) (r .head) (out ∷ []) (out′ ∷ [])
-write-batch ns counts f v out out′ r p =
-    let d = batch-decides oldLinks ns counts f v (length out) in
-    refusals (λ (k : KemotuikiBytes). k .head) ofBatched batched.Refused (λ m q. refl) (batch-numbers oldLinks ns counts f v (length out)) refl (d .1)
-    (p .answered)
-    (λ s q e. ap (λ (x : List ℕ). x ∷ []) (p .left ∙ batch-unaltered oldLinks ns counts f v out s q e))
+    ++ (gather (from 1 (length (tables ns counts))) (λ m. ofTable m (1 ∷ 10 ∷ 2 ∷ 12 ∷ 13 ∷ 17 ∷ 3 ∷ [])) ++ ofTable (length (tables ns counts)) (2 ∷ [])))
+    (batchSteps (linkForm (editionBy k)) ns counts f v (length out)) (r .head) (out ∷ []) (out′ ∷ [])
+write-batch k ns counts f v out out′ r p =
+    let form = linkForm (editionBy k) in
+    refusals (λ (x : KemotuikiBytes). x .head) ofBatched batched.Refused (λ m q. refl) (batch-numbers form ns counts f v (length out)) refl
+    (batch-decides form ns counts f v (length out) .1) (p .answered)
+    (λ s q e. ap (λ (x : List ℕ). x ∷ []) (p .left ∙ batch-unaltered form ns counts f v out s q e))
 
 -- each table's with its own number, without 3; then 15 and 14 with number 0
-pub choice : (s t : List ℕ) (r : KemotuikiChoice) → r ≡ ofChosen (choiceOf oldLinks s t)
+pub choice : (s t : List ℕ) (r : KemotuikiChoice) → r ≡ ofChosen (choiceEither s t)
     → Refusals (ofTable 1 (9 ∷ 1 ∷ 10 ∷ 9 ∷ 11 ∷ 12 ∷ 13 ∷ []) ++ (ofTable 2 (9 ∷ 1 ∷ 10 ∷ 9 ∷ 11 ∷ 12 ∷ 13 ∷ []) ++ ofTable 0 (15 ∷ 14 ∷ [])))
-    (choiceSteps oldLinks s t) (r .head) [] []
-choice s t r e = refusals (λ (k : KemotuikiChoice). k .head) ofChosen chosen.Refused (λ m q. refl) refl refl (choice-decides oldLinks s t .2) e (λ a q f. refl)
+    (choiceSteps (linkFormAt s 0) (linkFormAt t 0) s t) (r .head) [] []
+choice s t r e =
+    refusals (λ (x : KemotuikiChoice). x .head) ofChosen chosen.Refused (λ m q. refl) refl refl (choice-decides (linkFormAt s 0) (linkFormAt t 0) s t .2) e
+    (λ a q f. refl)
+
+-- the reader's without 3, then those of the form that is asked for
+pub convert-costs : (k : ℕ) (s out out′ : List ℕ) (r : KemotuikiBytes) → Left (crossed ofBytes (costsConverted (editionBy k) s out)) r out′
+    → Refusals (ofTable 0 (9 ∷ 1 ∷ 9 ∷ 11 ∷ 4 ∷ 17 ∷ 3 ∷ [])) (costSteps (editionBy k) s (length out)) (r .head) (out ∷ []) (out′ ∷ [])
+convert-costs k s out out′ r p =
+    by-left (λ (x : KemotuikiBytes). x .head) ofBytes written.Refused (λ q. refl) (costChecks (editionBy k) s (length out)) _ _ out refl refl
+    (cost-order (editionBy k) s (length out)) p
+
+pub convert-links : (k : ℕ) (s out out′ : List ℕ) (r : KemotuikiBytes) → Left (crossed ofBytes (linksConverted (editionBy k) s out)) r out′
+    → Refusals (ofTable 0 (9 ∷ 1 ∷ 10 ∷ 9 ∷ 11 ∷ 12 ∷ 13 ∷ 17 ∷ 3 ∷ [])) (linkSteps (editionBy k) s (length out)) (r .head) (out ∷ []) (out′ ∷ [])
+convert-links k s out out′ r p =
+    by-left (λ (x : KemotuikiBytes). x .head) ofBytes written.Refused (λ q. refl) (linkChecks (editionBy k) s (length out)) _ _ out refl refl
+    (link-order (editionBy k) s (length out)) p
 
 -- ## Texts
 

@@ -12,11 +12,12 @@ use Rattle.theory.specs.Laws.JoinedRows.{rowsOf-most}
 use Rattle.theory.specs.LinkTables.{LinkTable, Row}
 use Rattle.theory.specs.Outcomes.{LeftRows}
 use Rattle.theory.specs.Tables.{limit}
+use Rattle.bits.specs.declared.Edition.the-variants.{New}
 use Rattle.links.specs.Links.{Links}
 use Rattle.routes.specs.Orders.{pathChecks, routeChecks, upperChecks}
 use Rattle.routes.specs.Promises.{path-accepted, route-accepted, upper-accepted}
-use Rattle.stored_links.specs.Form.{linkUsed, oldLinks}
-use Rattle.stored_links.specs.Outcomes.{readOutcome}
+use Rattle.stored_links.specs.Form.{linkUsed, newLinks}
+use Rattle.stored_links.specs.Outcomes.{readEither}
 use Rattle.stored_links.specs.Stored.{readInto}
 use Rattle.link_writer.specs.Laws.Accepted.{passed-write}
 use Rattle.link_writer.specs.RoundTrips.{reading-undoes-writing}
@@ -33,18 +34,19 @@ pub record GoesOn (n r : ℕ) (l v : List ℕ) : Type 0 where
   pub path : (i j : ℕ) → 1 ≤ i → i ≤ n → 1 ≤ j → j ≤ n → pathChecks limit n r l v i j ≡ Passed
   pub upper-rows : (room : ℕ) → 2 * n - 3 ≤ room → upperChecks limit n r l v room ≡ Passed
   pub route : (i room : ℕ) → 1 ≤ i → i ≤ n → 2 * n - 3 ≤ room → routeChecks limit n r l v i room ≡ Passed
-  pub stored : (room : ℕ) → linkUsed oldLinks n r ≤ room → writeChecks oldLinks n r l v room ≡ Passed
+  -- in the new form, whose limit is that of link tables
+  pub stored : (room : ℕ) → linkUsed newLinks n r ≤ room → writeChecks newLinks n r l v room ≡ Passed
   -- and what is stored is read back as the same rows
-  pub read-back : (out f u : List ℕ) → linkUsed oldLinks n r ≤ length out → 2 * n - 3 ≤ length f → 2 * n - 3 ≤ length u
-      → readOutcome oldLinks (writeOutcome oldLinks n r l v out .places) 0 f u ≡ readInto n r (linkUsed oldLinks n r) l v f u
+  pub read-back : (out f u : List ℕ) → linkUsed newLinks n r ≤ length out → 2 * n - 3 ≤ length f → 2 * n - 3 ≤ length u
+      → readEither (writeOutcome newLinks n r l v out .places) 0 f u ≡ readInto n r (linkUsed newLinks n r) l v f u
 
 links-go-on : (n r : ℕ) (l v : List ℕ) → Links limit n r l v → GoesOn n r l v
 links-go-on n r l v t = record {
   path = λ i j a b c d. path-accepted limit n r l v i j .1 (record { table = t; low = a; high = b; low′ = c; high′ = d });
   upper-rows = λ room h. upper-accepted limit n r l v room .1 (record { table = t; spare = h });
   route = λ i room a b h. route-accepted limit n r l v i room .1 (record { uppers = record { table = t; spare = h }; low = a; high = b });
-  stored = λ room h. passed-write oldLinks n r l v room t (subst (λ x. linkUsed oldLinks n x ≤ room) (sym (t .counted)) h);
-  read-back = λ out f u a b c. reading-undoes-writing n r l v out f u t a b c .1;
+  stored = λ room h. passed-write newLinks n r l v room (omega arith) t (subst (λ x. linkUsed newLinks n x ≤ room) (sym (t .counted)) h);
+  read-back = λ out f u a b c. reading-undoes-writing New n r l v out f u t a b c .1;
 }
 
 rows-go-on : (n r : ℕ) (f′ v′ : List ℕ) → 3 ≤ n → n ≤ 64 → LinkTable limit n (rowsLeft r f′ v′) → r ≡ length (rowsLeft r f′ v′)

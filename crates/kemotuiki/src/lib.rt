@@ -24,13 +24,16 @@ ghost use Rattle.stored_costs.specs.Outcomes as costs-reading;
 ghost use Rattle.link_writer.specs.Writing as links-writing;
 ghost use Rattle.stored_links.specs.Outcomes as links-reading;
 ghost use Rattle.batch.specs.Batch.{batchOutcome};
-ghost use Rattle.choice.specs.Call.{choiceOf};
+ghost use Rattle.choice.specs.Call.{choiceEither};
+ghost use Rattle.conversion.specs.Costs.{costsConverted};
+ghost use Rattle.conversion.specs.Links.{linksConverted};
 ghost use Rattle.refusal_text.specs.Text.{refusalTextOutcome};
 ghost use Rattle.numbers.specs.Numbers.{ofIndex, ofOrder, ofRows, ofPath, ofComparison, ofShared};
 ghost use Rattle.numbers.specs.Stored.{ofBytes, ofBatched, ofCosts, ofLinks, ofChosen};
 ghost use Rattle.kemotuiki.specs.Crossing.{crossed, crossedRows};
-ghost use Rattle.stored_costs.specs.Form.{oldCosts};
-ghost use Rattle.stored_links.specs.Form.{oldLinks};
+ghost use Rattle.bits.specs.Editions.{editionBy};
+ghost use Rattle.stored_costs.specs.Form.{costForm};
+ghost use Rattle.stored_links.specs.Form.{linkForm};
 
 // The index of the division with the far side s.
 #[no_mangle]
@@ -163,12 +166,18 @@ pub extern "C" fn kemotuiki_consensus(
     numbers::of_shared(consensus::consensus(n, number, tables, fars, costs))
 }
 
-// A cost table stored.
+// A cost table stored. Here and below the form is 0 for the old one and any other number for the new one.
 #[no_mangle]
-pub extern "C" fn kemotuiki_write_costs(n: usize, t: &[u32], out: &mut [u8]) -> KemotuikiBytes
-    ensures { λ r. ⌜ Left (crossed ofBytes (costs-writing.writeOutcome oldCosts n (now (t .entry)) (now (out .entry)))) r (now (out .exit)) ⌝ }
+pub extern "C" fn kemotuiki_write_costs(
+    form: usize,
+    n: usize,
+    t: &[u32],
+    out: &mut [u8],
+) -> KemotuikiBytes
+    ensures { λ r. ⌜ Left (crossed ofBytes (costs-writing.writeOutcome (costForm (editionBy form)) n (now (t .entry)) (now (out .entry)))) r
+        (now (out .exit)) ⌝ }
 {
-    numbers::of_bytes(cost_writer::write_costs(n, t, out))
+    numbers::of_bytes(cost_writer::write_costs(bits::edition_by(form), n, t, out))
 }
 
 // A stored cost table read.
@@ -178,7 +187,7 @@ pub extern "C" fn kemotuiki_read_costs(
     position: usize,
     out: &mut [u32],
 ) -> KemotuikiCosts
-    ensures { λ r. ⌜ Left (crossed ofCosts (costs-reading.readOutcome oldCosts (now (bytes .entry)) position (now (out .entry)))) r (now (out .exit)) ⌝ }
+    ensures { λ r. ⌜ Left (crossed ofCosts (costs-reading.readEither (now (bytes .entry)) position (now (out .entry)))) r (now (out .exit)) ⌝ }
 {
     numbers::of_costs(stored_costs::read_costs(bytes, position, out))
 }
@@ -186,16 +195,17 @@ pub extern "C" fn kemotuiki_read_costs(
 // A link table stored.
 #[no_mangle]
 pub extern "C" fn kemotuiki_write_links(
+    form: usize,
     n: usize,
     count: usize,
     fars: &[u64],
     costs: &[u32],
     out: &mut [u8],
 ) -> KemotuikiBytes
-    ensures { λ r. ⌜ Left (crossed ofBytes (links-writing.writeOutcome oldLinks n count (now (fars .entry)) (now (costs .entry))
+    ensures { λ r. ⌜ Left (crossed ofBytes (links-writing.writeOutcome (linkForm (editionBy form)) n count (now (fars .entry)) (now (costs .entry))
         (now (out .entry)))) r (now (out .exit)) ⌝ }
 {
-    numbers::of_bytes(link_writer::write_links(n, count, fars, costs, out))
+    numbers::of_bytes(link_writer::write_links(bits::edition_by(form), n, count, fars, costs, out))
 }
 
 // A stored link table read.
@@ -207,7 +217,7 @@ pub extern "C" fn kemotuiki_read_links(
     costs: &mut [u32],
 ) -> KemotuikiLinks
     ensures { λ r. ⌜ LeftRows (crossedRows ofLinks
-        (links-reading.readOutcome oldLinks (now (bytes .entry)) position (now (fars .entry)) (now (costs .entry)))) r (now (fars .exit))
+        (links-reading.readEither (now (bytes .entry)) position (now (fars .entry)) (now (costs .entry)))) r (now (fars .exit))
         (now (costs .exit)) ⌝ }
 {
     numbers::of_links(stored_links::read_links(bytes, position, fars, costs))
@@ -216,24 +226,49 @@ pub extern "C" fn kemotuiki_read_links(
 // Link tables stored one after another.
 #[no_mangle]
 pub extern "C" fn kemotuiki_write_batch(
+    form: usize,
     ns: &[u32],
     counts: &[u32],
     fars: &[u64],
     costs: &[u32],
     out: &mut [u8],
 ) -> KemotuikiBytes
-    ensures { λ r. ⌜ Left (crossed ofBatched (batchOutcome oldLinks (now (ns .entry)) (now (counts .entry)) (now (fars .entry)) (now (costs .entry))
+    ensures { λ r. ⌜ Left (crossed ofBatched (batchOutcome (linkForm (editionBy form)) (now (ns .entry)) (now (counts .entry)) (now (fars .entry)) (now (costs .entry))
         (now (out .entry)))) r (now (out .exit)) ⌝ }
 {
-    numbers::of_batched(batch::write_batch(ns, counts, fars, costs, out))
+    numbers::of_batched(batch::write_batch(bits::edition_by(form), ns, counts, fars, costs, out))
 }
 
 // Which of two stored link tables includes the other. A part of a buffer cannot cross, but its number and its used bytes say it.
 #[no_mangle]
 pub extern "C" fn kemotuiki_choice(first: &[u8], second: &[u8]) -> KemotuikiChoice
-    ensures { λ r. ⌜ r ≡ ofChosen (choiceOf oldLinks (now (first .entry)) (now (second .entry))) ⌝ }
+    ensures { λ r. ⌜ r ≡ ofChosen (choiceEither (now (first .entry)) (now (second .entry))) ⌝ }
 {
     numbers::of_chosen(choice::choice(first, second))
+}
+
+// A stored cost table in the form that is asked for.
+#[no_mangle]
+pub extern "C" fn kemotuiki_convert_costs(
+    form: usize,
+    bytes: &[u8],
+    out: &mut [u8],
+) -> KemotuikiBytes
+    ensures { λ r. ⌜ Left (crossed ofBytes (costsConverted (editionBy form) (now (bytes .entry)) (now (out .entry)))) r (now (out .exit)) ⌝ }
+{
+    numbers::of_bytes(conversion::convert_costs(bits::edition_by(form), bytes, out))
+}
+
+// A stored link table in the form that is asked for.
+#[no_mangle]
+pub extern "C" fn kemotuiki_convert_links(
+    form: usize,
+    bytes: &[u8],
+    out: &mut [u8],
+) -> KemotuikiBytes
+    ensures { λ r. ⌜ Left (crossed ofBytes (linksConverted (editionBy form) (now (bytes .entry)) (now (out .entry)))) r (now (out .exit)) ⌝ }
+{
+    numbers::of_bytes(conversion::convert_links(bits::edition_by(form), bytes, out))
 }
 
 // What an answer with this head says, as text with a zero byte behind it.

@@ -5,6 +5,9 @@ use Rattle.kemotuiki.specs.Laws.Crossing.{left-crossed}
 use Rattle.kemotuiki.proofs.kemotuiki_write_costs.Statement.{statement}
 use Rattle.kemotuiki.proofs.kemotuiki_write_costs.Tie as tie
 
+edition-by-requires : tie.Need-edition-by-requires
+edition-by-requires c κs = search needs
+
 write-costs-requires : tie.Need-write-costs-requires
 write-costs-requires c κs = search needs
 
@@ -15,8 +18,9 @@ same-length : tie.Need-same-length
 same-length c = search needs
 
 returns : tie.Need-returns
-returns c = left-crossed ofBytes _ (c .before .before .before .write-costs .ensures) (c .of-bytes .ensures)
+returns c =
+    let w = c .before .before .before in
+    left-crossed ofBytes _ (rw (w .before .before .edition-by .ensures) at (w .write-costs .ensures)) (c .of-bytes .ensures)
 
 pub kemotuiki-write-costs-spec : {M : Type 1} → statement M
-kemotuiki-write-costs-spec =
-    tie.close (tie.spec write-costs-requires of-bytes-requires same-length returns)
+kemotuiki-write-costs-spec = tie.close (tie.spec edition-by-requires write-costs-requires of-bytes-requires same-length returns)
