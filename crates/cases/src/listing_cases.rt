@@ -25,7 +25,7 @@ fn show_text(text: Text, other: Text)
 
 // Reads the bytes, makes the two calls, prints the texts, and gives the place behind the case.
 pub fn listing_case(text: &[u8], at: usize) -> usize {
-    let mut given = [0u8; 5200];
+    let mut given = [0u8; 5900];
     let part = take8(text, at, &mut given);
     let count = part.count;
     let bytes = &given[..count];

@@ -5,7 +5,6 @@ mod text_cases;
 
 use case_text::calls;
 use libc::STDOUT_FILENO;
-use stored_cases::batch_cases;
 use stored_cases::byte_cases;
 use stored_cases::choice_cases;
 use stored_cases::reader_cases;
@@ -15,17 +14,17 @@ use tree_cases::team_cases;
 
 // Runs the case at a place of the text, and gives the place of the next one.
 fn one_case(call: u32, text: &[u8], at: usize) -> usize {
-    if call <= calls::WRITE_COSTS {
+    if call <= calls::COMPARE {
         return cost_cases::cost_case(call, text, at);
     }
-    if call <= calls::WRITE_LINKS {
+    if call <= calls::ROUTE {
         return link_cases::link_case(call, text, at);
     }
     if call <= calls::READ_LINKS {
         return byte_cases::byte_case(call, text, at);
     }
-    if call == calls::WRITE_BATCH {
-        return batch_cases::batch_case(text, at);
+    if call <= calls::CONVERT_LINKS {
+        return writer_cases::writer_case(call, text, at);
     }
     if call == calls::CHOICE {
         return choice_cases::choice_case(text, at);
@@ -106,4 +105,6 @@ fn main() {
     run(calls::CONSENSUS, b"consensus", b"consensus.txt");
     run(calls::LISTING, b"listing", b"listing.txt");
     run(calls::EXACT_GRAFTED, b"exact_grafted", b"exact_grafted.txt");
+    run(calls::CONVERT_COSTS, b"convert_costs", b"convert_costs.txt");
+    run(calls::CONVERT_LINKS, b"convert_links", b"convert_links.txt");
 }

@@ -72,7 +72,7 @@ fn case_of(call: u32, bytes: &[u8], position: usize, text: &[u8], at: usize) -> 
 }
 
 pub fn byte_case(call: u32, text: &[u8], at: usize) -> usize {
-    let mut given = [0u8; 5200];
+    let mut given = [0u8; 5900];
     let bytes = take8(text, at, &mut given);
     let count = bytes.count;
     let position = number_at(text, bytes.next);

@@ -20,10 +20,10 @@ fn show_chosen(answer: Chosen) {
 
 // Reads the arguments, makes the two calls, prints the answer and the chosen part, and gives the place behind the case.
 pub fn choice_case(text: &[u8], at: usize) -> usize {
-    let mut first = [0u8; 5200];
+    let mut first = [0u8; 5900];
     let x = take8(text, at, &mut first);
     let i = x.count;
-    let mut second = [0u8; 5200];
+    let mut second = [0u8; 5900];
     let y = take8(text, x.next, &mut second);
     let j = y.count;
     show_chosen(choice::choice(&first[..i], &second[..j]));

@@ -176,7 +176,7 @@ fn two_costs_case(bytes: &[u8], text: &[u8], at: usize) -> usize {
 }
 
 pub fn reader_case(call: u32, text: &[u8], at: usize) -> usize {
-    let mut given = [0u8; 10200];
+    let mut given = [0u8; 11800];
     let bytes = take8(text, at, &mut given);
     let count = bytes.count;
     if call == TWO_COSTS {

@@ -1,6 +1,5 @@
 // Cases that begin with n and a cost table. Each function reads the other arguments, makes its call, prints what the call answers
 // and leaves, and gives the place behind the case.
-use case_text::calls::COMPARE;
 use case_text::calls::EXACT;
 use case_text::calls::EXACT_GRAFTED;
 use case_text::calls::INDEX;
@@ -16,10 +15,8 @@ use case_text::show_next;
 use case_text::show_signed_answer;
 use case_text::show_table_refusal;
 use case_text::show_written;
-use case_text::show8;
 use case_text::show32;
 use case_text::show64;
-use case_text::take8;
 use case_text::take32;
 use case_text::take64;
 use compare::Comparison;
@@ -136,16 +133,6 @@ fn compare_case(n: usize, t: &[u32], text: &[u8], at: usize) -> usize {
     second.next
 }
 
-fn write_costs_case(n: usize, t: &[u32], text: &[u8], at: usize) -> usize {
-    let mut bytes = [0u8; 5200];
-    let room = take8(text, at, &mut bytes);
-    let count = room.count;
-    let out = &mut bytes[..count];
-    show_written(cost_writer::write_costs(n, t, out));
-    show8(out);
-    room.next
-}
-
 // A case of this call, behind its n and its cost table.
 fn case_of(call: u32, n: usize, t: &[u32], text: &[u8], at: usize) -> usize {
     if call == INDEX {
@@ -157,10 +144,7 @@ fn case_of(call: u32, n: usize, t: &[u32], text: &[u8], at: usize) -> usize {
     if call <= EXACT_GRAFTED {
         return reading_case(call, n, t, text, at);
     }
-    if call == COMPARE {
-        return compare_case(n, t, text, at);
-    }
-    write_costs_case(n, t, text, at)
+    compare_case(n, t, text, at)
 }
 
 pub fn cost_case(call: u32, text: &[u8], at: usize) -> usize {

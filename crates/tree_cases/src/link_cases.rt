@@ -1,14 +1,11 @@
 // Cases that begin with n, a row count and a link table. Each function reads the other arguments, makes its call, prints what the
 // call answers and leaves, and gives the place behind the case.
 use case_text::calls::PATH;
-use case_text::calls::ROUTE;
 use case_text::calls::UPPER_ROWS;
 use case_text::number_at;
 use case_text::show_answer;
 use case_text::show_written;
-use case_text::show8;
 use case_text::show32;
-use case_text::take8;
 use case_text::take32;
 use case_text::take64;
 
@@ -54,23 +51,6 @@ fn route_case(
     room.next
 }
 
-fn write_links_case(
-    n: usize,
-    count: usize,
-    fars: &[u64],
-    costs: &[u32],
-    text: &[u8],
-    at: usize,
-) -> usize {
-    let mut bytes = [0u8; 5200];
-    let room = take8(text, at, &mut bytes);
-    let size = room.count;
-    let out = &mut bytes[..size];
-    show_written(link_writer::write_links(n, count, fars, costs, out));
-    show8(out);
-    room.next
-}
-
 // A case of this call, behind its link table.
 fn case_of(
     call: u32,
@@ -87,10 +67,7 @@ fn case_of(
     if call == UPPER_ROWS {
         return upper_rows_case(n, count, fars, costs, text, at);
     }
-    if call == ROUTE {
-        return route_case(n, count, fars, costs, text, at);
-    }
-    write_links_case(n, count, fars, costs, text, at)
+    route_case(n, count, fars, costs, text, at)
 }
 
 pub fn link_case(call: u32, text: &[u8], at: usize) -> usize {
