@@ -7,8 +7,8 @@ use Rattle.ground.specs.Refusals.{refusal}
 use Rattle.bits.specs.Bits.{bitsOf, part, valueOf}
 use Rattle.bits.specs.Forms.{bytesOf, filled, fieldBits, fieldBytes, packed}
 use Rattle.links.specs.BadRows.{badRow, missing}
-use Rattle.stored_links.specs.Examples.{costsA, farsA, storedA}
-use Rattle.stored_links.specs.Form.{linkBytes, linkFields, oldLinks, rowsTo}
+use Rattle.stored_links.specs.Examples.{costsA, farsA, newStoredA, storedA}
+use Rattle.stored_links.specs.Form.{linkBytes, linkFields, newLinks, oldLinks, rowsTo}
 use Rattle.batch.specs.Batch.{batchAnswer, batchBytes, batchFrom}
 use Rattle.batch.specs.Tables.{tables}
 use Rattle.batch.specs.declared.Batched.the-variants.{Bytes}
@@ -36,3 +36,11 @@ pub batch-A-refused : (batchAnswer oldLinks (3 ∷ 3 ∷ []) (3 ∷ 3 ∷ []) (f
     × (batchAnswer oldLinks (3 ∷ 2 ∷ []) (3 ∷ 3 ∷ []) (farsA ++ farsA) (costsA ++ costsA) 22 ≡ batched.Refused 2 (refusal 1 2 0 0 0))
 unfolding tables batchFrom farsA costsA first badRow missing ones onesIn
 batch-A-refused = (refl, refl, refl, refl)
+
+-- in the new form A twice needs 26 bytes; in the old one the second table gets 17 for its second row, before 3
+pub batch-forms : (batchAnswer newLinks (3 ∷ 3 ∷ []) (3 ∷ 3 ∷ []) (farsA ++ farsA) (costsA ++ costsA) 26 ≡ Bytes 26)
+    × (batchBytes newLinks (tables (3 ∷ 3 ∷ []) (3 ∷ 3 ∷ [])) (farsA ++ farsA) (costsA ++ costsA) ≡ newStoredA ++ newStoredA)
+    × (batchAnswer oldLinks (3 ∷ 3 ∷ []) (3 ∷ 3 ∷ []) (farsA ++ farsA) (costsA ++ 1 ∷ 2000001 ∷ 1 ∷ []) 11 ≡ batched.Refused 2 (refusal 17 2 0 0 0))
+unfolding tables batchFrom batchBytes farsA costsA newStoredA linkBytes linkFields rowsTo fieldBytes fieldBits packed filled bytesOf bitsOf valueOf part
+    first badRow missing ones onesIn
+batch-forms = (refl, refl, refl)

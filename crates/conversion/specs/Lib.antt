@@ -8,3 +8,5 @@ pub mod Laws
 -- What the promises are worth.
 pub mod ConvertedCosts
 pub mod ConvertedLinks
+-- Examples that antt computes.
+pub mod Examples

@@ -6,3 +6,5 @@ pub mod InOrder
 pub mod RoundTrips
 -- What is true of it.
 pub mod Laws
+-- Examples that antt computes.
+pub mod Examples

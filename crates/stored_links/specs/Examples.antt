@@ -6,11 +6,12 @@ use lib.Count.{ones, onesIn}
 use Rattle.ground.specs.First.{first}
 use Rattle.ground.specs.Refusals.{refusal}
 use Rattle.bits.specs.Bits.{bits, bitsOf, part, valueOf}
+use Rattle.bits.specs.Editions.{editionOf}
 use Rattle.bits.specs.Forms.{bytesOf, filled, fieldBits, fieldBytes, packed}
 use Rattle.bits.specs.Listed.{listed}
 use Rattle.links.specs.BadRows.{badRow, missing}
-use Rattle.stored_links.specs.Form.{linkBytes, linkFields, oldLinks, rowsTo}
-use Rattle.stored_links.specs.Outcomes.{judged}
+use Rattle.stored_links.specs.Form.{linkBytes, linkFields, newLinks, oldLinks, rowsTo}
+use Rattle.stored_links.specs.Outcomes.{judged, judgedEither}
 use Rattle.stored_links.specs.Said.{costAt, costsOf, countOf, farAt, farsOf, fillOf, imagesOf}
 use Rattle.stored_links.specs.declared.StoredLinks.the-variants.{Table}
 use Rattle.stored_links.specs.declared.StoredLinks.the-variants as stored
@@ -39,3 +40,23 @@ pub head-examples : (judged oldLinks (4 ∷ 0 ∷ []) 0 0 ≡ stored.Refused (re
     × (judged oldLinks (130 ∷ 0 ∷ []) 3 0 ≡ stored.Refused (refusal 9 0 0 0 0))
 unfolding bits bitsOf valueOf part imagesOf countOf
 head-examples = (refl, refl, refl, refl)
+
+-- ## The new form
+
+unfoldable pub newStoredA : List ℕ
+newStoredA = 0xFE ∷ 0x0C ∷ 0x1A ∷ 0x00 ∷ 0x00 ∷ 0x03 ∷ 0x00 ∷ 0x00 ∷ 0x00 ∷ 0xE0 ∷ 0x00 ∷ 0x00 ∷ 0x20 ∷ []
+
+-- example A with the mark in front and 24 bits for a cost, told by its first seven bits
+pub new-example-A : (linkBytes newLinks 3 farsA costsA ≡ newStoredA) × (judgedEither newStoredA 0 3 ≡ Table 3 3 13)
+    × (farsOf newLinks 3 3 newStoredA ≡ farsA) × (costsOf newLinks 3 3 newStoredA ≡ costsA)
+unfolding farsA costsA newStoredA linkBytes linkFields rowsTo fieldBytes fieldBits packed filled bytesOf bits bitsOf valueOf part listed imagesOf countOf
+    farAt costAt fillOf first badRow missing ones onesIn editionOf
+new-example-A = (refl, refl, refl, refl)
+
+-- the mark needs two bytes more, and a second 127 is an n; without the mark two bytes are enough
+pub new-heads : (judgedEither (255 ∷ []) 0 0 ≡ stored.Refused (refusal 9 0 0 0 0))
+    × (judgedEither (255 ∷ 255 ∷ []) 0 0 ≡ stored.Refused (refusal 9 0 0 0 0))
+    × (judgedEither (255 ∷ 255 ∷ 255 ∷ []) 0 0 ≡ stored.Refused (refusal 1 127 0 0 0))
+    × (judgedEither (130 ∷ 0 ∷ []) 0 0 ≡ stored.Refused (refusal 1 65 0 0 0))
+unfolding bits bitsOf valueOf part imagesOf countOf editionOf
+new-heads = (refl, refl, refl, refl)
