@@ -15,7 +15,7 @@ use Rattle.ground.specs.Laws.Refusals.{if-accepted}
 use Rattle.choice.specs.Call.{againstSecond, choiceOf, imagesAgree, inclusion, innersOf, numbered, sidesOf, taken}
 use Rattle.choice.specs.Inclusion.{includes}
 use Rattle.choice.specs.Laws.Inclusion.{each-includes, includes-each}
-use Rattle.choice.specs.Laws.Read.{table-stored}
+use Rattle.stored_links.specs.Laws.Enough.{table-begins}
 use Rattle.choice.specs.declared.Chosen.{Chosen}
 use Rattle.choice.specs.declared.Chosen.the-variants.{Table}
 use Rattle.choice.specs.declared.Chosen.the-variants as answer
@@ -59,8 +59,8 @@ module _ (f g : Form) (s t : List ℕ) where
       let b = numbered-table 2 (tableChecks g t) (numbered 0 (imagesAgree (imagesOf f s) (imagesOf g t)) y) (a .1) in
       let c = numbered-table 0 (imagesAgree (imagesOf f s) (imagesOf g t)) y (b .1) in
       record {
-        first = table-stored f s (a .0);
-        second = table-stored g t (b .0);
+        first = table-begins f s (a .0);
+        second = table-begins g t (b .0);
         same = eqb-true (imagesOf f s) (imagesOf g t) (not-false _ (refuseIf-passed (not (eqb (imagesOf f s) (imagesOf g t))) _ (c .0)));
         chosen = taken-says k u (c .1);
       }

@@ -15,7 +15,7 @@ use Rattle.theory.specs.Outcomes.{LeftRows, RowsOutcome}
 use Rattle.bits.specs.Laws.Listed.{length-listed}
 use Rattle.choice.specs.Call.{sidesOf}
 use Rattle.stored_links.specs.Laws.Outcomes.{front-taken, table-passed, table-refused}
-use Rattle.stored_links.specs.Laws.Passed.{head-passed, read-passed, room-goes}
+use Rattle.stored_links.specs.Laws.Enough.{table-begins}
 use Rattle.stored_links.specs.Laws.ReadAt.{read-enough}
 use Rattle.stored_links.specs.Outcomes.{readOutcome, rowsIf}
 use Rattle.stored_links.specs.Reading.{tableAtChecks, tableChecks}
@@ -25,7 +25,6 @@ use Rattle.stored_links.specs.declared.StoredLinks.the-variants.{Table}
 use Rattle.stored_links.specs.declared.StoredLinks.the-variants as stored
 use Rattle.choice.specs.Read.{SidesListed, TableRead}
 use Rattle.bits.specs.declared.Form.{Form}
-use Rattle.stored_links.specs.Stored.{Stored}
 
 module _ (form : Form) (s : List ℕ) where
   -- the first byte is inside, and at the start of a byte
@@ -47,22 +46,18 @@ module _ (form : Form) (s : List ℕ) where
   pub read-refused : {r : StoredLinks} {f : List ℕ} {q : Refusal} → TableRead form s r f → r ≡ stored.Refused q → tableChecks form s ≡ Refused q
   read-refused {q = q} p e = table-refused (tableChecks form s) (imagesOf form s) (countOf form s) (usedOf form s) q (sym (p .answered) ∙ e)
 
-  -- what passes is a stored link table
-  pub table-stored : tableChecks form s ≡ Passed → Stored form (imagesOf form s) (countOf form s) s
-  table-stored e = read-passed form s 125 (room-goes form s 125 (λ h. omega (arith, head-passed form s h .2)) ∙ e) .0
-
   -- its far sides ascend
   pub sides-ascend : tableChecks form s ≡ Passed → Between 1 (sidesOf form s) (2 ^ imagesOf form s)
   sides-ascend e =
       let n = imagesOf form s in
       let N = countOf form s in
       let q = length-listed (farAt form n s) N ∙ sym (length-listed (costAt form n s) N) in
-      rw (rowsOf-fars (farsOf form n N s) (costsOf form n N s) q) at (table-stored e .rows .ascending)
+      rw (rowsOf-fars (farsOf form n N s) (costsOf form n N s) q) at (table-begins form s e .rows .ascending)
 
   pub read-listed : {r : StoredLinks} {f : List ℕ} {n k used : ℕ} → TableRead form s r f → r ≡ Table n k used → SidesListed form s n k used f
   read-listed {f = f} {n = n} {k = k} {used = used} p e =
       let q = table-passed (tableChecks form s) (imagesOf form s) (countOf form s) (usedOf form s) n k used (sym (p .answered) ∙ e) in
-      let t = table-stored (q .0) in
+      let t = table-begins form s (q .0) in
       let h : take k f ≡ sidesOf form s = ap (λ i. take i f) (sym (q .2)) ∙ p .stands (q .0) in
       let c : countOf form s ≤ 128 = omega (arith, t .most, t .few) in
       record {

@@ -15,7 +15,7 @@ use Rattle.stored_links.specs.Said.{imagesOf, usedOf}
 use Rattle.choice.specs.Laws.Accepted.{not-includes}
 use Rattle.choice.specs.Call.{againstSecond, choiceOf, imagesAgree, innersOf, numbered, sidesOf, taken}
 use Rattle.choice.specs.Inclusion.{includes}
-use Rattle.choice.specs.Laws.Read.{table-stored}
+use Rattle.stored_links.specs.Laws.Enough.{table-begins}
 use Rattle.choice.specs.declared.Chosen.the-variants.{Table}
 use Rattle.bits.specs.declared.Form.{Form}
 use Rattle.choice.specs.Taken.{Begins, FirstRefusal, Includes, of-first, of-images, of-neither, of-second}
@@ -51,7 +51,7 @@ module _ (f g : Form) (s t : List ℕ) where
           ≡ answer.Refused m r
           → FirstRefusal f g s t m r
       second Passed q a h =
-          let b = table-stored g t q in
+          let b = table-begins g t q in
           cases (eqb (imagesOf f s) (imagesOf g t))
           (λ x. neither a b (eqb-true (imagesOf f s) (imagesOf g t) x) (rw x at h))
           (λ x. other a b (eqb-false (imagesOf f s) (imagesOf g t) x) (rw x at h))
@@ -59,5 +59,5 @@ module _ (f g : Form) (s t : List ℕ) where
 
       first : (c : Check) → tableChecks f s ≡ c
           → numbered 1 c (againstSecond g (imagesOf f s) (sidesOf f s) (usedOf f s) t) ≡ answer.Refused m r → FirstRefusal f g s t m r
-      first Passed q h = second (tableChecks g t) refl (table-stored f s q) h
+      first Passed q h = second (tableChecks g t) refl (table-begins f s q) h
       first (Refused p) q h = let x : p ≡ r = cc in let k : m ≡ 1 = cc in of-first k (q ∙ ap Refused x)
