@@ -30,17 +30,19 @@ use Rattle.conversion.specs.Links.{linksConverted}
 abbrev lent : List ℕ
 lent = 7 ∷ 7 ∷ 7 ∷ 7 ∷ 7 ∷ 7 ∷ 7 ∷ 7 ∷ 7 ∷ 7 ∷ 7 ∷ 7 ∷ 7 ∷ 7 ∷ 7 ∷ []
 
--- A there and back, whatever follows it; and 8,000,000, which the old form cannot hold, before 3
+-- A there and back, whatever follows it; 8,000,000, which the old form cannot hold, before 3; and 3, where nothing is altered
 pub costs-A : (costsConverted New (costs.storedA ++ 9 ∷ []) lent ≡ wroteInto 11 costs.newStoredA lent)
     × (costsConverted Old costs.newStoredA lent ≡ wroteInto 9 costs.storedA lent)
     × (costsConverted Old (costBytes newCosts 3 (λ i j. 8000000)) [] .answer ≡ Refused (refusal 17 1 2 0 0))
+    × (costsConverted New costs.storedA costs.storedA ≡ record { answer = Refused (refusal 3 0 0 0 0); places = costs.storedA })
 unfolding costs.storedA costs.newStoredA costBytes costFields fieldBytes fieldBits packed filled bytesOf bits bitsOf valueOf part fieldValue listed entriesTo
     rowEntries rowStart entryCost tableOf cost-form.imagesOf entryOf cost-form.fillOf checkAll editionOf
-costs-A = (refl, refl, refl)
+costs-A = (refl, refl, refl, refl)
 
 pub links-A : (linksConverted New (links.storedA ++ 9 ∷ []) lent ≡ wroteInto 13 links.newStoredA lent)
     × (linksConverted Old links.newStoredA lent ≡ wroteInto 11 links.storedA lent)
     × (linksConverted Old (linkBytes newLinks 3 (2 ∷ 4 ∷ 6 ∷ []) (1 ∷ 1 ∷ 2000001 ∷ [])) [] .answer ≡ Refused (refusal 17 3 0 0 0))
+    × (linksConverted New links.storedA links.storedA ≡ record { answer = Refused (refusal 3 0 0 0 0); places = links.storedA })
 unfolding links.storedA links.newStoredA linkBytes linkFields rowsTo fieldBytes fieldBits packed filled bytesOf bits bitsOf valueOf part listed said.imagesOf
     countOf farAt costAt said.fillOf first badRow missing ones onesIn editionOf
-links-A = (refl, refl, refl)
+links-A = (refl, refl, refl, refl)
