@@ -11,9 +11,10 @@ use Rattle.ground.specs.declared.Check.the-variants.{Passed}
 use Rattle.ground.specs.declared.Written.{Written}
 use Rattle.theory.specs.Tables.{cost}
 use Rattle.bits.specs.declared.Edition.{Edition}
+use Rattle.bits.specs.declared.Form.{Form}
 use Rattle.stored_costs.specs.Form.{costForm, costFormAt, costUsed, imagesOf, storedTable}
 use Rattle.stored_costs.specs.Reading.{tableChecks}
-use Rattle.cost_writer.specs.Writing.{storeChecks, storedIf}
+use Rattle.cost_writer.specs.Writing.{fitCheck, storeChecks, storedIf}
 
 -- the images of the table that s begins with, in the form that it tells, and the table
 abbrev pub imagesSaid : List ℕ → ℕ
@@ -29,6 +30,10 @@ usedIn e s = costUsed (costForm e) (imagesSaid s)
 -- 9, 1, 9, 11, 4, 17, 3: the reader's without 3, then those of the form that is asked for
 abbrev pub costChecks : Edition → List ℕ → ℕ → Check
 costChecks e s room = tableChecks (costFormAt s 0) s then storeChecks (costForm e) (imagesSaid s) (cost (tableSaid s) (imagesSaid s)) room
+
+-- 9, 1, 9, 11, 4, 17 of the table that s begins with in a form, where no entry may be above the limit L
+abbrev pub entryChecks : Form → ℕ → List ℕ → Check
+entryChecks form L s = tableChecks form s then fitCheck L (cost (storedTable form (imagesOf form s) s) (imagesOf form s)) (imagesOf form s)
 
 -- the bytes used in that form, and its bytes at the front of the lent ones
 abbrev pub costsConverted : Edition → List ℕ → List ℕ → Outcome Written

@@ -114,8 +114,8 @@ fn check_store(form: Form, n: usize, t: &[u32], room: usize) -> Check
     ground::refuse_if(room < (stored_costs::row_at(form, n, n) + 7) / 8, 3, 0, 0)
 }
 
-// The stored form of a cost table that is known to be one, for those who checked it themselves.
-pub fn store_costs(edition: Edition, n: usize, t: &[u32], out: &mut [u8]) -> Written
+// The stored form of a table that is known to be a cost table.
+fn store_costs(edition: Edition, n: usize, t: &[u32], out: &mut [u8]) -> Written
     requires { ⌜ CostTable limit n (now t) ⌝ }
     ensures { λ r. ⌜ Left (storeOutcome (costForm edition) n (now (t .entry)) (now (out .entry))) r (now (out .exit)) ⌝ }
 {

@@ -14,7 +14,7 @@ ghost use Rattle.tables.specs.Checks.{entryCheck};
 ghost use Rattle.bits.specs.Bits.{FieldWithin, bits, overAt, part, valueOf};
 ghost use Rattle.bits.specs.Forms.{bytesFor, fieldValue};
 ghost use Rattle.bits.specs.Listed.{listed};
-ghost use Rattle.stored_costs.specs.Entries.{Above, entryCost};
+ghost use Rattle.stored_costs.specs.Entries.{Above, entryCost, entryCount};
 ghost use Rattle.stored_costs.specs.Form.{costForm, costFormAt, storedTable, entryOf, imagesOf, rowAt};
 ghost use Rattle.stored_costs.specs.Outcomes.{judged, judgedEither, readEither};
 ghost use Rattle.stored_costs.specs.Reading.{bodyChecks, readAtChecks, readChecks, startChecks, storedCheck};
@@ -47,7 +47,7 @@ pub fn form_of(edition: Edition) -> Form
 }
 
 // The form of the table at the position, which its first seven bits tell.
-fn form_at(bytes: &[u8], position: usize) -> Form
+pub fn form_at(bytes: &[u8], position: usize) -> Form
     ensures { λ r. ⌜ r ≡ costFormAt (now (bytes .entry)) position ⌝ }
 {
     form_of(bits::edition_at(bytes, position))
@@ -61,8 +61,16 @@ pub fn row_at(form: Form, n: usize, i: usize) -> usize
     form.head + 7 + form.width * (i * n - i * (i + 1) / 2)
 }
 
+// How many entries a table of n images has.
+pub fn entry_count(n: usize) -> usize
+    requires { ⌜ n ≤ 64 ⌝ }
+    ensures { λ r. ⌜ r ≡ entryCount n ⌝ }
+{
+    n * n - n * (n + 1) / 2
+}
+
 // The number n that the bytes say.
-fn images(form: Form, bytes: &[u8]) -> usize
+pub fn images(form: Form, bytes: &[u8]) -> usize
     requires { ⌜ (form .head ≤ 7) × (bytesFor (form .head + 7) ≤ length (now bytes)) ⌝ }
     ensures { λ r. ⌜ r ≡ imagesOf form (now (bytes .entry)) ⌝ }
 {
@@ -144,8 +152,8 @@ fn check_entries(form: Form, n: usize, bytes: &[u8]) -> Check
     Check::Passed
 }
 
-// All checks of the table at the front of the bytes.
-fn check_stored(form: Form, bytes: &[u8], room: usize) -> Check
+// All checks of the table at the front of the bytes, where so many places are lent.
+pub fn check_stored(form: Form, bytes: &[u8], room: usize) -> Check
     requires { ⌜ (form .head ≤ 7) × (form .width ≤ 32) ⌝ }
     ensures { λ r. ⌜ r ≡ readChecks form (now (bytes .entry)) room ⌝ }
 {

@@ -1,101 +1,105 @@
--- `conversion::convert_costs` meets its contract: the table that the reader leaves is stored anew. Assumes nothing.
-use mathlib.Core.List.{List}
-use mathlib.Core.Path.{refl, sym, _≡_}
-use Prim.Native.Nat.{ℕ, _*_, _≤_}
-use native.Mathlib.Omega.{arith}
-use lib.ListN.{length, length-replicate, replicate}
-use lib.Seq.{length-take-le}
-use borrow.Author.Needs.{needs}
-use Rattle.ground.specs.declared.Check.the-variants.{Refused}
-use Rattle.stored_costs.specs.Form.{costFormAt}
+-- `conversion::convert_costs` meets its contract: what passed both limits is stored where there is room. Assumes nothing.
+use mathlib.Core.Path.{sym, _∙_, _≡_}
+use Rattle.ground.specs.Laws.Refusals.{then-passed}
+use Rattle.theory.specs.Tables.{cost}
+use Rattle.bits.specs.declared.Form.{Form}
+use Rattle.stored_costs.specs.Form.{costForm, costFormAt}
+use Rattle.stored_costs.specs.Laws.Enough.{table-readable}
+use Rattle.stored_costs.specs.Laws.Passed.{readable-held}
+use Rattle.stored_costs.specs.Laws.Told.{form-small, told-small}
 use Rattle.stored_costs.specs.Reading.{tableChecks}
-use Rattle.stored_costs.specs.Laws.Enough.{TableRead, front-read, front-refused}
-use Rattle.stored_costs.specs.Laws.Sizes.{square-le}
+use Rattle.stored_costs.specs.Stored.{Readable}
+use Rattle.cost_writer.specs.Writing.{fitCheck}
+use Rattle.conversion.specs.Costs.{entryChecks, imagesSaid, tableSaid}
+use Rattle.conversion.specs.Laws.Costs.{converted-refused, converted-stored}
+use borrow.Author.Needs.{needs}
 use Rattle.conversion.proofs.convert_costs.Statement.{statement}
 use Rattle.conversion.proofs.convert_costs.Tie as tie
 
--- where the call began, as seen from the reading; and the array with what was read
-abbrev begun : tie.After-read-costs → tie.Start
-begun c = c .before .before .before .before
+-- where the call began, as seen from the checks; and the form that the bytes tell
+abbrev begun : tie.After-check-costs → tie.Start
+begun k = k .before .before .before .before .before
 
-abbrev places : tie.After-read-costs → List ℕ
-places c = c .read-costs .last .1 .1 .0
+abbrev from : tie.After-check-costs → Form
+from k = costFormAt (begun k .args .bytes .now) 0
 
--- the array as it was made, with room for every table
-made : List ℕ
-made = replicate 4096 0
+-- the checks, of the two forms
+checked : (k : tie.After-check-costs)
+    → k .check-costs .result ≡ entryChecks (from k) (costForm (begun k .args .edition) .limit) (begun k .args .bytes .now)
+checked k = rw (k .before .before .form-at .ensures, k .before .form-of .ensures) at (k .check-costs .ensures)
 
-enough : 4096 ≤ length made
-unfolding made
-enough = omega (arith, length-replicate {A = ℕ} 4096 0)
+-- where they passed, the bytes begin with a table
+readable : (d : tie.After-enum-told) → Readable (from (d .before .before)) (begun (d .before .before) .args .bytes .now) 4096
+readable d =
+    let k = d .before .before in
+    let s = begun k .args .bytes .now in
+    table-readable (from k) s
+    (then-passed (tableChecks (from k) s) (fitCheck (costForm (begun k .args .edition) .limit) (cost (tableSaid s) (imagesSaid s)) (imagesSaid s))
+    (sym (checked k) ∙ d .enum-told .given .1) .0)
 
--- what the reader refused
-refused : (c : tie.After-r) → let k = c .before .before .before in
-    tableChecks (costFormAt (begun k .args .bytes .now) 0) (begun k .args .bytes .now) ≡ Refused (c .r .given .0 .0)
-unfolding made
-refused c =
-    let k = c .before .before .before in
-    front-refused (begun k .args .bytes .now) made (places k) enough _ (rw (c .r .given .1) at (k .read-costs .ensures))
+-- n, of that form
+images-said : (c : tie.After-images) → let k = c .before .before .before in c .images .result ≡ imagesSaid (begun k .args .bytes .now)
+images-said c = rw (c .before .before .before .before .before .form-at .ensures) at (c .images .ensures)
 
--- the table that was read
-read : (c : tie.After-n) → let k = c .before .before .before in
-    TableRead (begun k .args .bytes .now) made (places k) enough (c .n .given .0 .0)
-unfolding made
-read c =
-    let k = c .before .before .before in
-    front-read (begun k .args .bytes .now) made (places k) enough _ _ (rw (c .n .given .1) at (k .read-costs .ensures))
+form-at-requires : tie.Need-form-at-requires
+form-at-requires c κs = search needs
 
--- it lies within the array
-within : (c : tie.After-n) → c .n .given .0 .0 * c .n .given .0 .0 ≤ length (places (c .before .before .before))
-within c = omega (arith, square-le (read c .few), c .before .before .before .read-costs .kept .1 .1 .0)
+form-of-requires : tie.Need-form-of-requires
+form-of-requires c κs = search needs
 
-slice-aggregate-read-costs : tie.Need-slice-aggregate-read-costs
-slice-aggregate-read-costs c = search needs
-
-read-costs-requires : tie.Need-read-costs-requires
-read-costs-requires c κs = search needs
+check-costs-requires : tie.Need-check-costs-requires
+check-costs-requires c κs = rw (c .before .form-at .ensures) (told-small (c .before .before .before .before .args .bytes .now) 0)
 
 enum-known-r : tie.Need-enum-known-r
 enum-known-r c = search needs
 
-enum-known-n : tie.Need-enum-known-n
-enum-known-n c = search needs
+enum-told : tie.Need-enum-told
+enum-told c = search needs
 
-mul-t : tie.Need-mul-t
-mul-t c = omega (arith, square-le (read (c .before) .few))
-
-array-share-prefix-t : tie.Need-array-share-prefix-t
-array-share-prefix-t c = within (c .before)
-
-slice-aggregate-store-costs : tie.Need-slice-aggregate-store-costs
-slice-aggregate-store-costs c = sym (length-take-le _ _ (within (c .before .before)))
+images-requires : tie.Need-images-requires
+images-requires c κs =
+    let k = c .before .before in
+    rw (k .before .before .form-at .ensures) (told-small (begun k .args .bytes .now) 0 .0, readable c .begun)
 
 store-costs-requires : tie.Need-store-costs-requires
-store-costs-requires c κs = read (c .before .before .before) .table
+store-costs-requires c κs =
+    let d = c .before .before in
+    let k = d .before .before in
+    let r = readable d in
+    let h = told-small (begun k .args .bytes .now) 0 in
+    let f = form-small (begun k .args .edition) in
+    rw (k .before .before .form-at .ensures, k .before .form-of .ensures, images-said (c .before))
+    (readable-held (from k) (begun k .args .bytes .now) 4096 (h .0) (h .1) r, record { short = f .0; narrow = f .1; few = r .few })
 
 returns : tie.Need-returns
 returns c =
-    rw (refused (c .before)) (record { answered = refl; left = refl })
+    let k = c .before .before .before in
+    let a = begun k .args in
+    converted-refused (a .edition) (a .bytes .now) (a .out .now) (sym (checked k) ∙ c .before .r .given .1)
 
 same-length : tie.Need-same-length
 same-length c = search needs
 
 returns-2 : tie.Need-returns-2
 returns-2 c =
-    let t = read (c .before .before .before .before .before .before) in
-    rw (t .passed, t .images, ← t .stands) (c .before .before .store-costs .ensures)
+    let p = c .before .before in
+    let m = p .before .before in
+    let d = m .before in
+    let k = d .before .before in
+    let a = begun k .args in
+    converted-stored (a .edition) (a .bytes .now) (a .out .now) (sym (checked k) ∙ d .enum-told .given .1)
+    (rw (k .before .before .form-at .ensures, k .before .form-of .ensures, images-said m) at (p .store-costs .ensures))
 
 pub convert-costs-spec : {M : Type 1} → statement M
 convert-costs-spec =
     tie.close
     (tie.spec
-    slice-aggregate-read-costs
-    read-costs-requires
+    form-at-requires
+    form-of-requires
+    check-costs-requires
     enum-known-r
-    enum-known-n
-    mul-t
-    array-share-prefix-t
-    slice-aggregate-store-costs
+    enum-told
+    images-requires
     store-costs-requires
     returns
     same-length
