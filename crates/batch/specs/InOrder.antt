@@ -23,7 +23,7 @@ use Rattle.batch.specs.Tables.{Table, leftOverChecks, nextChecks, runOut
 use Rattle.batch.specs.declared.Batched.the-variants.{Bytes}
 use Rattle.batch.specs.declared.Batched.the-variants as batched
 
--- 1, 10, 2, 12, 13, 3 of the next table
+-- 1, 10, 2, 12, 13, 17, 3 of the next table
 abbrev pub nextSteps : Form → ℕ → ℕ → List ℕ → List ℕ → ℕ → List Step
 nextSteps form n N l v room = countSteps n N ++ (2 by runOutChecks N l v ∷ fitSteps form n (take N l) (take N v) room)
 
