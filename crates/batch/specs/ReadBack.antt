@@ -9,8 +9,8 @@ use Rattle.batch.specs.Tables.{Table}
 use Rattle.bits.specs.declared.Form.{Form}
 use Rattle.stored_links.specs.Stored.{readInto}
 
--- from byte k on the tables, stored in the form, are read one after another, each from the byte where the one before ended, into any lent slices that have room;
--- the last ends at the byte `end`
+-- from byte k on the tables, stored in the form, are read one after another, each from the byte where the one before ended, into any lent
+-- slices that have room; the last ends at the byte `end`
 unfoldable pub ReadsBack : Form → List ℕ → ℕ → ℕ → List Table → List ℕ → List ℕ → Type 0
 ReadsBack form bytes end k [] l v = k ≡ end
 ReadsBack form bytes end k (t ∷ ts) l v =

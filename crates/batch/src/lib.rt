@@ -172,7 +172,8 @@ fn put_tables(
     costs: &[u32],
     out: &mut [u8],
 )
-    requires { ⌜ (length (now ns) ≡ length (now counts)) × BatchFits (linkForm edition) (tables (now ns) (now counts)) (now fars) (now costs) (length (now out)) ⌝ }
+    requires { ⌜ (length (now ns) ≡ length (now counts))
+        × BatchFits (linkForm edition) (tables (now ns) (now counts)) (now fars) (now costs) (length (now out)) ⌝ }
     ensures { λ r. ⌜ now (out .exit) ≡ front (batchBytes (linkForm edition) (tables (now (ns .entry)) (now (counts .entry))) (now (fars .entry))
         (now (costs .entry))) (now (out .entry)) ⌝ }
 {

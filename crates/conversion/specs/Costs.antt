@@ -12,7 +12,8 @@ use Rattle.ground.specs.declared.Written.{Written}
 use Rattle.theory.specs.Tables.{cost}
 use Rattle.bits.specs.declared.Edition.{Edition}
 use Rattle.bits.specs.declared.Form.{Form}
-use Rattle.stored_costs.specs.Form.{costForm, costFormAt, costUsed, imagesOf, storedTable}
+use Rattle.stored_costs.specs.Form.{costForm, costFormAt, costUsed}
+use Rattle.stored_costs.specs.Said.{imagesOf, storedTable}
 use Rattle.stored_costs.specs.Reading.{tableChecks}
 use Rattle.cost_writer.specs.Writing.{fitCheck, storeChecks, storedIf}
 

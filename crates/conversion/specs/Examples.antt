@@ -16,11 +16,12 @@ use Rattle.bits.specs.Listed.{listed}
 use Rattle.bits.specs.declared.Edition.the-variants.{New, Old}
 use Rattle.links.specs.BadRows.{badRow, missing}
 use Rattle.stored_costs.specs.Entries.{entriesTo, entryCost, rowEntries, rowStart, tableOf}
-use Rattle.stored_costs.specs.Form.{costBytes, costFields, entryOf, newCosts}
+use Rattle.stored_costs.specs.Form.{costBytes, costFields, newCosts}
+use Rattle.stored_costs.specs.Said.{entryOf}
 use Rattle.stored_links.specs.Form.{linkBytes, linkFields, newLinks, rowsTo}
 use Rattle.stored_links.specs.Said.{costAt, countOf, farAt}
 use Rattle.stored_costs.specs.Examples as costs
-use Rattle.stored_costs.specs.Form as cost-form
+use Rattle.stored_costs.specs.Said as cost-said
 use Rattle.stored_links.specs.Examples as links
 use Rattle.stored_links.specs.Said as said
 use Rattle.conversion.specs.Costs.{costsConverted}
@@ -36,7 +37,7 @@ pub costs-A : (costsConverted New (costs.storedA ++ 9 ∷ []) lent ≡ wroteInto
     × (costsConverted Old (costBytes newCosts 3 (λ i j. 8000000)) [] .answer ≡ Refused (refusal 17 1 2 0 0))
     × (costsConverted New costs.storedA costs.storedA ≡ record { answer = Refused (refusal 3 0 0 0 0); places = costs.storedA })
 unfolding costs.storedA costs.newStoredA costBytes costFields fieldBytes fieldBits packed filled bytesOf bits bitsOf valueOf part fieldValue listed entriesTo
-    rowEntries rowStart entryCost tableOf cost-form.imagesOf entryOf cost-form.fillOf checkAll editionOf
+    rowEntries rowStart entryCost tableOf cost-said.imagesOf entryOf cost-said.fillOf checkAll editionOf
 costs-A = (refl, refl, refl, refl)
 
 pub links-A : (linksConverted New (links.storedA ++ 9 ∷ []) lent ≡ wroteInto 13 links.newStoredA lent)

@@ -17,7 +17,8 @@ use Rattle.cost_writer.specs.Laws.Accepted.{passed-write}
 use Rattle.cost_writer.specs.Laws.Again.{read-again}
 use Rattle.cost_writer.specs.Laws.Fitting.{table-wide}
 use Rattle.cost_writer.specs.Writing.{writeChecks, writeOutcome}
-use Rattle.stored_costs.specs.Form.{costBytes, costForm, costFormAt, costUsed, storedTable}
+use Rattle.stored_costs.specs.Form.{costBytes, costForm, costFormAt, costUsed}
+use Rattle.stored_costs.specs.Said.{storedTable}
 use Rattle.stored_costs.specs.Laws.Form.{length-costs}
 use Rattle.stored_costs.specs.Laws.Passed.{table-at}
 use Rattle.stored_costs.specs.Laws.Positions.{same-bytes}

@@ -233,8 +233,8 @@ pub extern "C" fn kemotuiki_write_batch(
     costs: &[u32],
     out: &mut [u8],
 ) -> KemotuikiBytes
-    ensures { λ r. ⌜ Left (crossed ofBatched (batchOutcome (linkForm (editionBy form)) (now (ns .entry)) (now (counts .entry)) (now (fars .entry)) (now (costs .entry))
-        (now (out .entry)))) r (now (out .exit)) ⌝ }
+    ensures { λ r. ⌜ Left (crossed ofBatched (batchOutcome (linkForm (editionBy form)) (now (ns .entry)) (now (counts .entry)) (now (fars .entry))
+        (now (costs .entry)) (now (out .entry)))) r (now (out .exit)) ⌝ }
 {
     numbers::of_batched(batch::write_batch(bits::edition_by(form), ns, counts, fars, costs, out))
 }

@@ -10,7 +10,8 @@ use Rattle.bits.specs.Editions.{editionOf}
 use Rattle.bits.specs.Forms.{bytesOf, fieldValue, filled, fieldBits, fieldBytes, packed}
 use Rattle.bits.specs.Listed.{listed}
 use Rattle.stored_costs.specs.Entries.{entryCost, entriesTo, rowEntries, rowStart, tableOf}
-use Rattle.stored_costs.specs.Form.{costBytes, costFields, storedTable, entryOf, fillOf, imagesOf, newCosts, oldCosts}
+use Rattle.stored_costs.specs.Form.{costBytes, costFields, newCosts, oldCosts}
+use Rattle.stored_costs.specs.Said.{storedTable, entryOf, fillOf, imagesOf}
 use Rattle.stored_costs.specs.Outcomes.{judged, judgedEither}
 use Rattle.stored_costs.specs.declared.StoredCosts.the-variants.{Table}
 use Rattle.stored_costs.specs.declared.StoredCosts.the-variants as stored
@@ -46,7 +47,8 @@ unfoldable pub newStoredA : List ℕ
 newStoredA = 0xFE ∷ 0x0C ∷ 0x00 ∷ 0x00 ∷ 0x08 ∷ 0x00 ∷ 0x00 ∷ 0x10 ∷ 0x00 ∷ 0x00 ∷ 0x20 ∷ []
 
 -- example A with the mark in front and 23 bits for an entry, told by its first seven bits
-pub new-example-A : (costBytes newCosts 3 (cost tableA 3) ≡ newStoredA) × (judgedEither newStoredA 0 9 ≡ Table 3 11) × (storedTable newCosts 3 newStoredA ≡ tableA)
+pub new-example-A : (costBytes newCosts 3 (cost tableA 3) ≡ newStoredA) × (judgedEither newStoredA 0 9 ≡ Table 3 11)
+    × (storedTable newCosts 3 newStoredA ≡ tableA)
 unfolding tableA newStoredA costBytes costFields fieldBytes fieldBits packed filled bytesOf bits bitsOf valueOf part fieldValue listed entriesTo
     rowEntries rowStart entryCost tableOf imagesOf entryOf fillOf checkAll editionOf
 new-example-A = (refl, refl, refl)

@@ -1,13 +1,12 @@
--- The stored cost table: the form's mark in front, n in 7 bits, each entry in as many bits as the form says, and bits 0 to a whole byte; and
--- what bytes say when they are read so. Assumes nothing.
+-- The stored cost table: the form's mark in front, n in 7 bits, each entry in as many bits as the form says, and bits 0 to a whole byte.
+-- Assumes nothing.
 use mathlib.Core.List.{List, _∷_}
 use Prim.Native.Nat.{ℕ, _*_, _+_, _/_}
 use lib.ListN.{drop}
 use Rattle.theory.specs.Tables.{limit, oldLimit}
-use Rattle.bits.specs.Bits.{bits, part, valueOf}
 use Rattle.bits.specs.Editions.{editionOf, newForm, oldForm}
-use Rattle.bits.specs.Forms.{Field, bytesFor, field, fieldValue, fieldsOf, fillWidth, fieldBytes}
-use Rattle.stored_costs.specs.Entries.{entries, rowStart, tableOf}
+use Rattle.bits.specs.Forms.{Field, bytesFor, field, fieldsOf, fieldBytes}
+use Rattle.stored_costs.specs.Entries.{entries, rowStart}
 use Rattle.bits.specs.declared.Edition.{Edition}
 use Rattle.bits.specs.declared.Edition.the-variants.{New, Old}
 use Rattle.bits.specs.declared.Form.{Form}
@@ -47,21 +46,3 @@ costEnd form n = rowAt form n n
 -- the bytes used
 abbrev pub costUsed : Form → ℕ → ℕ
 costUsed form n = bytesFor (costEnd form n)
-
--- ## What the bytes s say
-
--- n
-unfoldable pub imagesOf : Form → List ℕ → ℕ
-imagesOf form s = valueOf (part (bits s) (form .head) 7)
-
--- entry k, in the stored order
-unfoldable pub entryOf : Form → List ℕ → ℕ → ℕ
-entryOf form s k = fieldValue (bits s) (form .head + 7) (form .width) k
-
--- the value of the fill bits
-unfoldable pub fillOf : Form → ℕ → List ℕ → ℕ
-fillOf form n s = valueOf (part (bits s) (costEnd form n) (fillWidth (costEnd form n)))
-
--- the table
-abbrev pub storedTable : Form → ℕ → List ℕ → List ℕ
-storedTable form n s = tableOf (entryOf form s) n

@@ -1,6 +1,7 @@
 -- What is stored of a cost table, and what the reader answers.
 pub mod Entries
 pub mod Form
+pub mod Said
 pub mod Reading
 pub mod Outcomes
 pub mod Stored

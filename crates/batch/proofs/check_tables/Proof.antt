@@ -104,16 +104,17 @@ loop-again c =
     let l = t .before .loop in
     let N = k .before .number-at2 .result in
     let p = passed (c .before) in
+    let form = linkForm (a .edition) in
     let z = next-length _ _ _ _ _ _ p in (
       search needs,
       omega (arith, z .0, length-drop (l .rows) (a .fars .now), l .inv .1),
       omega (arith, z .1, length-drop (l .rows) (a .costs .now), l .inv .2),
       omega (arith, c .links-used .ensures, p .fits, l .inv .3),
       l .inv .4
-          ∙ answer-goes (linkForm (a .edition)) (a .ns .now) (a .counts .now) (a .fars .now) (a .costs .now) (a .room) (l .used) (l .rows) (l .i) _ _ (begun t .pre)
+          ∙ answer-goes form (a .ns .now) (a .counts .now) (a .fars .now) (a .costs .now) (a .room) (l .used) (l .rows) (l .i) _ _ (begun t .pre)
           (t .loop-test .taken) (sym (k .before .before .number-at .ensures)) (sym (k .before .number-at2 .ensures)) (c .before .enum-told .given .1)
           (k .check-from .ensures)
-          ∙ ap (λ (x : ℕ). answerAt (linkForm (a .edition)) (a .ns .now) (a .counts .now) (a .fars .now) (a .costs .now) (a .room) (l .used + x) (l .rows + N) (l .i + 1))
+          ∙ ap (λ (x : ℕ). answerAt form (a .ns .now) (a .counts .now) (a .fars .now) (a .costs .now) (a .room) (l .used + x) (l .rows + N) (l .i + 1))
           (sym (c .links-used .ensures)),
     )
 
@@ -128,7 +129,8 @@ returns-2 c =
     let a = s .args in
     c .check-end .ensures
     ∙ sym (l .inv .4
-    ∙ answer-end (linkForm (a .edition)) (a .ns .now) (a .counts .now) (a .fars .now) (a .costs .now) (a .room) (l .used) (l .rows) (l .i) (s .pre) (d .loop-test .left))
+    ∙ answer-end (linkForm (a .edition)) (a .ns .now) (a .counts .now) (a .fars .now) (a .costs .now) (a .room) (l .used) (l .rows) (l .i) (s .pre)
+    (d .loop-test .left))
 
 pub check-tables-spec : {M : Type 1} → statement M
 check-tables-spec =

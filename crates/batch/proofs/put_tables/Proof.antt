@@ -51,7 +51,7 @@ next : (c : tie.After-number-at2 Inv-loop μ-loop)
 next c =
     let a = begun c .args in
     let l = turn c .before .loop in
-    fits-step (linkForm (a .edition)) (a .ns .now) (a .counts .now) (a .fars .now) (a .costs .now) (length (a .out .now)) (l .used) (l .rows) (l .table) (images c)
+    fits-step (form c) (a .ns .now) (a .counts .now) (a .fars .now) (a .costs .now) (length (a .out .now)) (l .used) (l .rows) (l .table) (images c)
     (count c) (begun c .pre .0) (turn c .loop-test .taken) (sym (c .before .number-at .ensures)) (sym (c .number-at2 .ensures)) (l .inv .4)
 
 rows-there : (c : tie.After-number-at2 Inv-loop μ-loop) → turn c .before .loop .rows + count c ≤ length (begun c .args .fars .now)
@@ -122,7 +122,7 @@ loop-again c =
       omega (arith, w .0, within t),
       rows-there t,
       rw (w .0) (next t .1),
-      joined-more (linkForm (a .edition)) (a .ns .now) (a .counts .now) (a .fars .now) (a .costs .now) (length (a .out .now)) (l .used) (l .rows) (l .table) (images t)
+      joined-more (form t) (a .ns .now) (a .counts .now) (a .fars .now) (a .costs .now) (length (a .out .now)) (l .used) (l .rows) (l .table) (images t)
           (count t) (begun t .pre .0) (turn t .loop-test .taken) (sym (t .before .number-at .ensures)) (sym (t .number-at2 .ensures)) (next t .0) _
           (l .out) _ _ (omega (arith, l .inv .1, l .inv .2)) (w .0) (w .1) (l .inv .5),
     )

@@ -22,8 +22,8 @@ put-tables-requires c κs =
     let u = c .before .before in
     let k = u .before .before in
     let a = k .before .before .before .before .before .before .args in
-    let q = batch-accepted (linkForm (a .edition)) (a .ns .now) (a .counts .now) (a .fars .now) (a .costs .now) (form-limit (a .edition)) (length (a .out .now)) _ .0
-    (sym (k .check-batch .ensures) ∙ u .used .given .1) in
+    let q = batch-accepted (linkForm (a .edition)) (a .ns .now) (a .counts .now) (a .fars .now) (a .costs .now) (form-limit (a .edition))
+    (length (a .out .now)) _ .0 (sym (k .check-batch .ensures) ∙ u .used .given .1) in
     (q .0, q .1)
 
 returns : tie.Need-returns

@@ -58,6 +58,7 @@ module _ (form : Edition → Form) (apart : ToldApart form) where
   told-form New n s rest h q =
       let m = bitsOf 7 newMark in
       let front : part (bits s) 0 7 ≡ m =
-      ap (λ (l : List ℕ). part l 0 7) (q ∙ ap₂ (λ (k x : ℕ). (bitsOf k x ++ bitsOf 7 n) ++ rest) (apart .marked .0) (apart .marked .1) ∙ append-assoc m (bitsOf 7 n) rest)
+      ap (λ (l : List ℕ). part l 0 7)
+      (q ∙ ap₂ (λ (k x : ℕ). (bitsOf k x ++ bitsOf 7 n) ++ rest) (apart .marked .0) (apart .marked .1) ∙ append-assoc m (bitsOf 7 n) rest)
       ∙ part-cut [] m (bitsOf 7 n ++ rest) 0 7 refl (length-bitsOf 7 newMark) in
       edition-new s (ap valueOf front ∙ value-bits 7 newMark (omega arith))

@@ -11,7 +11,8 @@ use Rattle.bits.specs.Listed.{listed}
 use Rattle.packer.specs.Gathering.{Put}
 use Rattle.packer.specs.Laws.Putting.{room-then}
 use Rattle.stored_costs.specs.Entries.{entryCount}
-use Rattle.stored_costs.specs.Form.{costEnd, entryOf}
+use Rattle.stored_costs.specs.Form.{costEnd}
+use Rattle.stored_costs.specs.Said.{entryOf}
 use Rattle.stored_costs.specs.Laws.Sizes.{count-le, end-le}
 use Rattle.stored_costs.specs.Sizes.{lastEntryEnd}
 use Rattle.cost_writer.specs.Laws.Putting.{length-listed-bits, row-put-more, row-put-none}

@@ -6,7 +6,7 @@ use Rattle.theory.specs.Tables.{cost}
 use Rattle.packer.specs.Gathering.{Room}
 use Rattle.packer.specs.Laws.Putting.{room-begun, room-then}
 use Rattle.stored_costs.specs.Entries.{entryCount}
-use Rattle.stored_costs.specs.Form.{entryOf, storedTable}
+use Rattle.stored_costs.specs.Said.{entryOf, storedTable}
 use Rattle.stored_costs.specs.Laws.Tables.{table-entries}
 use Rattle.cost_writer.specs.Laws.Putting.{form-put, length-listed-bits}
 use borrow.Author.Needs.{needs}

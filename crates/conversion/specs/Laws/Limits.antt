@@ -20,7 +20,7 @@ use Rattle.bits.specs.Forms.{bytesFor}
 use Rattle.bits.specs.Kinds.{endCheck}
 use Rattle.bits.specs.declared.Form.{Form}
 use Rattle.stored_costs.specs.Entries.{entryCost, tableOf}
-use Rattle.stored_costs.specs.Form.{entryOf, fillOf, imagesOf, storedTable}
+use Rattle.stored_costs.specs.Said.{entryOf, fillOf, imagesOf, storedTable}
 use Rattle.stored_costs.specs.Laws.Enough.{readable-table, table-readable}
 use Rattle.stored_costs.specs.Laws.Tables.{table-cost, table-formed}
 use Rattle.stored_costs.specs.Reading.{bodyChecks, storedCheck, tableChecks}
@@ -47,7 +47,8 @@ renumbered-all f g i (suc m) h =
 -- 17 is what 4 would be under the limit L
 fit-renumbered : (L : ℕ) (f : ℕ → ℕ) (n : ℕ) → fitCheck L (cost (tableOf f n) n) n ≡ renumbered (storedCheck L (entryCost f n) n)
 fit-renumbered L f n =
-    renumbered-all (λ i. checkAll (entryCheck L (entryCost f n) i) (i + 1) (n - (i + 1))) (λ i. checkAll (largeCheck L (cost (tableOf f n) n) i) (i + 1) (n - (i + 1)))
+    renumbered-all (λ i. checkAll (entryCheck L (entryCost f n) i) (i + 1) (n - (i + 1)))
+    (λ i. checkAll (largeCheck L (cost (tableOf f n) n) i) (i + 1) (n - (i + 1)))
     0 n (λ i l u. renumbered-all (entryCheck L (entryCost f n) i) (largeCheck L (cost (tableOf f n) n) i) (i + 1) (n - (i + 1))
     (λ j m v. rw (table-cost f n i j (omega arith) (omega arith)) (one i j (ltb L (entryCost f n i j)))))
   where

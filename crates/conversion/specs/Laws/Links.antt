@@ -30,7 +30,8 @@ use Rattle.conversion.specs.Links.{Begins, CostsFit, costsSaid, countSai
 -- what s begins with is a link table
 pub begins-table : (s : List ℕ) → Begins s → Links limit (imagesSaid s) (countSaid s) (farsSaid s) (costsSaid s)
 begins-table s b =
-    links-wide (linkFormAt s 0 .limit) (imagesSaid s) (countSaid s) (farsSaid s) (costsSaid s) limit (form-limit (editionOf s)) (links-said (linkFormAt s 0) s b)
+    links-wide (linkFormAt s 0 .limit) (imagesSaid s) (countSaid s) (farsSaid s) (costsSaid s) limit (form-limit (editionOf s))
+    (links-said (linkFormAt s 0) s b)
 
 -- a conversion to the form e that was accepted with u bytes
 pub record Converted (e : Edition) (s out : List ℕ) (u : ℕ) (out′ : List ℕ) : Type 0 where

@@ -9,7 +9,7 @@ use Rattle.bits.specs.Bits.{AllBytes}
 use Rattle.bits.specs.Editions.{Marked}
 use Rattle.cost_writer.specs.Laws.Accepted.{passed-write}
 use Rattle.cost_writer.specs.Writing.{writeOutcome}
-use Rattle.stored_costs.specs.Form.{storedTable}
+use Rattle.stored_costs.specs.Said.{storedTable}
 use Rattle.stored_costs.specs.Laws.Passed.{table-at}
 use Rattle.stored_costs.specs.Laws.Positions.{used-bytes}
 use Rattle.stored_costs.specs.Laws.WriteBack.{read-table}
@@ -19,7 +19,8 @@ use Rattle.bits.specs.declared.Form.{Form}
 
 module _ (form : Form) where
   -- writing what was read gives the same used bytes
-  pub read-again : form .limit ≤ limit → (bytes : List ℕ) (position room n used : ℕ) (out : List ℕ) → AllBytes bytes → judged form bytes position room ≡ Table n used
+  pub read-again : form .limit ≤ limit → (bytes : List ℕ) (position room n used : ℕ) (out : List ℕ) → AllBytes bytes
+      → judged form bytes position room ≡ Table n used
       → Marked form (drop (position / 8) bytes) → used ≤ length out
       → writeOutcome form n (storedTable form n (drop (position / 8) bytes)) out
       ≡ wroteInto used (take used (drop (position / 8) bytes)) out

@@ -15,7 +15,8 @@ first-large-requires c κs = search needs
 add-refuse-if : tie.Need-add-refuse-if
 add-refuse-if c =
     let s = c .before .before .before in
-    omega (arith, c .first-large .ensures, s .pre .0 .rows, s .pre .2, first-le (large (s .args .form .limit) (s .args .costs .now)) (length (s .args .costs .now)))
+    let v = s .args .costs .now in
+    omega (arith, c .first-large .ensures, s .pre .0 .rows, s .pre .2, first-le (large (s .args .form .limit) v) (length v))
 
 refuse-if-requires : tie.Need-refuse-if-requires
 refuse-if-requires c κs = search needs

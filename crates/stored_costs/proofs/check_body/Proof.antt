@@ -6,7 +6,7 @@ use lib.Dec.{ltb}
 use lib.ListN.{length}
 use borrow.Author.Tests.{ltb-false}
 use Rattle.ground.specs.Laws.Refusals.{refuseIf-passed, then-goes, then-stops}
-use Rattle.stored_costs.specs.Form.{fillOf}
+use Rattle.stored_costs.specs.Said.{fillOf}
 use Rattle.stored_costs.specs.Laws.Sizes.{end-le}
 use borrow.Author.Needs.{needs}
 use Rattle.stored_costs.proofs.check_body.Statement.{statement}

@@ -5,7 +5,7 @@ use Rattle.ground.specs.Lowest.{checkAll}
 use Rattle.ground.specs.Laws.Lowest.{all-begins, all-ends, all-goes, all-stops}
 use Rattle.tables.specs.Checks.{entryCheck}
 use Rattle.stored_costs.specs.Entries.{entryCost}
-use Rattle.stored_costs.specs.Form.{entryOf}
+use Rattle.stored_costs.specs.Said.{entryOf}
 use Rattle.stored_costs.specs.Reading.{storedCheck}
 use borrow.Author.Needs.{needs}
 use Rattle.stored_costs.proofs.check_entries.Statement.{statement}

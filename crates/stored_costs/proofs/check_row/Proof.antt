@@ -9,7 +9,8 @@ use Rattle.bits.specs.Bits.{bits, part, valueOf}
 use Rattle.bits.specs.Forms.{fieldValue}
 use Rattle.bits.specs.Laws.OneWidth.{field-end, times-more}
 use Rattle.stored_costs.specs.Entries.{entryCost, entryCount, entryNumber}
-use Rattle.stored_costs.specs.Form.{costEnd, entryOf}
+use Rattle.stored_costs.specs.Form.{costEnd}
+use Rattle.stored_costs.specs.Said.{entryOf}
 use Rattle.stored_costs.specs.Laws.Entries.{number-lt}
 use Rattle.stored_costs.specs.Laws.Sizes.{end-le}
 use Rattle.stored_costs.specs.Laws.Tables.{cost-of-up}

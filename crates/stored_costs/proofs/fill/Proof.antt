@@ -5,7 +5,7 @@ use native.Mathlib.Omega.{arith}
 use lib.ListN.{length}
 use Rattle.ground.specs.Buffers.{front}
 use Rattle.bits.specs.Listed.{listed}
-use Rattle.stored_costs.specs.Form.{entryOf}
+use Rattle.stored_costs.specs.Said.{entryOf}
 use Rattle.stored_costs.specs.Laws.Filling.{placeCost, rows-above, rows-end, rows-more, rows-none}
 use borrow.Author.Needs.{needs}
 use Rattle.stored_costs.proofs.fill.Statement.{statement}

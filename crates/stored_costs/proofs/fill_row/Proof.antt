@@ -5,7 +5,7 @@ use native.Mathlib.Omega.{arith}
 use lib.ListN.{length, length-set}
 use Rattle.bits.specs.Bits.{bits}
 use Rattle.bits.specs.Forms.{fieldValue}
-use Rattle.stored_costs.specs.Form.{entryOf}
+use Rattle.stored_costs.specs.Said.{entryOf}
 use Rattle.stored_costs.specs.Laws.Filling.{row-field, row-filled, row-inside}
 use Rattle.stored_costs.specs.Laws.Sizes.{row-span, square-le}
 use borrow.Author.Needs.{needs}

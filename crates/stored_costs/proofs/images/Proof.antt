@@ -1,5 +1,5 @@
 -- `stored_costs::images` meets its contract: one field of 7 bits. Assumes nothing.
-use Rattle.stored_costs.specs.Form.{imagesOf}
+use Rattle.stored_costs.specs.Said.{imagesOf}
 use borrow.Author.Needs.{needs}
 use Rattle.stored_costs.proofs.images.Statement.{statement}
 use Rattle.stored_costs.proofs.images.Tie as tie

@@ -20,7 +20,8 @@ use Rattle.bits.specs.Kinds.{endCheck}
 use Rattle.bits.specs.declared.Edition.{Edition}
 use Rattle.bits.specs.declared.Form.{Form}
 use Rattle.stored_costs.specs.Entries.{entryCost}
-use Rattle.stored_costs.specs.Form.{costBytes, costForm, costFormAt, entryOf, imagesOf, storedTable}
+use Rattle.stored_costs.specs.Form.{costBytes, costForm, costFormAt}
+use Rattle.stored_costs.specs.Said.{entryOf, imagesOf, storedTable}
 use Rattle.stored_costs.specs.Laws.Passed.{judged-refused, passed-read, read-passed, table-at}
 use Rattle.stored_costs.specs.Laws.ReadBack.{written-costs-of, written-images, written-readable}
 use Rattle.stored_costs.specs.Laws.Sizes.{square-le}

@@ -15,7 +15,8 @@ use Rattle.bits.specs.Laws.Places.{listed-front-add, listed-front-at, listed-ov
 use Rattle.bits.specs.Listed.{listed}
 use Rattle.bits.specs.Laws.Listed.{listed-front-none, listed-same}
 use Rattle.stored_costs.specs.Entries.{Above, entryCost, rowStart, tableOf}
-use Rattle.stored_costs.specs.Form.{entryOf, rowAt}
+use Rattle.stored_costs.specs.Form.{rowAt}
+use Rattle.stored_costs.specs.Said.{entryOf}
 use Rattle.stored_costs.specs.Laws.Tables.{cost-of-same, cost-of-self, cost-of-up}
 use Rattle.bits.specs.declared.Form.{Form}
 

@@ -20,7 +20,8 @@ use Rattle.theory.specs.Laws.Checks.{images-passed}
 use Rattle.tables.specs.Checks.{entryCheck}
 use Rattle.bits.specs.Forms.{bytesFor}
 use Rattle.stored_costs.specs.Entries.{entryCost, entryNumber}
-use Rattle.stored_costs.specs.Form.{costUsed, entryOf, fillOf, imagesOf}
+use Rattle.stored_costs.specs.Form.{costUsed}
+use Rattle.stored_costs.specs.Said.{entryOf, fillOf, imagesOf}
 use Rattle.stored_costs.specs.Laws.Tables.{cost-of-up}
 use Rattle.stored_costs.specs.Outcomes.{judged, tableIf}
 use Rattle.stored_costs.specs.Reading.{bodyChecks, readAtChecks, readChecks, startChecks, storedCheck}

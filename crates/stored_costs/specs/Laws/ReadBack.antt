@@ -18,7 +18,8 @@ use Rattle.bits.specs.Laws.OneWidth.{field-value}
 use Rattle.bits.specs.Laws.Parts.{part-cut}
 use Rattle.bits.specs.Laws.Listed.{listed-at}
 use Rattle.stored_costs.specs.Entries.{entries, entriesTo, entryCount, entryNumber, rowEntries}
-use Rattle.stored_costs.specs.Form.{costBytes, costEnd, storedTable, entryOf, fillOf, imagesOf}
+use Rattle.stored_costs.specs.Form.{costBytes, costEnd}
+use Rattle.stored_costs.specs.Said.{storedTable, entryOf, fillOf, imagesOf}
 use Rattle.stored_costs.specs.Laws.Entries.{entry-is, length-entries, length-row, number-lt}
 use Rattle.stored_costs.specs.Laws.Form.{bits-costs-then, entryBits, length-costs, length-entry-bits, length-front}
 use Rattle.stored_costs.specs.Laws.Tables.{table-is}

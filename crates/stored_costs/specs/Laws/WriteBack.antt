@@ -16,7 +16,8 @@ use Rattle.bits.specs.Laws.Packed.{packed-only}
 use Rattle.bits.specs.Laws.Parts.{part-more}
 use Rattle.bits.specs.Laws.Written.{all-bytes-take, bits-take}
 use Rattle.stored_costs.specs.Entries.{entryCount}
-use Rattle.stored_costs.specs.Form.{costBytes, costEnd, costUsed, storedTable, entryOf, fillOf, imagesOf}
+use Rattle.stored_costs.specs.Form.{costBytes, costEnd, costUsed}
+use Rattle.stored_costs.specs.Said.{storedTable, entryOf, fillOf, imagesOf}
 use Rattle.stored_costs.specs.Laws.Form.{all-bits-costs, cost-parts, costBits, entryBits, length-cost-bits}
 use Rattle.stored_costs.specs.Laws.Tables.{table-entries, table-formed}
 use Rattle.bits.specs.declared.Form.{Form}
