@@ -24,18 +24,17 @@ fitCheck L d n = checkAll (λ i. checkAll (largeCheck L d i) (i + 1) (n - (i + 1
 abbrev pub storeChecks : Form → ℕ → (ℕ → ℕ → ℕ) → ℕ → Check
 storeChecks form n d room = fitCheck (form .limit) d n then roomCheck (costUsed form n) room
 
+-- 1, 2, 4, 5, 6 under the limit L
+abbrev pub tableChecks : ℕ → ℕ → List ℕ → Check
+tableChecks L n t = sizeCheck n t then costsCheck L (cost t n) n
+
 -- 1, 2, 4, 5, 6, 17, 3
 abbrev pub writeChecks : Form → ℕ → List ℕ → ℕ → Check
-writeChecks form n t room = (sizeCheck n t then costsCheck limit (cost t n) n) then storeChecks form n (cost t n) room
+writeChecks form n t room = tableChecks limit n t then storeChecks form n (cost t n) room
 
 -- by the check: the bytes used, and the form's bytes at the front of the lent ones
 abbrev pub storedIf : Check → Form → ℕ → List ℕ → List ℕ → Outcome Written
 storedIf c form n t out = record { answer = placesIf c (costUsed form n); places = frontIf c (costBytes form n (cost t n)) out }
 
--- of a cost table
-abbrev pub storeOutcome : Form → ℕ → List ℕ → List ℕ → Outcome Written
-storeOutcome form n t out = storedIf (storeChecks form n (cost t n) (length out)) form n t out
-
--- of any table
 abbrev pub writeOutcome : Form → ℕ → List ℕ → List ℕ → Outcome Written
 writeOutcome form n t out = storedIf (writeChecks form n t (length out)) form n t out

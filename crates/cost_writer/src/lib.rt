@@ -10,15 +10,14 @@ ghost use lib.ListN.{length};
 ghost use Rattle.ground.specs.Buffers.{front};
 ghost use Rattle.ground.specs.Lowest.{checkAll};
 ghost use Rattle.ground.specs.Outcomes.{Left};
-ghost use Rattle.ground.specs.Refusals.{_then_};
+ghost use Rattle.ground.specs.Refusals.{roomCheck, _then_};
 ghost use Rattle.theory.specs.Tables.{cost, CostTable, limit};
-ghost use Rattle.tables.specs.Checks.{costsCheck, sizeCheck};
 ghost use Rattle.bits.specs.Forms.{fieldsOf, fieldBits};
 ghost use Rattle.packer.specs.Gathering.{Put, Room};
 ghost use Rattle.stored_costs.specs.Entries.{entries, entryCount, rowEntries};
 ghost use Rattle.stored_costs.specs.Form.{costBytes, costForm, costUsed};
 ghost use Rattle.stored_costs.specs.Sizes.{Small};
-ghost use Rattle.cost_writer.specs.Writing.{fitCheck, largeCheck, storeChecks, storeOutcome, writeOutcome};
+ghost use Rattle.cost_writer.specs.Writing.{fitCheck, largeCheck, storedIf, tableChecks, writeOutcome};
 
 // The entries of row i right of the diagonal, behind what was put.
 fn put_row(g: Gathered, w: usize, n: usize, t: &[u32], i: usize, out: &mut [u8]) -> Gathered
@@ -83,14 +82,11 @@ fn check_fit_row(most: u32, n: usize, t: &[u32], i: usize) -> Check
     Check::Passed
 }
 
-// Refusal 17. No entry is looked at where the limit is that of cost tables, as in the new form.
+// Refusal 17.
 fn check_fit(most: u32, n: usize, t: &[u32]) -> Check
     requires { ⌜ CostTable limit n (now t) ⌝ }
     ensures { λ r. ⌜ r ≡ fitCheck most (cost (now (t .entry)) n) n ⌝ }
 {
-    if theory::LIMIT <= most {
-        return Check::Passed;
-    }
     let mut i = 0;
     while i < n {
         let c = check_fit_row(most, n, t, i);
@@ -102,47 +98,59 @@ fn check_fit(most: u32, n: usize, t: &[u32]) -> Check
     Check::Passed
 }
 
-// Refusals 17 and 3.
-fn check_store(form: Form, n: usize, t: &[u32], room: usize) -> Check
-    requires { ⌜ CostTable limit n (now t) × Small form n ⌝ }
-    ensures { λ r. ⌜ r ≡ storeChecks form n (cost (now (t .entry)) n) room ⌝ }
-{
-    let fit = check_fit(form.limit, n, t);
-    let Check::Passed = fit else {
-        return fit;
-    };
-    ground::refuse_if(room < (stored_costs::row_at(form, n, n) + 7) / 8, 3, 0, 0)
-}
-
-// The stored form of a table that is known to be a cost table.
-fn store_costs(edition: Edition, n: usize, t: &[u32], out: &mut [u8]) -> Written
-    requires { ⌜ CostTable limit n (now t) ⌝ }
-    ensures { λ r. ⌜ Left (storeOutcome (costForm edition) n (now (t .entry)) (now (out .entry))) r (now (out .exit)) ⌝ }
-{
-    let form = stored_costs::form_of(edition);
-    match check_store(form, n, t, out.len()) {
-        Check::Refused(r) => Written::Refused(r),
-        Check::Passed => Written::Places(put_form(form, n, t, out)),
-    }
-}
-
-// Refusals 1, 2, 4, 5 and 6.
-fn check_table(n: usize, t: &[u32]) -> Check
-    ensures { λ r. ⌜ r ≡ (sizeCheck n (now (t .entry)) then costsCheck limit (cost (now (t .entry)) n) n) ⌝ }
+// Refusals 1, 2, 4, 5 and 6 under a limit.
+fn check_table(most: u32, n: usize, t: &[u32]) -> Check
+    ensures { λ r. ⌜ r ≡ tableChecks most n (now (t .entry)) ⌝ }
 {
     let size = tables::check_size(n, t);
     let Check::Passed = size else {
         return size;
     };
-    tables::check_costs(theory::LIMIT, n, t)
+    tables::check_costs(most, n, t)
+}
+
+// Refusals 1, 2, 4, 5, 6 and 17, one after the other.
+fn check_again(most: u32, n: usize, t: &[u32]) -> Check
+    ensures { λ r. ⌜ r ≡ (tableChecks limit n (now (t .entry)) then fitCheck most (cost (now (t .entry)) n) n) ⌝ }
+{
+    let table = check_table(theory::LIMIT, n, t);
+    let Check::Passed = table else {
+        return table;
+    };
+    check_fit(most, n, t)
+}
+
+// The same, the form's own limit first: a table that passes under it passes under that of cost tables, so that no entry is looked at again.
+fn check_costs(most: u32, n: usize, t: &[u32]) -> Check
+    requires { ⌜ most ≤ limit ⌝ }
+    ensures { λ r. ⌜ r ≡ (tableChecks limit n (now (t .entry)) then fitCheck most (cost (now (t .entry)) n) n) ⌝ }
+{
+    match check_table(most, n, t) {
+        Check::Passed => Check::Passed,
+        Check::Refused(_) => check_again(most, n, t),
+    }
+}
+
+// The table in the form, or refusal 3.
+fn store_costs(form: Form, n: usize, t: &[u32], out: &mut [u8]) -> Written
+    requires { ⌜ CostTable limit n (now t) × Small form n ⌝ }
+    ensures { λ r. ⌜ Left (storedIf (roomCheck (costUsed form n) (length (now (out .entry)))) form n (now (t .entry)) (now (out .entry))) r
+        (now (out .exit)) ⌝ }
+{
+    let end = stored_costs::row_at(form, n, n);
+    match ground::refuse_if(out.len() < (end + 7) / 8, 3, 0, 0) {
+        Check::Refused(r) => Written::Refused(r),
+        Check::Passed => Written::Places(put_form(form, n, t, out)),
+    }
 }
 
 // The cost table t at the front of the lent bytes, in the form that is asked for; the answer is the bytes used. No other byte is written.
 pub fn write_costs(edition: Edition, n: usize, t: &[u32], out: &mut [u8]) -> Written
     ensures { λ r. ⌜ Left (writeOutcome (costForm edition) n (now (t .entry)) (now (out .entry))) r (now (out .exit)) ⌝ }
 {
-    match check_table(n, t) {
+    let form = stored_costs::form_of(edition);
+    match check_costs(form.limit, n, t) {
         Check::Refused(r) => Written::Refused(r),
-        Check::Passed => store_costs(edition, n, t, out),
+        Check::Passed => store_costs(form, n, t, out),
     }
 }

@@ -1,6 +1,7 @@
 -- `conversion::convert_costs` meets its contract: what passed both limits is stored where there is room. Assumes nothing.
 use mathlib.Core.Path.{sym, _∙_, _≡_}
 use Rattle.ground.specs.Laws.Refusals.{then-passed}
+use Rattle.ground.specs.declared.Check.{Check}
 use Rattle.theory.specs.Tables.{cost}
 use Rattle.bits.specs.declared.Form.{Form}
 use Rattle.stored_costs.specs.Form.{costForm, costFormAt}
@@ -9,9 +10,9 @@ use Rattle.stored_costs.specs.Laws.Passed.{readable-held}
 use Rattle.stored_costs.specs.Laws.Told.{form-small, told-small}
 use Rattle.stored_costs.specs.Reading.{tableChecks}
 use Rattle.stored_costs.specs.Stored.{Readable}
+use Rattle.cost_writer.specs.Laws.Accepted.{together-passed, together-refused}
 use Rattle.cost_writer.specs.Writing.{fitCheck}
 use Rattle.conversion.specs.Costs.{entryChecks, imagesSaid, tableSaid}
-use Rattle.conversion.specs.Laws.Costs.{converted-refused, converted-stored}
 use borrow.Author.Needs.{needs}
 use Rattle.conversion.proofs.convert_costs.Statement.{statement}
 use Rattle.conversion.proofs.convert_costs.Tie as tie
@@ -28,14 +29,20 @@ checked : (k : tie.After-check-costs)
     → k .check-costs .result ≡ entryChecks (from k) (costForm (begun k .args .edition) .limit) (begun k .args .bytes .now)
 checked k = rw (k .before .before .form-at .ensures, k .before .form-of .ensures) at (k .check-costs .ensures)
 
+-- those of the table, and 17
+abbrev tabled : tie.After-check-costs → Check
+tabled k = tableChecks (from k) (begun k .args .bytes .now)
+
+abbrev fitted : tie.After-check-costs → Check
+fitted k =
+    let s = begun k .args .bytes .now in
+    fitCheck (costForm (begun k .args .edition) .limit) (cost (tableSaid s) (imagesSaid s)) (imagesSaid s)
+
 -- where they passed, the bytes begin with a table
 readable : (d : tie.After-enum-told) → Readable (from (d .before .before)) (begun (d .before .before) .args .bytes .now) 4096
 readable d =
     let k = d .before .before in
-    let s = begun k .args .bytes .now in
-    table-readable (from k) s
-    (then-passed (tableChecks (from k) s) (fitCheck (costForm (begun k .args .edition) .limit) (cost (tableSaid s) (imagesSaid s)) (imagesSaid s))
-    (sym (checked k) ∙ d .enum-told .given .1) .0)
+    table-readable (from k) (begun k .args .bytes .now) (then-passed (tabled k) (fitted k) (sym (checked k) ∙ d .enum-told .given .1) .0)
 
 -- n, of that form
 images-said : (c : tie.After-images) → let k = c .before .before .before in c .images .result ≡ imagesSaid (begun k .args .bytes .now)
@@ -75,7 +82,8 @@ returns : tie.Need-returns
 returns c =
     let k = c .before .before .before in
     let a = begun k .args in
-    converted-refused (a .edition) (a .bytes .now) (a .out .now) (sym (checked k) ∙ c .before .r .given .1)
+    together-refused (tabled k) (fitted k) (costForm (a .edition)) (imagesSaid (a .bytes .now)) (tableSaid (a .bytes .now)) (a .out .now)
+    (sym (checked k) ∙ c .before .r .given .1)
 
 same-length : tie.Need-same-length
 same-length c = search needs
@@ -87,7 +95,8 @@ returns-2 c =
     let d = m .before in
     let k = d .before .before in
     let a = begun k .args in
-    converted-stored (a .edition) (a .bytes .now) (a .out .now) (sym (checked k) ∙ d .enum-told .given .1)
+    together-passed (tabled k) (fitted k) (costForm (a .edition)) (imagesSaid (a .bytes .now)) (tableSaid (a .bytes .now)) (a .out .now)
+    (sym (checked k) ∙ d .enum-told .given .1)
     (rw (k .before .before .form-at .ensures, k .before .form-of .ensures, images-said m) at (p .store-costs .ensures))
 
 pub convert-costs-spec : {M : Type 1} → statement M

@@ -1,17 +1,13 @@
 -- What an accepted conversion of a stored cost table says, and when one is accepted. Assumes nothing.
 use mathlib.Core.List.{List}
-use mathlib.Core.Path.{ap, refl, subst, sym, _∙_, _≡_}
+use mathlib.Core.Path.{ap, sym, _∙_, _≡_}
 use Prim.Native.Nat.{ℕ, _≤_}
 use native.Mathlib.Omega.{arith}
 use lib.ListN.{length}
 use Rattle.ground.specs.Buffers.{front}
-use Rattle.ground.specs.Outcomes.{Left, Outcome, frontIf, wroteInto}
-use Rattle.ground.specs.Laws.Refusals.{if-accepted, then-assoc, then-passed}
-use Rattle.ground.specs.Refusals.{roomCheck, _then_}
+use Rattle.ground.specs.Outcomes.{Left, frontIf, wroteInto}
+use Rattle.ground.specs.Laws.Refusals.{if-accepted, then-passed}
 use Rattle.ground.specs.declared.Check.{Check}
-use Rattle.ground.specs.declared.Check.the-variants.{Passed, Refused}
-use Rattle.ground.specs.declared.Refusal.{Refusal}
-use Rattle.ground.specs.declared.Written.{Written}
 use Rattle.ground.specs.declared.Written.the-variants.{Places}
 use Rattle.ground.specs.declared.Written.the-variants as written
 use Rattle.theory.specs.Tables.{CostTable, cost, limit}
@@ -21,8 +17,8 @@ use Rattle.stored_costs.specs.Laws.Enough.{TableStored, table-said}
 use Rattle.stored_costs.specs.Reading.{tableChecks}
 use Rattle.cost_writer.specs.Laws.Accepted.{passed-store, store-passed}
 use Rattle.cost_writer.specs.Laws.Fitting.{table-narrow}
-use Rattle.cost_writer.specs.Writing.{fitCheck, storeChecks, storedIf}
-use Rattle.conversion.specs.Costs.{Begins, EntriesFit, costChecks, costsConverted, entryChecks, imagesSaid, tableSaid, usedIn}
+use Rattle.cost_writer.specs.Writing.{storeChecks, storedIf}
+use Rattle.conversion.specs.Costs.{Begins, EntriesFit, costChecks, costsConverted, imagesSaid, tableSaid, usedIn}
 
 -- a conversion to the form e that was accepted with u bytes
 pub record Converted (e : Edition) (s out : List ℕ) (u : ℕ) (out′ : List ℕ) : Type 0 where
@@ -77,21 +73,3 @@ module _ (e : Edition) (s out : List ℕ) where
       → costsConverted e s out ≡ wroteInto (usedIn e s)
       (costBytes (costForm e) (imagesSaid s) (cost (tableSaid s) (imagesSaid s))) out
   accepted b c h = rw (b, passed-store (costForm e) (imagesSaid s) (tableSaid s) (length out) c h)
-
--- ## As the code asks: both limits, and then the room
-
-module _ (e : Edition) (s out : List ℕ) where
-  converted-by : storedIf (entryChecks (costFormAt s 0) (costForm e .limit) s then roomCheck (usedIn e s) (length out)) (costForm e) (imagesSaid s)
-      (tableSaid s) out ≡ costsConverted e s out
-  converted-by =
-      ap (λ (c : Check). storedIf c (costForm e) (imagesSaid s) (tableSaid s) out)
-      (then-assoc (tableChecks (costFormAt s 0) s) (fitCheck (costForm e .limit) (cost (tableSaid s) (imagesSaid s)) (imagesSaid s))
-      (roomCheck (usedIn e s) (length out)))
-
-  pub converted-refused : {r : Refusal} → entryChecks (costFormAt s 0) (costForm e .limit) s ≡ Refused r
-      → Left (costsConverted e s out) (written.Refused r) out
-  converted-refused {r} h = subst (λ (o : Outcome Written). Left o (written.Refused r) out) converted-by (rw h (record { answered = refl; left = refl }))
-
-  pub converted-stored : {w : Written} {d : List ℕ} → entryChecks (costFormAt s 0) (costForm e .limit) s ≡ Passed
-      → Left (storedIf (roomCheck (usedIn e s) (length out)) (costForm e) (imagesSaid s) (tableSaid s) out) w d → Left (costsConverted e s out) w d
-  converted-stored {w} {d} h p = subst (λ (o : Outcome Written). Left o w d) converted-by (rw h p)

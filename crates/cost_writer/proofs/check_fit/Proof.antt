@@ -1,12 +1,10 @@
--- `cost_writer::check_fit` meets its contract: what is left answers as the whole does; no entry is above the limit of cost tables. Assumes nothing.
-use mathlib.Core.Path.{sym, _≡_}
+-- `cost_writer::check_fit` meets its contract: what is left answers as the whole does. Assumes nothing.
+use mathlib.Core.Path.{_≡_}
 use Prim.Native.Nat.{_+_, _-_, _≤_}
-use native.Mathlib.Omega.{arith}
 use borrow.Author.Needs.{needs}
 use Rattle.ground.specs.Lowest.{checkAll}
 use Rattle.ground.specs.Laws.Lowest.{all-begins, all-ends, all-goes, all-stops}
 use Rattle.theory.specs.Tables.{cost}
-use Rattle.cost_writer.specs.Laws.Fitting.{passed-fit}
 use Rattle.cost_writer.specs.Writing.{largeCheck}
 use Rattle.cost_writer.proofs.check_fit.Statement.{statement}
 use Rattle.cost_writer.proofs.check_fit.Tie as tie
@@ -20,12 +18,6 @@ Inv-loop most n t i₀ i =
 abbrev μ-loop : tie.MeasureT-loop
 μ-loop most n t i₀ i = n - i
 
-returns : tie.Need-returns Inv-loop μ-loop
-returns c =
-    let s = c .before .before in
-    sym (passed-fit (s .args .most) (cost (s .args .t .now) (s .args .n)) (s .args .n)
-    (λ i j hi hj. omega (arith, s .pre .formed .small {i = i} {j = j} hi hj, c .if1 .taken)))
-
 loop-holds : tie.Need-loop-holds Inv-loop μ-loop
 loop-holds c = (search needs, all-begins _ _)
 
@@ -35,8 +27,8 @@ check-fit-row-requires c κs = search needs
 enum-told : tie.Need-enum-told Inv-loop μ-loop
 enum-told c = search needs
 
-returns-2 : tie.Need-returns-2 Inv-loop μ-loop
-returns-2 c =
+returns : tie.Need-returns Inv-loop μ-loop
+returns c =
     all-stops _ _ _ (search needs) (c .before .before .before .before .loop .inv .1) (c .enum-told .given .1) (c .before .before .check-fit-row .ensures)
 
 enum-told-2 : tie.Need-enum-told-2 Inv-loop μ-loop
@@ -55,8 +47,8 @@ loop-again c = (
       (c .before .before .check-fit-row .ensures),
 )
 
-returns-3 : tie.Need-returns-3 Inv-loop μ-loop
-returns-3 c = all-ends _ _ _ (search needs) (c .before .loop .inv .1)
+returns-2 : tie.Need-returns-2 Inv-loop μ-loop
+returns-2 c = all-ends _ _ _ (search needs) (c .before .loop .inv .1)
 
 pub check-fit-spec : {M : Type 1} → statement M
 check-fit-spec =
@@ -64,13 +56,12 @@ check-fit-spec =
     (tie.spec
     Inv-loop
     μ-loop
-    returns
     loop-holds
     check-fit-row-requires
     enum-told
-    returns-2
+    returns
     enum-told-2
     add-i
     loop-less
     loop-again
-    returns-3)
+    returns-2)
