@@ -42,6 +42,15 @@ pub above-old-entry : refusalText 17 0 3 12 0 0 ≡ bytesOf "number above the ol
 unfolding refusalText aboutTable saidOf sayingText sayingIn firstSayings furtherSayings laterSayings bytesOf fields field decimal digits
 above-old-entry = refl
 
+-- 18 and 22 of Newick text, each with the place of a byte
+pub outside-profile : refusalText 18 0 5 0 0 0 ≡ bytesOf "outside the Newick profile: byte 5"
+unfolding refusalText aboutTable saidOf sayingText sayingIn firstSayings furtherSayings laterSayings bytesOf fields field decimal digits
+outside-profile = refl
+
+pub out-of-order : refusalText 22 0 10 0 0 0 ≡ bytesOf "siblings out of order: byte 10"
+unfolding refusalText aboutTable saidOf sayingText sayingIn firstSayings furtherSayings laterSayings bytesOf fields field decimal digits
+out-of-order = refl
+
 pub no-such : refusalText 99 0 1 2 3 4 ≡ bytesOf "no such refusal: number 99"
 unfolding refusalText aboutTable saidOf sayingText sayingIn firstSayings furtherSayings laterSayings bytesOf fields field decimal digits
 no-such = refl

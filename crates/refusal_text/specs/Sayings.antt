@@ -39,13 +39,15 @@ aboveOld a b =
     says 17 (cond (eqb b 0) "number above the old limits: row" "number above the old limits: row and column")
     (cond (eqb b 0) (a ∷ []) (a ∷ b ∷ []))
 
--- 14 to 17
+-- 14 to 18, and 22
 unfoldable pub laterSayings : ℕ → ℕ → List Saying
 laterSayings a b =
     says 14 "neither table includes the other" []
     ∷ says 15 "stored tables of different n" []
     ∷ says 16 "no tables or more than sixteen" []
     ∷ aboveOld a b
+    ∷ says 18 "outside the Newick profile: byte" (a ∷ [])
+    ∷ says 22 "siblings out of order: byte" (a ∷ [])
     ∷ []
 
 -- all of them

@@ -88,6 +88,8 @@ fn put_later(out: &mut [u8], at: usize, number: usize, a: usize, b: usize) -> us
         15 => text::put_word(out, at, b"stored tables of different n"),
         16 => text::put_word(out, at, b"no tables or more than sixteen"),
         17 => put_above_old(out, at, a, b),
+        18 => put_one(out, at, b"outside the Newick profile: byte", a),
+        22 => put_one(out, at, b"siblings out of order: byte", a),
         _ => put_one(out, at, b"no such refusal: number", number),
     }
 }
