@@ -5,7 +5,7 @@ use Prim.Native.Nat.{ℕ}
 use native.Mathlib.Omega.{arith}
 use lib.ListN.{length-replicate, replicate}
 use borrow.Author.Needs.{needs}
-use Rattle.listing_text.specs.Laws.Accepted.{RowsRead, table-read, table-refused}
+use Rattle.listing_text.specs.Laws.Accepted.{RowsRead, table-read, table-refused, text-read, text-refused}
 use Rattle.listing_lines.specs.Laws.Lengths.{refused-fits}
 use Rattle.listing_lines.specs.Lines.{refusedLine}
 use Rattle.listing_text.specs.TableText.{tableText}
@@ -44,17 +44,18 @@ refused-is c =
     let e = c .before .before .before .before .exact-by in
     let s = start (reading-q c) in
     let z = length-replicate {A = ℕ} 128 0 in
-    table-refused (s .args .last) (s .args .n) (s .args .t .now) (replicate 128 0) (replicate 128 0) (e .last .1 .1 .1 .0) (e .last .1 .1 .1 .1 .0) _
-    (s .pre .0) (omega (arith, z)) (omega (arith, z)) (rw (c .q .given .1) at (e .ensures))
+    text-refused (s .args .last) (s .args .n) (s .args .t .now) _
+    (table-refused (s .args .n) (s .args .t .now) (replicate 128 0) (replicate 128 0) (e .last .1 .1 .1 .0) (e .last .1 .1 .1 .1 .0) _
+    (s .pre .0) (omega (arith, z)) (omega (arith, z)) (rw (c .q .given .1) at (e .ensures)))
 
 -- accepted
 read-is : (c : tie.After-count) → let a = start (reading c) .args in
-    RowsRead (a .last) (a .n) (a .t .now) (c .count .given .0 .0) (far-places (reading c)) (cost-places (reading c))
+    RowsRead (a .n) (a .t .now) (c .count .given .0 .0) (far-places (reading c)) (cost-places (reading c))
 read-is c =
     let e = c .before .before .before .before .exact-by in
     let s = start (reading c) in
     let z = length-replicate {A = ℕ} 128 0 in
-    table-read (s .args .last) (s .args .n) (s .args .t .now) (replicate 128 0) (replicate 128 0) (e .last .1 .1 .1 .0) (e .last .1 .1 .1 .1 .0) _
+    table-read (s .args .n) (s .args .t .now) (replicate 128 0) (replicate 128 0) (e .last .1 .1 .1 .0) (e .last .1 .1 .1 .1 .0) _
     (s .pre .0) (omega (arith, z)) (omega (arith, z)) (rw (c .count .given .1) at (e .ensures))
 
 enum-known-q : tie.Need-enum-known-q
@@ -95,7 +96,9 @@ same-length-2 : tie.Need-same-length-2
 same-length-2 c = search needs
 
 returns-2 : tie.Need-returns-2
-returns-2 c = put-same (sym (read-is (c .before .before .before .before .before .before .before) .text)) (c .before .before .write-links .ensures)
+returns-2 c =
+    let d = c .before .before .before .before .before .before .before in
+    put-same (sym (text-read (start (reading d) .args .last) _ _ _ _ _ (read-is d))) (c .before .before .write-links .ensures)
 
 pub write-table-spec : {M : Type 1} → statement M
 write-table-spec =

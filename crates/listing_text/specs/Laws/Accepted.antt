@@ -30,7 +30,7 @@ use Rattle.tree.specs.Readings.{exactCheck, exactOutcome, outcome}
 use Rattle.tree.specs.Laws.Exact.{exact-check, table-sized}
 use Rattle.listing_lines.specs.Lines.{readingText, refusedLine}
 use Rattle.listing_text.specs.LastImage.{Other}
-use Rattle.listing_text.specs.TableText.{tableText, textIf}
+use Rattle.listing_text.specs.TableText.{tableText}
 
 -- ## Upper rows and order of a table that was read
 
@@ -75,39 +75,58 @@ only-tree : (n : ℕ) (t f v : List ℕ) → CostTable limit n t → 125 ≤ len
 only-tree n t f v c a b =
     exact-check limit n t (c .some) (c .few) (length f) (length v) (omega (arith, c .few)) (omega (arith, c .few)) ∙ table-sized limit n t (c .sized)
 
-pub table-refused : (last n : ℕ) (t f v f′ v′ : List ℕ) (q : Refusal) → CostTable limit n t → 125 ≤ length f → 125 ≤ length v
-    → LeftRows (exactOutcome limit n t f v) (written.Refused q) f′ v′ → tableText last n t ≡ refusedLine q
-table-refused last n t f v f′ v′ q c a b l = go (treeCheck limit n t) _ (rw (only-tree n t f v c a b) at (l .answered))
+pub table-refused : (n : ℕ) (t f v f′ v′ : List ℕ) (q : Refusal) → CostTable limit n t → 125 ≤ length f → 125 ≤ length v
+    → LeftRows (exactOutcome limit n t f v) (written.Refused q) f′ v′ → treeCheck limit n t ≡ Refused q
+table-refused n t f v f′ v′ q c a b l = go (treeCheck limit n t) (rw (only-tree n t f v c a b) at (l .answered))
   where
-    go : (k : Check) (m : List ℕ) → written.Refused q ≡ outcome k (exactRows limit n t) f v .answer → textIf k m ≡ refusedLine q
-    go Passed m e = absurd (let z : _≡_ {A = ℕ} 0 1 = cc in omega arith)
-    go (Refused p) m e = let s : p ≡ q = cc in ap refusedLine s
+    go : (k : Check) → written.Refused q ≡ outcome k (exactRows limit n t) f v .answer → k ≡ Refused q
+    go Passed e = absurd (let z : _≡_ {A = ℕ} 0 1 = cc in omega arith)
+    go (Refused p) e = let s : p ≡ q = cc in ap Refused s
 
--- the rows r that were left in front: a link table, and the text of the table is theirs
-pub record RowsRead (last n : ℕ) (t : List ℕ) (r : ℕ) (f v : List ℕ) : Type 0 where
+-- the rows r that were left in front: a link table, the exact reading of the table
+pub record RowsRead (n : ℕ) (t : List ℕ) (r : ℕ) (f v : List ℕ) : Type 0 where
   pub few : r ≤ 125
   pub far-length : length (take r f) ≡ r
   pub cost-length : length (take r v) ≡ r
   pub links : Links limit n (length (take r f)) (take r f) (take r v)
-  pub text : tableText last n t ≡ readingText n (take r f) (take r v) (uppers (take r f)) (images n t 1 last)
+  pub passed : treeCheck limit n t ≡ Passed
+  pub far-sides : take r f ≡ fars (exactRows limit n t)
+  pub doubled : take r v ≡ costs (exactRows limit n t)
 
-pub table-read : (last n : ℕ) (t f v f′ v′ : List ℕ) (r : ℕ) → CostTable limit n t → 125 ≤ length f → 125 ≤ length v
-    → LeftRows (exactOutcome limit n t f v) (Places r) f′ v′ → RowsRead last n t r f′ v′
-table-read last n t f v f′ v′ r c a b l =
+pub table-read : (n : ℕ) (t f v f′ v′ : List ℕ) (r : ℕ) → CostTable limit n t → 125 ≤ length f → 125 ≤ length v
+    → LeftRows (exactOutcome limit n t f v) (Places r) f′ v′ → RowsRead n t r f′ v′
+table-read n t f v f′ v′ r c a b l =
     let T = exactRows limit n t in
-    let g = go (treeCheck limit n t) _ (rw (only-tree n t f v c a b) at (l .answered)) (rw (only-tree n t f v c a b) at (l .far-sides))
+    let g = go (treeCheck limit n t) (rw (only-tree n t f v c a b) at (l .answered)) (rw (only-tree n t f v c a b) at (l .far-sides))
     (rw (only-tree n t f v c a b) at (l .doubled)) in
     let x : length (take r f′) ≡ r = ap length (g .1) ∙ length-map T far ∙ sym (g .0) in
     let y : length (take r v′) ≡ r = ap length (g .2) ∙ length-map T (λ q. q .1) ∙ sym (g .0) in
     let k : Links limit n (length (take r f′)) (take r f′) (take r v′) =
     record { some = c .some; few = c .few; counted = refl; costed = y ∙ sym x; table = exact-answer limit n t f v r f′ v′ l .exact .tree } in
-    record { few = omega (arith, x, links-few n (take r f′) (take r v′) k); far-length = x; cost-length = y; links = k; text = g .3 ∙ rw (g .1, g .2) refl }
+    record {
+      few = omega (arith, x, links-few n (take r f′) (take r v′) k);
+      far-length = x;
+      cost-length = y;
+      links = k;
+      passed = g .3;
+      far-sides = g .1;
+      doubled = g .2;
+    }
   where
-    go : (k : Check) (m : List ℕ) → Places r ≡ outcome k (exactRows limit n t) f v .answer → f′ ≡ outcome k (exactRows limit n t) f v .far-list
+    go : (k : Check) → Places r ≡ outcome k (exactRows limit n t) f v .answer → f′ ≡ outcome k (exactRows limit n t) f v .far-list
         → v′ ≡ outcome k (exactRows limit n t) f v .cost-list
-        → (r ≡ length (exactRows limit n t)) × (take r f′ ≡ fars (exactRows limit n t)) × (take r v′ ≡ costs (exactRows limit n t)) × (textIf k m ≡ m)
-    go Passed m e x y =
+        → (r ≡ length (exactRows limit n t)) × (take r f′ ≡ fars (exactRows limit n t)) × (take r v′ ≡ costs (exactRows limit n t)) × (k ≡ Passed)
+    go Passed e x y =
         let T = exactRows limit n t in
         let s : r ≡ length T = cc in
         (s, ap (take r) x ∙ take-at (fars T) _ r (length-map T far ∙ sym s), ap (take r) y ∙ take-at (costs T) _ r (length-map T (λ q. q .1) ∙ sym s), refl)
-    go (Refused p) m e x y = absurd (let z : _≡_ {A = ℕ} 0 1 = cc in omega arith)
+    go (Refused p) e x y = absurd (let z : _≡_ {A = ℕ} 0 1 = cc in omega arith)
+
+-- ## The text of the table
+
+pub text-refused : (last n : ℕ) (t : List ℕ) (q : Refusal) → treeCheck limit n t ≡ Refused q → tableText last n t ≡ refusedLine q
+text-refused last n t q e = rw e refl
+
+pub text-read : (last n : ℕ) (t : List ℕ) (r : ℕ) (f v : List ℕ) → RowsRead n t r f v
+    → tableText last n t ≡ readingText n (take r f) (take r v) (uppers (take r f)) (images n t 1 last)
+text-read last n t r f v k = rw (k .passed, k .far-sides, k .doubled) refl
