@@ -24,13 +24,17 @@ tableSaid s = storedTable (costFormAt s 0) (imagesSaid s) s
 abbrev pub storedChecks : List ℕ → Check
 storedChecks s = tableChecks (costFormAt s 0) s
 
+-- what the stored table's checks refuse, or what is said of the table that the bytes say
+abbrev pub storedText : (ℕ → List ℕ → List ℕ) → List ℕ → List ℕ
+storedText said s = textIf (storedChecks s) (said (imagesSaid s) (tableSaid s))
+
 -- the text of the cost table t, with the last image that is asked for
 abbrev pub textWith : Last → ℕ → List ℕ → List ℕ
 textWith which n t = tableText (lastImage which n t) n t
 
--- the listing: what the stored table's checks refuse, or the text of the table that the bytes say
+-- the listing
 unfoldable pub listingText : Last → List ℕ → List ℕ
-listingText which s = textIf (storedChecks s) (textWith which (imagesSaid s) (tableSaid s))
+listingText which s = storedText (textWith which) s
 
 -- what a call answers: the listing's length, and the listing in front of an array that is otherwise 0
 pub record Listed (which : Last) (s : List ℕ) (size : ℕ) (text : List ℕ) : Type 0 where

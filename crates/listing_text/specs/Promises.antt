@@ -109,8 +109,8 @@ unfolding listingText
 listing-stored which e n t b c =
     let s = costBytes (costForm e) n (cost t n) ++ b in
     let k = table-stored e n t b c in
-    ap (λ (x : Edition). textIn which (costForm x) s) (k .told)
-    ∙ ap (λ (x : Check). textBy which (costForm e) x s) (k .passed)
+    ap (λ (x : Edition). textIn (textWith which) (costForm x) s) (k .told)
+    ∙ ap (λ (x : Check). textBy (textWith which) (costForm e) x s) (k .passed)
     ∙ ap (λ (m : ℕ). textWith which m (storedTable (costForm e) m s)) (k .images)
     ∙ ap (textWith which n) (k .table)
 

@@ -10,7 +10,7 @@ use Rattle.stored_costs.specs.Laws.Sizes.{square-le}
 use Rattle.listing_text.specs.Laws.LastImage.{last-other}
 use Rattle.listing_lines.specs.Laws.Lengths.{refused-fits}
 use Rattle.listing_lines.specs.Lines.{refusedLine}
-use Rattle.listing_text.specs.Listing.{listingText}
+use Rattle.listing_text.specs.Listing.{listingText, textWith}
 use Rattle.text.specs.Laws.Pieces.{put-same}
 use Rattle.listing_text.specs.Laws.Stored.{StoredTable, stored-refused, stored-table}
 use Rattle.listing_text.proofs.write_stored.Statement.{statement}
@@ -34,19 +34,20 @@ places c = c .before .before .before .read-costs .last .1 .1 .0
 
 -- refused with 9, 1, 11 or 4
 refused-is : (c : tie.After-q) → let a = start-q c .args in listingText (a .which) (a .bytes .now) ≡ refusedLine (c .q .given .0 .0)
+unfolding listingText
 refused-is c =
     let s = start-q c in
     let e = c .before .before .before .read-costs in
-    stored-refused (s .args .which) (s .args .bytes .now) (replicate 4096 0) (e .last .1 .1 .0) (omega (arith, length-replicate {A = ℕ} 4096 0)) _
+    stored-refused (textWith (s .args .which)) (s .args .bytes .now) (replicate 4096 0) (e .last .1 .1 .0) (omega (arith, length-replicate {A = ℕ} 4096 0)) _
     (rw (c .q .given .1) at (e .ensures))
 
 -- read
 table-is : (c : tie.After-n) → let a = start c .args in
-    StoredTable (a .which) (a .bytes .now) (replicate 4096 0) (places c) (omega (arith, length-replicate {A = ℕ} 4096 0)) (c .n .given .0 .0)
+    StoredTable (textWith (a .which)) (a .bytes .now) (replicate 4096 0) (places c) (omega (arith, length-replicate {A = ℕ} 4096 0)) (c .n .given .0 .0)
 table-is c =
     let s = start c in
     let e = c .before .before .before .read-costs in
-    stored-table (s .args .which) (s .args .bytes .now) (replicate 4096 0) (e .last .1 .1 .0) (omega (arith, length-replicate {A = ℕ} 4096 0)) _ _
+    stored-table (textWith (s .args .which)) (s .args .bytes .now) (replicate 4096 0) (e .last .1 .1 .0) (omega (arith, length-replicate {A = ℕ} 4096 0)) _ _
     (rw (c .n .given .1) at (e .ensures))
 
 enum-known-q : tie.Need-enum-known-q
@@ -89,6 +90,7 @@ same-length-2 : tie.Need-same-length-2
 same-length-2 c = search needs
 
 returns-2 : tie.Need-returns-2
+unfolding listingText
 returns-2 c =
     put-same (sym (table-is (c .before .before .before .before .before .before .before) .text))
     (rw (c .before .before .before .last-image .ensures) at (c .before .before .write-table .ensures))

@@ -1,4 +1,5 @@
--- A stored cost table that was read into places enough for every table: its checks are those of a listing. Assumes nothing.
+-- A stored cost table that was read into places enough for every table: its checks are those of a listing, and of whatever is said of the table.
+-- Assumes nothing.
 use mathlib.Core.List.{List}
 use mathlib.Core.Path.{ap, sym, _∙_, _≡_}
 use Prim.Native.Nat.{ℕ, _*_, _≤_}
@@ -15,28 +16,25 @@ use Rattle.stored_costs.specs.declared.StoredCosts.the-variants.{Table}
 use Rattle.stored_costs.specs.declared.StoredCosts.the-variants as stored
 use Rattle.listing_lines.specs.Lines.{refusedLine}
 use Rattle.listing_text.specs.Laws.Behind.{textBy}
-use Rattle.listing_text.specs.Listing.{listingText, textWith}
-use Rattle.listing_text.specs.declared.Last.{Last}
+use Rattle.listing_text.specs.Listing.{storedText}
 
-module _ (which : Last) (s o e : List ℕ) (h : 4096 ≤ length o) where
-  pub stored-refused : (q : Refusal) → Left (readEither s 0 o) (stored.Refused q) e → listingText which s ≡ refusedLine q
-  unfolding listingText
-  stored-refused q p = ap (λ (c : Check). textBy which (costFormAt s 0) c s) (front-refused s o e h q p)
+module _ (said : ℕ → List ℕ → List ℕ) (s o e : List ℕ) (h : 4096 ≤ length o) where
+  pub stored-refused : (q : Refusal) → Left (readEither s 0 o) (stored.Refused q) e → storedText said s ≡ refusedLine q
+  stored-refused q p = ap (λ (c : Check). textBy said (costFormAt s 0) c s) (front-refused s o e h q p)
 
-  -- the cost table that was read: the listing is that of it
+  -- the cost table that was read: what is said of the bytes is said of it
   pub record StoredTable (n : ℕ) : Type 0 where
     pub few : n ≤ 64
     pub table : CostTable limit n (take (n * n) e)
-    pub text : listingText which s ≡ textWith which n (take (n * n) e)
+    pub text : storedText said s ≡ said n (take (n * n) e)
 
   pub stored-table : (n used : ℕ) → Left (readEither s 0 o) (Table n used) e → StoredTable n
-  unfolding listingText
   stored-table n used p =
       let r = front-read s o e h n used p in
       record {
         few = r .few;
         table = r .table;
         text =
-            ap (λ (c : Check). textBy which (costFormAt s 0) c s) (r .passed)
-            ∙ ap (λ (m : ℕ). textWith which m (storedTable (costFormAt s 0) m s)) (r .images) ∙ ap (textWith which n) (sym (r .stands));
+            ap (λ (c : Check). textBy said (costFormAt s 0) c s) (r .passed)
+            ∙ ap (λ (m : ℕ). said m (storedTable (costFormAt s 0) m s)) (r .images) ∙ ap (said n) (sym (r .stands));
       }
