@@ -670,7 +670,7 @@ static void newick_texts(void) {
             KemotuikiTree want = {number, 0, newicks[k].place, 0, 0, 0, n, newicks[k].rows};
             KemotuikiTree no_room = {KEMOTUIKI_NO_ROOM, 0, 0, 0, 0, 0, 0, 0};
             if (memcmp(&r, short_by ? &no_room : &want, sizeof r)) fault("not what is answered to this text");
-            if (!r.number) hold_newick(n, r.rows, fars, costs, text, length);
+            if (!r.number) hold_newick(r.n, r.rows, fars, costs, text, length);
             settle(&lf, r.rows * 8);
             settle(&lc, r.rows * 4);
         }
