@@ -27,6 +27,10 @@ static uint8_t bytes[KEMOTUIKI_COST_BYTES], plain_bytes[KEMOTUIKI_COST_BYTES];
 static uint32_t batch_ns[BATCH], batch_counts[BATCH], batch_costs[BATCH * 125];
 static uint64_t batch_fars[BATCH * 125];
 static uint8_t batch_bytes[BATCH * KEMOTUIKI_LINK_BYTES], plain_batch_bytes[BATCH * KEMOTUIKI_LINK_BYTES];
+static size_t newick_length;
+static char newick[KEMOTUIKI_NEWICK_BYTES], plain_newick[KEMOTUIKI_NEWICK_BYTES];
+static uint64_t read_fars[125];
+static uint32_t read_costs[125];
 static volatile size_t sink;
 static int printing;
 
@@ -69,6 +73,11 @@ static void c_convert_links(void) { size_t u = 0; plain_convert_links(form, link
 
 static void ours_choice(void) { KemotuikiChoice r = kemotuiki_choice(fewer_bytes, stored_fewer, link_bytes[form], stored_links[form]); sink = r.chosen + 10 * r.used; }
 static void c_choice(void) { size_t k = 0, u = 0; plain_choice(fewer_bytes, stored_fewer, link_bytes[form], stored_links[form], &k, &u); sink = k + 10 * u; }
+
+static void ours_write_newick(void) { sink = kemotuiki_write_newick(n, rows, fars, rows, costs, rows, newick, sizeof newick).used; }
+static void c_write_newick(void) { size_t u = 0; plain_write_newick(n, rows, fars, costs, plain_newick, sizeof plain_newick, &u); sink = u; }
+static void ours_read_newick(void) { KemotuikiTree r = kemotuiki_read_newick(newick, newick_length, read_fars, 125, read_costs, 125); sink = r.n + 1000 * r.rows; }
+static void c_read_newick(void) { size_t m = 0, k = 0, p = 0; plain_read_newick(newick, newick_length, plain_fars, plain_costs, 125, &m, &k, &p); sink = m + 1000 * k; }
 
 /* Sixteen tables of one tree, with its costs once, twice or three times, so that all rows are shared and none is the last table's. */
 static void fill_team(void) {
@@ -148,6 +157,15 @@ static int stored_forms(void) {
     return 0;
 }
 
+/* The tree's Newick text, written and read back. */
+static int newick_text(void) {
+    race_both("write_newick", ours_write_newick, c_write_newick);
+    newick_length = sink;
+    if (memcmp(newick, plain_newick, newick_length)) return 1;
+    race_both("read_newick", ours_read_newick, c_read_newick);
+    return memcmp(read_fars, fars, rows * 8) || memcmp(read_costs, costs, rows * 4) || memcmp(plain_fars, fars, rows * 8) || memcmp(plain_costs, costs, rows * 4);
+}
+
 /* One pass over all calls; status 1 if two answers differ. */
 static int all_calls(void) {
     static const size_t sizes[] = {9, 16, 32, 64};
@@ -175,7 +193,7 @@ static int all_calls(void) {
             race_both("consensus of 16 tables", ours_consensus, c_consensus);
             if (memcmp(shared_fars, plain_fars, plain_rows * 8) || memcmp(shared_costs, plain_costs, plain_rows * 4)) return 1;
         }
-        if (stored_forms()) return 1;
+        if (stored_forms() || newick_text()) return 1;
     }
     return 0;
 }

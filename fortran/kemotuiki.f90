@@ -17,6 +17,9 @@
 ! What writes stored bytes is told the form first: kemotuiki_old_form, for entries to 1,000,000 and doubled costs to 2,000,000, which
 ! every version reads; or kemotuiki_new_form, for every table. What reads them takes both.
 !
+! A link table is also a Newick text, which tools that draw trees take: kemotuiki_write_newick writes it to the front of a character
+! variable, text(:r%used), and kemotuiki_read_newick reads it. Blanks are no part of it, so what is read is text(:r%used) or trim(text).
+!
 ! Fortran has no unsigned integers. A far side is 64 bits, image i is bit i-1, btest(far, i-1). With 64 images a far side that holds
 ! image 64 is negative as a signed number; its bits are right, and such rows stand last, since far sides ascend as unsigned numbers.
 ! Stored bytes from 128 on are negative likewise.
@@ -27,14 +30,15 @@ module kemotuiki
     private
 
     ! The version, as the file VERSION has it.
-    character(*), parameter, public :: kemotuiki_version = '3.0.0'
-    integer, parameter, public :: kemotuiki_version_major = 3, kemotuiki_version_minor = 0, kemotuiki_version_patch = 0
+    character(*), parameter, public :: kemotuiki_version = '3.1.0'
+    integer, parameter, public :: kemotuiki_version_major = 3, kemotuiki_version_minor = 1, kemotuiki_version_patch = 0
 
     ! Room that is enough for every n: images, rows of a tree, bytes of a stored table in either form, and in the old form alone; the
-    ! tables of a team; and bytes of a refusal's text.
+    ! tables of a team; characters of a Newick text; and bytes of a refusal's text.
     integer, parameter, public :: kemotuiki_images = 64, kemotuiki_rows = 125, kemotuiki_tables = 16
     integer, parameter, public :: kemotuiki_cost_bytes = 5798, kemotuiki_link_bytes = 1362
     integer, parameter, public :: kemotuiki_old_cost_bytes = 5041, kemotuiki_old_link_bytes = 1315
+    integer, parameter, public :: kemotuiki_newick_bytes = 1432
     integer, parameter :: text_bytes = 192
 
     ! The largest entry of a cost table, and the largest that the old stored form takes. A doubled cost is at most twice as much.
@@ -62,7 +66,9 @@ module kemotuiki
         kemotuiki_neither_includes = 14, &
         kemotuiki_different_n = 15, &
         kemotuiki_bad_table_count = 16, &
-        kemotuiki_above_old_limits = 17
+        kemotuiki_above_old_limits = 17, &
+        kemotuiki_outside_profile = 18, &
+        kemotuiki_siblings_out_of_order = 22
 
     ! What all answers begin with: the refusal's number or 0, the table that was refused in calls that take more than one, and the
     ! places. A place is the argument unchanged, so one above 2^63 - 1 is negative here.
@@ -104,11 +110,14 @@ module kemotuiki
         integer :: chosen
         integer(int64) :: used
     end type
+    type, extends(kemotuiki_answer), public :: kemotuiki_tree_answer
+        integer :: n, rows
+    end type
 
     public :: kemotuiki_index, kemotuiki_order, kemotuiki_measured, kemotuiki_exact, kemotuiki_exact_grafted, kemotuiki_path
     public :: kemotuiki_upper_rows, kemotuiki_route, kemotuiki_compare, kemotuiki_consensus, kemotuiki_write_costs
     public :: kemotuiki_read_costs, kemotuiki_write_links, kemotuiki_read_links, kemotuiki_write_batch, kemotuiki_choice
-    public :: kemotuiki_convert_costs, kemotuiki_convert_links
+    public :: kemotuiki_convert_costs, kemotuiki_convert_links, kemotuiki_write_newick, kemotuiki_read_newick
 
     ! Far sides and bit positions may be of either kind. A far side that holds image 32 or a later one needs int64: as a default integer
     ! it would be negative, or not fit.
@@ -267,6 +276,24 @@ module kemotuiki
             import
             integer(word), value :: first_count, second_count
             integer(c_int8_t), intent(in) :: first(*), second(*)
+            type(two_values) :: r
+        end function
+        function c_write_newick(n, count, fars, fars_count, costs, costs_count, out, out_count) result(r) &
+            bind(c, name='kemotuiki_write_newick')
+            import
+            integer(word), value :: n, count, fars_count, costs_count, out_count
+            integer(c_int64_t), intent(in) :: fars(*)
+            integer(c_int32_t), intent(in) :: costs(*)
+            character(kind=c_char), intent(inout) :: out(*)
+            type(one_value) :: r
+        end function
+        function c_read_newick(text, text_count, fars, fars_count, costs, costs_count) result(r) &
+            bind(c, name='kemotuiki_read_newick')
+            import
+            integer(word), value :: text_count, fars_count, costs_count
+            character(kind=c_char), intent(in) :: text(*)
+            integer(c_int64_t), intent(inout) :: fars(*)
+            integer(c_int32_t), intent(inout) :: costs(*)
             type(two_values) :: r
         end function
         function c_refusal_text(number, table, a, b, c, d, out, out_count) result(r) bind(c, name='kemotuiki_refusal_text')
@@ -539,6 +566,30 @@ contains
         type(two_values) :: c
         c = c_choice(first, size(first, kind=word), second, size(second, kind=word))
         r = kemotuiki_choice_answer(kemotuiki_answer=head(c%head), chosen=int(c%values(1)), used=c%values(2))
+    end function
+
+    ! ---- Newick text ----
+
+    ! The Newick text of the rows fars, costs over n images, into out(:r%used); what stands behind it stays.
+    function kemotuiki_write_newick(n, fars, costs, out) result(r)
+        integer, intent(in) :: n
+        integer(int64), intent(in), contiguous :: fars(:)
+        integer(int32), intent(in), contiguous :: costs(:)
+        character(*, c_char), intent(inout) :: out
+        type(kemotuiki_bytes_answer) :: r
+        r = bytes_answer(c_write_newick(int(n, word), size(fars, kind=word), fars, size(fars, kind=word), &
+                                        costs, size(costs, kind=word), out, len(out, word)))
+    end function
+
+    ! The link table of the Newick text, without blanks behind it, into fars and costs.
+    function kemotuiki_read_newick(text, fars, costs) result(r)
+        character(*, c_char), intent(in) :: text
+        integer(int64), intent(inout), contiguous :: fars(:)
+        integer(int32), intent(inout), contiguous :: costs(:)
+        type(kemotuiki_tree_answer) :: r
+        type(two_values) :: c
+        c = c_read_newick(text, len(text, word), fars, size(fars, kind=word), costs, size(costs, kind=word))
+        r = kemotuiki_tree_answer(kemotuiki_answer=head(c%head), n=int(c%values(1)), rows=int(c%values(2)))
     end function
 
     ! ---- from the structs of C ----

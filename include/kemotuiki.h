@@ -10,6 +10,11 @@
  * one that versions before 3 read. The new form takes every table and is a little longer. Whoever reads takes both, since the
  * first seven bits tell them apart; whoever writes is told which one to write.
  *
+ * A link table is also a Newick text, which tools that draw trees take, such as (1:2,2:2,(3:2,4:2):4); with a pair of brackets for
+ * each switch: image 1 first inside the outermost ones, then the subtrees at its switch, as those in all other brackets, in ascending
+ * far side; behind each image and each inner bracket ':' and the doubled cost of its link; ';' at the end. There are no blanks, no
+ * leading zeros, and no zero byte behind it. Each link table has one such text, and reading undoes writing.
+ *
  * Every call takes every argument: it answers or refuses, and always ends. A slice is a pointer and the count of its
  * elements; with count 0 the pointer may be null. Any other pointer is to that many elements, aligned as its type asks.
  * A slice that is written overlaps no other slice of the call, which restrict says; slices that are only read may overlap.
@@ -17,8 +22,8 @@
  *
  * A refused call alters no lent place. An accepted call writes only the places that its answer names, from the front.
  *
- * Single numbers are size_t, far sides 64 bits, stored bytes 8 bits. All other slices hold 32 bits, the batch's numbers of
- * images and of rows as well, so that default integers of Fortran cross as they are.
+ * Single numbers are size_t, far sides 64 bits, stored bytes 8 bits, text is char. All other slices hold 32 bits, the batch's
+ * numbers of images and of rows as well, so that default integers of Fortran cross as they are.
  *
  * The header is C89 with <stdint.h>, later C, and C++.
  */
@@ -29,14 +34,14 @@
 #include <stdint.h>
 
 /* The version, as the file VERSION has it. */
-#define KEMOTUIKI_VERSION "3.0.0"
+#define KEMOTUIKI_VERSION "3.1.0"
 #define KEMOTUIKI_VERSION_MAJOR 3
-#define KEMOTUIKI_VERSION_MINOR 0
+#define KEMOTUIKI_VERSION_MINOR 1
 #define KEMOTUIKI_VERSION_PATCH 0
 
 /*
  * Room that is enough for every n: images, rows of a tree, bytes of a stored table in either form, and in the old form alone; the
- * most tables of a team; and bytes of a refusal's text.
+ * most tables of a team; bytes of a Newick text; and bytes of a refusal's text.
  */
 #define KEMOTUIKI_IMAGES 64
 #define KEMOTUIKI_ROWS 125
@@ -45,6 +50,7 @@
 #define KEMOTUIKI_OLD_COST_BYTES 5041
 #define KEMOTUIKI_OLD_LINK_BYTES 1315
 #define KEMOTUIKI_TABLES 16
+#define KEMOTUIKI_NEWICK_BYTES 1432
 #define KEMOTUIKI_TEXT_BYTES 192
 
 /* The largest entry of a cost table, and the largest that the old stored form takes. A doubled cost is at most twice as much. */
@@ -90,7 +96,9 @@ enum KemotuikiNumber {
     KEMOTUIKI_NEITHER_INCLUDES = 14, /* neither table includes the other */
     KEMOTUIKI_DIFFERENT_N = 15,      /* stored tables of different n */
     KEMOTUIKI_BAD_TABLE_COUNT = 16,  /* no tables or more than sixteen */
-    KEMOTUIKI_ABOVE_OLD_LIMITS = 17  /* number above the old limits, so not for the old form: row, and column of a cost table */
+    KEMOTUIKI_ABOVE_OLD_LIMITS = 17, /* number above the old limits, so not for the old form: row, and column of a cost table */
+    KEMOTUIKI_OUTSIDE_PROFILE = 18,  /* outside the Newick profile: byte, the length plus one where the text ends too early */
+    KEMOTUIKI_SIBLINGS_OUT_OF_ORDER = 22 /* siblings of a Newick text out of order: byte */
 };
 
 /* The form that a writer is told. Every other number is the new form too, so that each has a meaning and none is refused. */
@@ -162,6 +170,12 @@ typedef struct KemotuikiChoice {
     size_t chosen, used;
 } KemotuikiChoice;
 
+/* The tree of a Newick text: its images and its rows. */
+typedef struct KemotuikiTree {
+    size_t number, table, a, b, c, d;
+    size_t n, rows;
+} KemotuikiTree;
+
 KEMOTUIKI_ASSERT(kemotuiki_words_of_64_bits, sizeof(size_t) == 8);
 KEMOTUIKI_ASSERT(kemotuiki_index_size, sizeof(KemotuikiIndex) == 56);
 KEMOTUIKI_ASSERT(kemotuiki_order_size, sizeof(KemotuikiOrder) == 56);
@@ -172,6 +186,7 @@ KEMOTUIKI_ASSERT(kemotuiki_bytes_size, sizeof(KemotuikiBytes) == 56);
 KEMOTUIKI_ASSERT(kemotuiki_costs_size, sizeof(KemotuikiCosts) == 64);
 KEMOTUIKI_ASSERT(kemotuiki_links_size, sizeof(KemotuikiLinks) == 72);
 KEMOTUIKI_ASSERT(kemotuiki_choice_size, sizeof(KemotuikiChoice) == 64);
+KEMOTUIKI_ASSERT(kemotuiki_tree_size, sizeof(KemotuikiTree) == 64);
 
 /*
  * The index of the division with the far side s. Above 0, all choices of images support the division, by at least so much, and the
@@ -332,6 +347,28 @@ KemotuikiBytes kemotuiki_write_batch(size_t form, const uint32_t *ns, size_t ns_
  * table 0.
  */
 KemotuikiChoice kemotuiki_choice(const uint8_t *first, size_t first_count, const uint8_t *second, size_t second_count);
+
+/*
+ * The Newick text of the link table of count rows.
+ * Answers the bytes written to out; no zero byte stands behind them, so printf("%.*s\n", (int)r.used, out) prints it. Room: those
+ * bytes, at most KEMOTUIKI_NEWICK_BYTES. Refusals 1, 10, 2, 12, 13, 3.
+ */
+KemotuikiBytes kemotuiki_write_newick(size_t n, size_t count, const uint64_t *fars, size_t fars_count,
+                                      const uint32_t *costs, size_t costs_count,
+                                      char *KEMOTUIKI_RESTRICT out, size_t out_count);
+
+/*
+ * The link table of a Newick text, which is all of text: a newline or a zero byte at its end is refused. What is read is what
+ * kemotuiki_write_newick writes and nothing else: an image has one or two digits, a cost one to eight, a bracket two or more
+ * vertices, the outermost three or more; at most 62 brackets are open at once, and siblings stand in ascending far side.
+ * Answers n, and the rows written to fars and costs. Room: 2n-3 places in each. Refusals 18, at the first byte that no such text
+ * could have there, whatever the order of siblings, or at the length plus one; 1, n being the count of image numbers; 3; 13, for the
+ * lowest of 1..n that is not named; 12, for a cost; 22, at the first byte of the first sibling whose far side is below the one before,
+ * image 1 apart. Bytes are counted from 1.
+ */
+KemotuikiTree kemotuiki_read_newick(const char *text, size_t text_count,
+                                    uint64_t *KEMOTUIKI_RESTRICT fars, size_t fars_count,
+                                    uint32_t *KEMOTUIKI_RESTRICT costs, size_t costs_count);
 
 /*
  * What an answer says, as text with a zero byte behind it: "accepted", "no wiring: images 1 2 3 5", "table 2: asymmetric: row

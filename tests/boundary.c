@@ -2,8 +2,9 @@
  * The cases of crates/cases/data through the archive: boundary DATA prints what crates/cases/stdout has for the calls that are
  * exported. Every lent buffer stands between guard bytes, which are compared after the call, and every input is compared with
  * a copy. Each case of the exact reading is read by both its engines, which must answer and leave the same; what a conversion wrote is
- * converted once more, to the form that it has, and must stay. boundary --edges tries null pointers with count 0, numbers too large
- * for anything, the longest stored tables, and the text of every answer.
+ * converted once more, to the form that it has, and must stay; a Newick text that was written is read and one that was read is written,
+ * and must be the same. boundary --edges tries null pointers with count 0, numbers too large for anything, the longest stored tables and
+ * Newick text, Newick texts that were written by hand, and the text of every answer.
  */
 #include <errno.h>
 #include <stdio.h>
@@ -382,6 +383,55 @@ static void conversion(Conversion *call) {
 static void do_convert_costs(void) { conversion(kemotuiki_convert_costs); }
 static void do_convert_links(void) { conversion(kemotuiki_convert_links); }
 
+/* The rows of a table that was written as this text, or read from it, go into the same text in just enough room, and back. */
+static void hold_newick(size_t n, size_t rows, const uint64_t *fars, const uint32_t *costs, const char *text, size_t used) {
+    Lent lt, lf, lc;
+    char *again = lend(&lt, used, 1);
+    keep(&lt);
+    KemotuikiBytes w = kemotuiki_write_newick(n, rows, fars, rows, costs, rows, again, used);
+    if (w.number || w.used != used || memcmp(again, text, used)) fault("its rows are not written as the same text");
+    settle(&lt, w.used);
+    uint64_t *fars_again = lend(&lf, 2 * n - 3, 8);
+    uint32_t *costs_again = lend(&lc, 2 * n - 3, 4);
+    keep(&lf);
+    keep(&lc);
+    KemotuikiTree r = kemotuiki_read_newick(text, used, fars_again, lf.count, costs_again, lc.count);
+    if (r.number || r.n != n || r.rows != rows || memcmp(fars_again, fars, rows * 8) || memcmp(costs_again, costs, rows * 4))
+        fault("its text is not read as the same rows");
+    settle(&lf, r.rows * 8);
+    settle(&lc, r.rows * 4);
+}
+
+static void do_write_newick(void) {
+    Lent lf, lc, lo;
+    size_t n = number(), count = number();
+    uint64_t *fars = read64(&lf);
+    uint32_t *costs = read32(&lc);
+    uint8_t *out = read8(&lo);
+    KemotuikiBytes r = kemotuiki_write_newick(n, count, fars, lf.count, costs, lc.count, (char *)out, lo.count);
+    if (ANSWER(r, 0)) printf(" %zu", r.used);
+    show8(out, lo.count);
+    if (!r.number) hold_newick(n, count, fars, costs, (char *)out, r.used);
+    settle(&lf, 0);
+    settle(&lc, 0);
+    settle(&lo, r.used);
+}
+
+static void do_read_newick(void) {
+    Lent lt, lf, lc;
+    uint8_t *text = read8(&lt);
+    uint64_t *fars = read64(&lf);
+    uint32_t *costs = read32(&lc);
+    KemotuikiTree r = kemotuiki_read_newick((char *)text, lt.count, fars, lf.count, costs, lc.count);
+    if (ANSWER(r, 0)) printf(" %zu %zu", r.n, r.rows);
+    show64(fars, lf.count);
+    show32(costs, lc.count);
+    if (!r.number) hold_newick(r.n, r.rows, fars, costs, (char *)text, lt.count);
+    settle(&lt, 0);
+    settle(&lf, r.rows * 8);
+    settle(&lc, r.rows * 4);
+}
+
 static void do_refusal_text(void) {
     Lent lo;
     size_t head[6];
@@ -403,7 +453,7 @@ static const struct {
     {"read_costs", do_read_costs}, {"write_links", do_write_links}, {"read_links", do_read_links},
     {"write_batch", do_write_batch}, {"choice", do_choice},       {"refusal_text", do_refusal_text},
     {"consensus", do_consensus},   {"exact_grafted", do_exact_grafted}, {"convert_costs", do_convert_costs},
-    {"convert_links", do_convert_links},
+    {"convert_links", do_convert_links}, {"write_newick", do_write_newick}, {"read_newick", do_read_newick},
 };
 
 static int cases(const char *folder) {
@@ -462,6 +512,7 @@ static void no_images(void) {
         EXPECT(KemotuikiPath, path, (n, n, NULL, 0, NULL, 0, 1, 2), KEMOTUIKI_BAD_N, n, 0);
         EXPECT(KemotuikiRows, upper_rows, (n, n, NULL, 0, NULL, 0, NULL, 0), KEMOTUIKI_BAD_N, n, 0);
         EXPECT(KemotuikiRows, route, (n, n, NULL, 0, NULL, 0, 1, NULL, 0), KEMOTUIKI_BAD_N, n, 0);
+        EXPECT(KemotuikiBytes, write_newick, (n, n, NULL, 0, NULL, 0, NULL, 0), KEMOTUIKI_BAD_N, n, 0);
         EXPECT(KemotuikiComparison, compare, (n, NULL, 0, NULL, 0), KEMOTUIKI_BAD_N, n, 0);
         EXPECT(KemotuikiRows, consensus, (n, n, NULL, 0, NULL, 0, NULL, 0), KEMOTUIKI_BAD_N, n, 0);
         for (size_t f = 0; f < sizeof forms / sizeof *forms; f++) {
@@ -488,6 +539,8 @@ static void no_places(void) {
         EXPECT(KemotuikiRows, upper_rows, (n, SIZE_MAX, NULL, 0, NULL, 0, NULL, 0), KEMOTUIKI_BAD_ROW_COUNT, SIZE_MAX, 0);
         EXPECT(KemotuikiRows, route, (n, 2 * n - 2, NULL, 0, NULL, 0, 1, NULL, 0), KEMOTUIKI_BAD_ROW_COUNT, 2 * n - 2, 0);
         EXPECT(KemotuikiBytes, write_links, (SIZE_MAX, n, n - 1, NULL, 0, NULL, 0, NULL, 0), KEMOTUIKI_BAD_ROW_COUNT, n - 1, 0);
+        EXPECT(KemotuikiBytes, write_newick, (n, SIZE_MAX, NULL, 0, NULL, 0, NULL, 0), KEMOTUIKI_BAD_ROW_COUNT, SIZE_MAX, 0);
+        EXPECT(KemotuikiBytes, write_newick, (n, n, NULL, 0, NULL, 0, NULL, 0), KEMOTUIKI_BAD_LENGTH, 0, 0);
         EXPECT(KemotuikiComparison, compare, (n, NULL, 0, NULL, 0), KEMOTUIKI_BAD_LENGTH, 0, 1);
         EXPECT(KemotuikiRows, consensus, (n, 1, NULL, 0, NULL, 0, NULL, 0), KEMOTUIKI_BAD_LENGTH, 0, 0);
         EXPECT(KemotuikiRows, consensus, (n, KEMOTUIKI_TABLES, NULL, 0, NULL, 0, NULL, 0), KEMOTUIKI_BAD_LENGTH, 0, 0);
@@ -505,7 +558,7 @@ static void no_team(void) {
     EXPECT(KemotuikiRows, consensus, (4, 1, zeros, 16, NULL, 0, NULL, 0), KEMOTUIKI_NO_ROOM, 0, 0);
 }
 
-/* No bytes, read at any position; an empty batch, which is accepted; no bytes to convert, and none to choose from. */
+/* No bytes, read at any position; an empty batch, which is accepted; no bytes to convert, none to choose from, and no text. */
 static void no_bytes(void) {
     static const size_t positions[] = {0, 1, 7, 8, 9, (size_t)1 << 61, (size_t)1 << 63, SIZE_MAX - 7, SIZE_MAX};
     for (size_t k = 0; k < sizeof positions / sizeof *positions; k++) {
@@ -518,6 +571,7 @@ static void no_bytes(void) {
         EXPECT(KemotuikiBytes, convert_links, (forms[f], NULL, 0, NULL, 0), KEMOTUIKI_BYTES_END, 0, 0);
     }
     EXPECT(KemotuikiChoice, choice, (NULL, 0, NULL, 0), KEMOTUIKI_BYTES_END, 0, 1);
+    EXPECT(KemotuikiTree, read_newick, (NULL, 0, NULL, 0, NULL, 0), KEMOTUIKI_OUTSIDE_PROFILE, 1, 0);
 }
 
 /*
@@ -558,6 +612,105 @@ static void longest_tables(void) {
     }
 }
 
+/* ---- Newick text ---- */
+
+/* Texts, and what is answered where there are 125 places: the images of one that is accepted, or the refusal and its place. */
+static const struct {
+    const char *text;
+    size_t number, place, n, rows;
+} newicks[] = {
+    {"(1:2,2:2,3:2,4:2);", 0, 0, 4, 4},
+    {"(1:2,2:2,(3:2,4:2):4);", 0, 0, 4, 5},
+    {"(1:0,2:0,3:0);", 0, 0, 3, 3},
+    {"(1:16000000,2:16000000,3:16000000);", 0, 0, 3, 3},
+    {"(1:1,(2:1,3:1):1,(4:1,5:1):1);", 0, 0, 5, 7},
+    {"(", KEMOTUIKI_OUTSIDE_PROFILE, 2, 0, 0},
+    {"(2:1,1:1,3:1);", KEMOTUIKI_OUTSIDE_PROFILE, 2, 0, 0},
+    {"((1:1,2:1):1,3:1,4:1);", KEMOTUIKI_OUTSIDE_PROFILE, 2, 0, 0},
+    {"(10:1,1:1,2:1);", KEMOTUIKI_OUTSIDE_PROFILE, 3, 0, 0},
+    {"(1,2,3);", KEMOTUIKI_OUTSIDE_PROFILE, 3, 0, 0},
+    {"(1:02,2:2,3:2);", KEMOTUIKI_OUTSIDE_PROFILE, 5, 0, 0},
+    {"(1:2.5,2:2,3:2);", KEMOTUIKI_OUTSIDE_PROFILE, 5, 0, 0},
+    {"(1:2, 2:2,3:2);", KEMOTUIKI_OUTSIDE_PROFILE, 6, 0, 0},
+    {"(1:2,02:2,3:2);", KEMOTUIKI_OUTSIDE_PROFILE, 6, 0, 0},
+    {"(1:2,100:2,3:2);", KEMOTUIKI_OUTSIDE_PROFILE, 8, 0, 0},
+    {"(1:2,2:2);", KEMOTUIKI_OUTSIDE_PROFILE, 9, 0, 0},
+    {"(1:2,(2:2):2,3:2);", KEMOTUIKI_OUTSIDE_PROFILE, 10, 0, 0},
+    {"(1:2,2:100000000,3:2);", KEMOTUIKI_OUTSIDE_PROFILE, 16, 0, 0},
+    {"(1:2,(2:2,3:2)4:2,5:2);", KEMOTUIKI_OUTSIDE_PROFILE, 15, 0, 0},
+    {"(1:2,2:2,3:2):0;", KEMOTUIKI_OUTSIDE_PROFILE, 14, 0, 0},
+    {"(1:2,2:2,3:2)", KEMOTUIKI_OUTSIDE_PROFILE, 14, 0, 0},
+    {"(1:2,2:2,3:2);\n", KEMOTUIKI_OUTSIDE_PROFILE, 15, 0, 0},
+    {"(1:2,2:2,\xb2:2);", KEMOTUIKI_OUTSIDE_PROFILE, 10, 0, 0},
+    {"(1:2,2:2,1:2);", KEMOTUIKI_OWN_LINK_MISSING, 3, 0, 0},
+    {"(1:2,65:2,99:2);", KEMOTUIKI_OWN_LINK_MISSING, 2, 0, 0},
+    {"(1:16000001,3:0,2:0);", KEMOTUIKI_BAD_ROW, 3, 0, 0},
+    {"(1:0,(4:99999999,3:0):0,2:0);", KEMOTUIKI_BAD_ROW, 3, 0, 0},
+    {"(1:0,(3:0,4:0):0,2:0);", KEMOTUIKI_BAD_ROW, 4, 0, 0},
+    {"(1:2,4:2,2:2,3:2);", KEMOTUIKI_SIBLINGS_OUT_OF_ORDER, 10, 0, 0},
+    {"(1:0,6:0,((5:0,4:0):1,3:0):1,2:0);", KEMOTUIKI_SIBLINGS_OUT_OF_ORDER, 10, 0, 0},
+    {"(1:0,(2:0,3:0):1,((7:0,6:0):1,5:0):1,4:0);", KEMOTUIKI_SIBLINGS_OUT_OF_ORDER, 24, 0, 0},
+};
+
+/* Each of them from a lent buffer without a byte behind it; one that is accepted also with one place less, which is one too few. */
+static void newick_texts(void) {
+    for (size_t k = 0; k < sizeof newicks / sizeof *newicks; k++) {
+        size_t length = strlen(newicks[k].text), number = newicks[k].number, n = newicks[k].n;
+        Lent lt, lf, lc;
+        call_name = newicks[k].text;
+        char *text = memcpy(lend(&lt, length, 1), newicks[k].text, length);
+        keep(&lt);
+        for (size_t short_by = 0; short_by < (number ? 1 : 3); short_by++) {
+            size_t room = number ? KEMOTUIKI_ROWS : 2 * n - 3;
+            uint64_t *fars = lend(&lf, room - (short_by == 1), 8);
+            uint32_t *costs = lend(&lc, room - (short_by == 2), 4);
+            keep(&lf);
+            keep(&lc);
+            KemotuikiTree r = kemotuiki_read_newick(text, length, fars, lf.count, costs, lc.count);
+            KemotuikiTree want = {number, 0, newicks[k].place, 0, 0, 0, n, newicks[k].rows};
+            KemotuikiTree no_room = {KEMOTUIKI_NO_ROOM, 0, 0, 0, 0, 0, 0, 0};
+            if (memcmp(&r, short_by ? &no_room : &want, sizeof r)) fault("not what is answered to this text");
+            if (!r.number) hold_newick(r.n, r.rows, fars, costs, text, length);
+            settle(&lf, r.rows * 8);
+            settle(&lc, r.rows * 4);
+        }
+        settle(&lt, 0);
+    }
+}
+
+/*
+ * The longest text, in the room that the header has for it and in one byte less, and its 62 brackets: a caterpillar of all images with
+ * costs of eight digits. A 63rd bracket is refused at its place, and one image more by their count.
+ */
+static void longest_newick(void) {
+    static uint32_t costs[KEMOTUIKI_ROWS];
+    static uint64_t fars[KEMOTUIKI_ROWS];
+    static char text[KEMOTUIKI_NEWICK_BYTES + 64];
+    const size_t n = KEMOTUIKI_IMAGES, rows = KEMOTUIKI_ROWS, used = KEMOTUIKI_NEWICK_BYTES;
+    size_t k = 0, length;
+    for (size_t i = 1; i < n; i++) {
+        fars[k++] = (uint64_t)1 << i;
+        if (i > 1) fars[k++] = (uint64_t)-1 >> (63 - i) & ~(uint64_t)1;
+    }
+    for (size_t i = 0; i < rows; i++) costs[i] = 2 * KEMOTUIKI_ENTRY_LIMIT;
+    EXPECT(KemotuikiBytes, write_newick, (n, rows, fars, rows, costs, rows, text, used - 1), KEMOTUIKI_NO_ROOM, 0, 0);
+    if (text[0]) fault("a byte was altered where there is too little room");
+    call_name = "the longest Newick text";
+    KemotuikiBytes r = kemotuiki_write_newick(n, rows, fars, rows, costs, rows, text, used);
+    if (r.number || r.used != used) fault("the room for Newick text is not what the header has");
+    hold_newick(n, rows, fars, costs, text, used);
+    EXPECT(KemotuikiTree, read_newick, (text, used - 1, fars, rows, costs, rows), KEMOTUIKI_OUTSIDE_PROFILE, used, 0);
+    EXPECT(KemotuikiTree, read_newick, (text, used, fars, rows - 1, costs, rows), KEMOTUIKI_NO_ROOM, 0, 0);
+    length = used - 2;
+    memcpy(text + length, ",65:1);", 7);
+    EXPECT(KemotuikiTree, read_newick, (text, length + 7, NULL, 0, NULL, 0), KEMOTUIKI_BAD_N, 65, 0);
+    for (length = 0, k = 0; k < 62; k++) length += (size_t)sprintf(text + length, k ? "(%d:1," : "(1:1,", 1 + (int)(k % 9));
+    text[length] = '(';
+    EXPECT(KemotuikiTree, read_newick, (text, length + 1, NULL, 0, NULL, 0), KEMOTUIKI_OUTSIDE_PROFILE, length + 1, 0);
+    text[length] = '9';
+    EXPECT(KemotuikiTree, read_newick, (text, length + 1, NULL, 0, NULL, 0), KEMOTUIKI_OUTSIDE_PROFILE, length + 2, 0);
+}
+
 /* ---- the text of an answer ---- */
 
 static const struct {
@@ -590,7 +743,14 @@ static const struct {
     {{17, 0, 4, 0, 0, 0}, "number above the old limits: row 4"},
     {{17, 0, 1, 5, 0, 0}, "number above the old limits: row and column 1 5"},
     {{17, 2, 125, 0, 0, 0}, "table 2: number above the old limits: row 125"},
-    {{18, 0, 0, 0, 0, 0}, "no such refusal: number 18"},
+    {{18, 0, 5, 0, 0, 0}, "outside the Newick profile: byte 5"},
+    {{18, 0, 1433, 0, 0, 0}, "outside the Newick profile: byte 1433"},
+    {{19, 0, 0, 0, 0, 0}, "no such refusal: number 19"},
+    {{20, 0, 0, 0, 0, 0}, "no such refusal: number 20"},
+    {{21, 0, 0, 0, 0, 0}, "no such refusal: number 21"},
+    {{22, 0, 10, 0, 0, 0}, "siblings out of order: byte 10"},
+    {{22, 2, 10, 0, 0, 0}, "table 2: siblings out of order: byte 10"},
+    {{23, 0, 0, 0, 0, 0}, "no such refusal: number 23"},
     {{SIZE_MAX, 0, 1, 2, 3, 4}, "no such refusal: number 18446744073709551615"},
 };
 
@@ -619,6 +779,8 @@ static int edges(void) {
     no_team();
     no_bytes();
     longest_tables();
+    newick_texts();
+    longest_newick();
     text_of_answers();
     return faults ? 1 : 0;
 }

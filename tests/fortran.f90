@@ -2,8 +2,9 @@
 !
 !   fortran DATA ANSWERS       writes to ANSWERS what crates/cases/stdout has for the exported calls. A case that cannot be said in
 !                              Fortran, such as a table with fewer entries than its n asks for, has the line "-" instead.
-!   fortran --by-hand VERSION  compares the version, the texts of all refusals, the room for each stored form, and what only Fortran
-!                              can say: tables by rows, tables of another shape, teams of rank 3, sections, and integers of either kind.
+!   fortran --by-hand VERSION  compares the version, the texts of all refusals, the room for each stored form and for Newick text, and
+!                              what only Fortran can say: tables by rows, tables of another shape, teams of rank 3, sections, integers
+!                              of either kind, and text in character variables.
 !
 ! What is wrong is printed; then the status is 1.
 
@@ -13,7 +14,7 @@ module case_text
     use kemotuiki, only: kemotuiki_answer, kemotuiki_images
     implicit none
     private
-    public :: number, small_number, fits, slice8, slice32, slice64, table, read_table, read_team, read_rows, can_be_said
+    public :: number, small_number, fits, slice8, slice32, slice64, slice_text, table, read_table, read_team, read_rows, can_be_said
     public :: put_answer, put, note_far_sides, fault, faults, answers, run
 
     integer, parameter :: line_room = 150000
@@ -22,7 +23,7 @@ module case_text
     integer :: at, answers, faults = 0
     logical :: can_be_said
     ! Of the call that is run: the numbers that were answered, and the accepted cases of 64 images with a negative far side.
-    logical :: answered(0:17)
+    logical :: answered(0:22)
     integer :: negative
 
     abstract interface
@@ -31,7 +32,7 @@ module case_text
     end interface
 
     interface put
-        procedure put8, put32, put64
+        procedure put8, put32, put64, put_text
     end interface
 
 contains
@@ -106,6 +107,18 @@ contains
     function slice8() result(elements)
         integer(int8), allocatable :: elements(:)
         elements = int(signed(slice64(), 8), int8)
+    end function
+
+    ! The bytes of a slice as text.
+    function slice_text() result(text)
+        character(:), allocatable :: text
+        integer(int64), allocatable :: bytes(:)
+        integer :: k
+        bytes = slice64()
+        allocate (character(size(bytes)) :: text)
+        do k = 1, size(bytes)
+            text(k:k) = char(int(bytes(k)))
+        end do
     end function
 
     ! A table of so many rows from its entries, row by row.
@@ -192,6 +205,12 @@ contains
         call put64(ibits(int(elements, int64), 0, 8))
     end subroutine
 
+    subroutine put_text(text)
+        character(*), intent(in) :: text
+        integer :: k
+        call put64([(int(ichar(text(k:k)), int64), k = 1, len(text))])
+    end subroutine
+
     ! The number, then the values of an accepted call, or the refusal's places, its table before them if the call takes several.
     subroutine put_answer(r, values, tables)
         class(kemotuiki_answer), intent(in) :: r
@@ -234,7 +253,7 @@ contains
         procedure(one_case) :: do_case
         integer, intent(in) :: refusals(:)
         logical, intent(in), optional :: far_sides
-        logical :: listed(0:17)
+        logical :: listed(0:22)
         integer :: cases, status
         call_name = name
         answered = .false.
@@ -262,7 +281,7 @@ contains
 end module
 
 ! One subroutine a call: the arguments from the line, then the answer and every lent output as it was left. A case of the exact reading
-! is read by both its engines, and what a conversion wrote is converted once more.
+! is read by both its engines, what a conversion wrote is converted once more, and a Newick text is read and written again.
 module case_calls
     use, intrinsic :: iso_fortran_env, only: int8, int32, int64
     use kemotuiki
@@ -310,6 +329,8 @@ contains
         call run('exact_grafted', do_exact_grafted, folder, [1, 2, 3, 4, 5, 6, 7], far_sides=.true.)
         call run('convert_costs', do_convert_costs, folder, [1, 3, 4, 9, 11, 17])
         call run('convert_links', do_convert_links, folder, [1, 3, 9, 10, 11, 12, 13, 17])
+        call run('write_newick', do_write_newick, folder, [1, 2, 3, 10, 12, 13], far_sides=.true.)
+        call run('read_newick', do_read_newick, folder, [1, 3, 12, 13, 18, 22], far_sides=.true.)
     end subroutine
 
     ! With a far side that is a default integer, where it can be one.
@@ -602,6 +623,59 @@ contains
         call put(out)
     end subroutine
 
+    subroutine do_write_newick()
+        type(kemotuiki_bytes_answer) :: r
+        integer(int64), allocatable :: fars(:)
+        integer(int32), allocatable :: costs(:)
+        character(:), allocatable :: out
+        integer :: n
+        call read_rows(n, fars, costs)
+        out = slice_text()
+        if (.not. can_be_said) return
+        r = kemotuiki_write_newick(n, fars, costs, out)
+        if (r%accepted()) call both_ways(n, fars, costs, out(:r%used))
+        call put_answer(r, [r%used])
+        call put(out)
+        call note_far_sides(r, n, fars)
+    end subroutine
+
+    subroutine do_read_newick()
+        type(kemotuiki_tree_answer) :: r
+        character(:), allocatable :: text
+        integer(int64), allocatable :: fars(:)
+        integer(int32), allocatable :: costs(:)
+        text = slice_text()
+        fars = slice64()
+        costs = slice32()
+        r = kemotuiki_read_newick(text, fars, costs)
+        if (r%accepted()) call both_ways(r%n, fars(:r%rows), costs(:r%rows), text)
+        call put_answer(r, [integer(int64) :: r%n, r%rows])
+        call put(fars)
+        call put(costs)
+        call note_far_sides(r, r%n, fars(:r%rows))
+    end subroutine
+
+    ! The rows are written as this text, and the text is read as these rows.
+    subroutine both_ways(n, fars, costs, text)
+        integer, intent(in) :: n
+        integer(int64), intent(in) :: fars(:)
+        integer(int32), intent(in) :: costs(:)
+        character(*), intent(in) :: text
+        type(kemotuiki_bytes_answer) :: written
+        type(kemotuiki_tree_answer) :: read_back
+        character(len(text)) :: text_again
+        integer(int64) :: fars_again(kemotuiki_rows)
+        integer(int32) :: costs_again(kemotuiki_rows)
+        logical :: same
+        text_again = ''
+        written = kemotuiki_write_newick(n, fars, costs, text_again)
+        if (written%used /= len(text) .or. text_again /= text) call fault('its rows are not written as the same text')
+        read_back = kemotuiki_read_newick(text, fars_again, costs_again)
+        same = read_back%accepted() .and. read_back%n == n .and. read_back%rows == size(fars)
+        if (same) same = all(fars_again(:size(fars)) == fars) .and. all(costs_again(:size(fars)) == costs)
+        if (.not. same) call fault('its text is not read as the same rows')
+    end subroutine
+
     subroutine do_choice()
         type(kemotuiki_choice_answer) :: r
         integer(int8), allocatable :: first(:), second(:)
@@ -643,6 +717,7 @@ contains
         call teams()
         call stored_in_a_corner()
         call stored_forms()
+        call newick_texts()
         call sections()
         faults = wrong
     end subroutine
@@ -679,7 +754,10 @@ contains
         call say(kemotuiki_bad_table_count, 0, [0, 0, 0, 0], 'no tables or more than sixteen')
         call say(kemotuiki_above_old_limits, 0, [4, 0, 0, 0], 'number above the old limits: row 4')
         call say(kemotuiki_above_old_limits, 2, [1, 5, 0, 0], 'table 2: number above the old limits: row and column 1 5')
-        call say(18, 0, [0, 0, 0, 0], 'no such refusal: number 18')
+        call say(kemotuiki_outside_profile, 0, [5, 0, 0, 0], 'outside the Newick profile: byte 5')
+        call say(19, 0, [0, 0, 0, 0], 'no such refusal: number 19')
+        call say(kemotuiki_siblings_out_of_order, 0, [10, 0, 0, 0], 'siblings out of order: byte 10')
+        call say(23, 0, [0, 0, 0, 0], 'no such refusal: number 23')
     end subroutine
 
     subroutine say(number, table, places, text)
@@ -827,6 +905,51 @@ contains
         r = kemotuiki_convert_costs(kemotuiki_old_form, other(:r%used), bytes)
         read_back = kemotuiki_read_costs(bytes, 0, back)
         call hold('and back to old', r%used == 39 .and. bytes(40) == 7 .and. read_back%used == 39 .and. all(back == star(6)))
+    end subroutine
+
+    ! The longest text, a caterpillar of all images with costs of eight digits, in just enough room and in one character less; a text in
+    ! a longer variable, which stays behind it; a trimmed one, and one with its blanks; no text; and texts that are refused.
+    subroutine newick_texts()
+        integer, parameter :: n = kemotuiki_images
+        character(kemotuiki_newick_bytes) :: long
+        character(30) :: text
+        integer(int64) :: fars(kemotuiki_rows)
+        integer :: costs(kemotuiki_rows), i
+        type(kemotuiki_bytes_answer) :: w
+        type(kemotuiki_tree_answer) :: r
+        fars(1) = 2
+        do i = 2, n - 1
+            fars(2 * i - 2) = ibset(0_int64, i)
+            fars(2 * i - 1) = ibclr(ishft(not(0_int64), i - n + 1), 0)
+        end do
+        costs = 2 * kemotuiki_entry_limit
+        long = '-'
+        w = kemotuiki_write_newick(n, fars, costs, long(2:))
+        call hold('the longest text in too little room', w%number == kemotuiki_no_room .and. long == '-')
+        w = kemotuiki_write_newick(n, fars, costs, long)
+        call hold('the longest text', w%accepted() .and. w%used == len(long) .and. long(:12) == '(1:16000000,' &
+                  .and. long(len(long) - 13:) == ',64:16000000);')
+        fars = 0
+        r = kemotuiki_read_newick(long, fars, costs)
+        call hold('the longest text read', r%n == n .and. r%rows == kemotuiki_rows .and. fars(3) == 6 .and. fars(125) == -2 &
+                  .and. all(costs == 16000000))
+        r = kemotuiki_read_newick(long, fars(:124), costs)
+        call hold('the longest text without room', r%number == kemotuiki_no_room)
+        text = repeat('-', len(text))
+        w = kemotuiki_write_newick(4, [integer(int64) :: 2, 4, 8, 12, 14], [2, 2, 2, 4, 2], text)
+        call hold('a text in a longer variable', w%used == 22 .and. text == '(1:2,2:2,(3:2,4:2):4);--------')
+        text(23:) = ''
+        r = kemotuiki_read_newick(trim(text), fars, costs)
+        call hold('a trimmed text', r%n == 4 .and. r%rows == 5 .and. all(fars(:5) == [2, 4, 8, 12, 14]) &
+                  .and. all(costs(:5) == [2, 2, 2, 4, 2]))
+        r = kemotuiki_read_newick(text, fars, costs)
+        call hold('a text with its blanks', r%number == kemotuiki_outside_profile .and. r%a == 23)
+        r = kemotuiki_read_newick('', fars, costs)
+        call hold('no text', r%number == kemotuiki_outside_profile .and. r%a == 1)
+        r = kemotuiki_read_newick('(1:02,2:2,3:2);', fars, costs)
+        call hold('a text outside the profile', r%text() == 'outside the Newick profile: byte 5')
+        r = kemotuiki_read_newick('(1:2,4:2,2:2,3:2);', fars, costs)
+        call hold('siblings out of order', r%text() == 'siblings out of order: byte 10' .and. r%rows == 0)
     end subroutine
 
     ! Every second element of larger arrays: 4 images in a star, whose four own links cost 2, doubled.
