@@ -2083,6 +2083,13 @@ def exchange(dice, vertices):
     siblings[at], siblings[at + 1] = siblings[at + 1], siblings[at]
 
 
+def turn_about(vertices):
+    """All siblings stand in descending order, image 1 apart."""
+    for siblings in all_brackets(vertices):
+        siblings.reverse()
+    vertices.insert(0, vertices.pop())
+
+
 def spoil_bytes(dice, text):
     """One byte is another one, missing, or put in; or the text ends early, or goes on."""
     at, put = dice.below(len(text)), text_bytes(dice.one_of("(),:; 01x"))
@@ -2121,7 +2128,7 @@ def changed_bytes(dice):
     for text in (law.NEWICK["A"], law.NEWICK["E"], "(1:10,(2:0,(3:16000000,5:1):7):3,4:20);", ten):
         for at in range(len(text)):
             changes = "(),:; 0" + dice.one_of("123456789") + ("/x\xb1\x00" if len(text) < 15 else "")
-            for change in changes if text != ten else dice.mixed(changes)[:3]:
+            for change in changes if text != ten else dice.mixed(changes)[:2]:
                 yield text_bytes(text[:at] + change + text[at + 1:])
 
 
@@ -2181,6 +2188,10 @@ def texts_out_of_order():
                  "(1:0,5:0,(4:0,3:0):1,(2:0,6:0):1);", "(1:0,(3:0,2:0):1,(5:0,4:0):1,6:0);",
                  "(1:0,(5:0,4:0):1,(3:0,2:0):1,6:0);", "(1:0,(2:0,3:0):1,(5:0,4:0):1,6:0);",
                  "(1:0,(2:0,9:0):1,(3:0,8:0):1,(4:0,7:0):1,(5:0,6:0):1);",
+                 "(1:0,4:0,(3:0,2:0):1);", "(1:0,5:0,(4:0,3:0):1,2:0);", "(1:0,2:0,(6:0,((5:0,4:0):1,3:0):1):1);",
+                 "(1:0,7:0,(2:0,(6:0,(5:0,(4:0,3:0):1):1):1):1);",
+                 "(1:0,9:0,((8:0,7:0):1,(6:0,5:0):1):1,(4:0,3:0):1,2:0);",
+                 "(1:0,(9:0,(8:0,7:0):1):1,(6:0,(5:0,4:0):1):1,(3:0,2:0):1);",
                  "(1:0,10:0,9:0,8:0,7:0,6:0,5:0,4:0,3:0,2:0);", "(1:0,2:0,3:0,4:0,5:0,6:0,7:0,8:0,10:0,9:0);"):
         yield text_bytes(text)
         # The same with a bad cost too, with a name too, and with a byte.
@@ -2276,8 +2287,8 @@ def read_newick_cases(dice):
             yield newick(vertices + [[2, 0]] * (65 - n)), [8] * needed, []
     for n in EVERY_SIZE:
         for spoil in (lambda vertices: rename(dice, n, vertices), lambda vertices: spoil_cost(dice, vertices),
-                      lambda vertices: exchange(dice, vertices)):
-            vertices = any_tree(dice, n, 9, "star" if n > 9 else None)
+                      lambda vertices: exchange(dice, vertices), turn_about):
+            vertices = any_tree(dice, n, 9, "star" if n > 9 and spoil is not turn_about else "uneven")
             spoil(vertices)
             yield with_few_places(newick(vertices))
 
