@@ -36,8 +36,8 @@ LONGEST_TEAM = 65600
 LONGEST_BYTES = 5900
 LONGEST_READ = 11800
 LARGEST_FILE = 400000
-LARGEST_ANSWERS = 1000000
-LARGEST_TOTAL = 4000000
+LARGEST_ANSWERS = 1100000
+LARGEST_TOTAL = 4400000
 FEWEST_CASES = 2500
 FEWEST_OF_EACH_REFUSAL = 8
 FEWEST_IN_EACH_FORM = 5
@@ -73,7 +73,13 @@ CALLS = {
     "exact_grafted": (law.exact_grafted, "n 32 64* 32*", (1, 2, 3, 4, 5, 6, 7)),
     "convert_costs": (law.convert_costs, "n 8 8*", (1, 3, 4, 9, 11, 17)),
     "convert_links": (law.convert_links, "n 8 8*", (1, 3, 9, 10, 11, 12, 13, 17)),
+    "write_newick": (law.write_newick, "n n 64 32 8*", (1, 2, 3, 10, 12, 13)),
+    "read_newick": (law.read_newick, "8 64* 32*", (1, 3, 12, 13, 18, 22)),
 }
+
+# With so many images each answer of the calls for Newick text is met, but for 18, which is found
+# before images are counted, for 1, and for 13 where a writer has three images.
+EVERY_SIZE = (3, 4, 5, 9, 33, 64)
 
 # Those that are told a form, and those that find it in the bytes. Every refusal of these calls
 # is met in both forms, but for those that one form alone has or that are about no one table.
@@ -1494,23 +1500,32 @@ def refusal_text_cases(dice):
     """Every number with a table and without one, in just enough room and in more; numbers that
     no refusal has; the longest text; and too little room."""
     enough = law.TEXT_BYTES
-    unknown = [18, 64, 99, 2 ** 32 + 7, 2 ** 63, 2 ** 64 - 1]
+    unknown = [64, 99, 2 ** 32 + 7, 2 ** 63, 2 ** 64 - 1]
 
     def bytes_of_text(length):
         """One digit a place, since there are many lines of these."""
         return [k % 10 for k in range(length)]
 
-    for number in list(range(18)) + unknown:
+    def texts_of(number):
         for table in (0, dice.one_of([1, 2, 10, 64, 500])):
             places_of = [dice.one_of([1, 2, 9, 10, 33, 64, 99, 100, 12345]) for _ in range(4)]
             yield (number, table, *places_of, bytes_of_text(dice.one_of([enough, enough, enough + 3])))
         yield number, 0, 0, 0, 0, 0, bytes_of_text(enough)
         yield (number, *[2 ** 64 - 1] * 5, bytes_of_text(enough))
         yield number, 3, 1, 2, 3, 5, byte_places(dice, dice.one_of([0, 1, 20, enough - 1, enough - 1]))
+
+    for number in list(range(19)) + unknown:
+        yield from texts_of(number)
     # Refusal 17 of a row alone, and of a row and a column; 12 beside a second place, which it has not.
     for number in (12, 17):
         for a, b in ((1, 0), (125, 0), (0, 0), (0, 3), (1, 2), (63, 64), (2 ** 64 - 1, 0), (2 ** 64 - 1, 1)):
             yield number, dice.one_of([0, 0, 2]), a, b, 0, 0, bytes_of_text(enough)
+    # The numbers beside 18 and 22, and each of the two with the place of a byte alone.
+    for number in (19, 20, 21, 22, 23):
+        yield from texts_of(number)
+    for number in (18, 22):
+        for a in (1, 5, 1432, 2 ** 64 - 1):
+            yield number, 0, a, 0, 0, 0, bytes_of_text(enough)
 
 
 # Teams: tables over the same images, joined
@@ -1993,6 +2008,333 @@ def convert_links_cases(dice):
     yield 0, new, [9] * 1314
 
 
+# Newick text
+
+def text_bytes(text):
+    return list(text.encode("latin-1"))
+
+
+def vertices_of(rows):
+    """What stands in the outermost brackets of these rows' text: for each vertex its image, or the
+    list of the vertices in its bracket, and its cost."""
+    fars, costs = sides_and_costs(rows)
+    uppers = law.upper_rows_of(fars)
+
+    def right_behind(row):
+        return [[right_behind(r) if law.ones(fars[r - 1]) > 1 else fars[r - 1].bit_length(), costs[r - 1]]
+                for r, upper in enumerate(uppers, 1) if upper == row]
+
+    return [[1, costs[-1]]] + right_behind(len(fars))
+
+
+def in_brackets(vertices):
+    return "(" + ",".join("%s:%s" % (in_brackets(inside) if isinstance(inside, list) else inside, cost)
+                          for inside, cost in vertices) + ")"
+
+
+def newick(vertices):
+    return text_bytes(in_brackets(vertices) + ";")
+
+
+def all_brackets(vertices):
+    """The lists of siblings, each once, the outermost first."""
+    found = [vertices]
+    for inside, _ in vertices:
+        found += all_brackets(inside) if isinstance(inside, list) else []
+    return found
+
+
+def all_vertices(vertices):
+    """Image 1 is the first."""
+    return [vertex for siblings in all_brackets(vertices) for vertex in siblings]
+
+
+def any_tree(dice, n, most=9, shape=None):
+    return vertices_of(tree_rows(dice, n, shape or law.random_shape(dice), most, even=False))
+
+
+def on_a_chain(n, cost=0):
+    """Images 1 to n one behind another, a bracket for each but the last two."""
+    inside = [[n - 1, cost], [n, cost]]
+    for image in range(n - 2, 1, -1):
+        inside = [[image, cost], [inside, 1]]
+    return [[1, cost]] + inside
+
+
+def rename(dice, n, vertices):
+    """One image but the first has another's name, 1, or one that no image has."""
+    vertex = dice.one_of([vertex for vertex in all_vertices(vertices)[1:] if not isinstance(vertex[0], list)])
+    names = [1, n + 1, dice.between(65, 99)] + [image for image in range(2, n + 1) if image != vertex[0]][:2]
+    vertex[0] = dice.one_of([name for name in names if name < 100])
+
+
+def spoil_cost(dice, vertices):
+    """One cost is above the limit, or 0 behind a bracket."""
+    vertex = dice.one_of(all_vertices(vertices))
+    vertex[1] = dice.one_of([16000001, 16000001, 16777216, 20000000, 99999999])
+    if isinstance(vertex[0], list) and dice.chance(2, 3):
+        vertex[1] = 0
+
+
+def exchange(dice, vertices):
+    """Two siblings that stand side by side are exchanged, image 1 apart."""
+    siblings = dice.one_of([vertices, dice.one_of(all_brackets(vertices))])
+    at = dice.between(1 if siblings is vertices else 0, len(siblings) - 2)
+    siblings[at], siblings[at + 1] = siblings[at + 1], siblings[at]
+
+
+def turn_about(vertices):
+    """All siblings stand in descending order, image 1 apart."""
+    for siblings in all_brackets(vertices):
+        siblings.reverse()
+    vertices.insert(0, vertices.pop())
+
+
+def spoil_bytes(dice, text):
+    """One byte is another one, missing, or put in; or the text ends early, or goes on."""
+    at, put = dice.below(len(text)), text_bytes(dice.one_of("(),:; 01x"))
+    return dice.one_of([text[:at] + put + text[at + 1:], text[:at] + text[at + 1:], text[:at] + put + text[at:],
+                        text[:at], text + put])
+
+
+def damaged_newick(dice, n, faults):
+    """A text with these faults, and the n that room is made for."""
+    vertices = any_tree(dice, n, dice.one_of([1, 9, 300]))
+    for _ in range(dice.between(1, 2)):
+        if "order" in faults:
+            exchange(dice, vertices)
+        if "cost" in faults:
+            spoil_cost(dice, vertices)
+        if "name" in faults:
+            rename(dice, n, vertices)
+    if "n" in faults:
+        images = dice.one_of([65, 65, 66, 67, 80])
+        vertices += [[dice.between(2, 9), 0] for _ in range(images - n)]
+    text = newick(vertices)
+    return (spoil_bytes(dice, text) if "profile" in faults else text), n
+
+
+def with_few_places(text):
+    """The case of this text, with just enough room where room matters and a place else."""
+    few = law.read_newick(text, [], [])[0] in (1, 18)
+    needed = 1 if few else 2 * (text.count(ord(",")) + 1) - 3
+    return text, [8] * needed, [7] * needed
+
+
+def changed_bytes(dice):
+    """Each byte of some texts is changed to each of the profile's marks, to a blank, to 0 and to
+    another digit; in the first to bytes too that no text has, in the last to some of all these."""
+    ten = "(1:0,2:12,3:0,4:7,5:0,(6:0,10:0):3,7:0,8:9,9:0);"
+    for text in (law.NEWICK["A"], law.NEWICK["E"], "(1:10,(2:0,(3:16000000,5:1):7):3,4:20);", ten):
+        for at in range(len(text)):
+            changes = "(),:; 0" + dice.one_of("123456789") + ("/x\xb1\x00" if len(text) < 15 else "")
+            for change in changes if text != ten else dice.mixed(changes)[:2]:
+                yield text_bytes(text[:at] + change + text[at + 1:])
+
+
+def ended_texts():
+    """Texts that end at every byte, and others with something behind."""
+    for text in (law.NEWICK["E"], "(1:10,(10:0,16:16000000):20,9:0);"):
+        for end in range(len(text)):
+            yield text_bytes(text[:end])
+    for name in ("A", "H"):
+        for behind in ("\n", " ", "\r\n", ";", "(", ")", "0", "\x00", "\xff", law.NEWICK["A"]):
+            yield text_bytes(law.NEWICK[name] + behind)
+    yield text_bytes(" " + law.NEWICK["A"])
+
+
+def numbers_in_texts():
+    """Costs and images of every length, with zeros and signs in front; at the first vertex, at an
+    image and behind a bracket."""
+    for cost in ("0", "00", "01", "000", "1", "10", "9999999", "10000000", "15999999", "16000000", "16000001",
+                 "16777216", "020", "99999999", "100000000", "160000000", "999999999", "4294967297", "+1", "-1",
+                 "1.0", "1e3", ""):
+        for text in ("(1:%s,2:0,(3:0,4:0):1);", "(1:0,2:%s,3:0);", "(1:0,2:0,(3:0,4:0):%s);", "(1:0,2:0,3:%s);"):
+            yield text_bytes(text % cost)
+    names = ["0", "00", "01", "02", "1", "10", "3", "4", "9", "20", "64", "100", "002", "+2", "x", ""]
+    for name in names + list(range(65, 100)):
+        yield text_bytes("(1:0,%s:0,3:0);" % name)
+    for name in ("0", "01", "10", "2", "11", "x", ""):
+        yield text_bytes("(%s:0,2:0,3:0);" % name)
+        yield text_bytes("(1:0,2:0,(%s:0,4:0):1);" % name)
+
+
+def shapes_of_texts():
+    """Brackets with too few vertices, empty ones, without a cost, and around all; what else is Newick
+    text elsewhere; and 1 in other places, or again."""
+    for text in ("();", "(1);", "(1:0);", "(1:0,2:0);", "(1:0,(2:0,3:0):1);", "(1:0,(2:0):1,3:0);",
+                 "(1:0,((2:0,3:0):1):1,4:0);", "(1:0,():1,3:0);", "(1:0,2:0,3:0):0;", "(1:0,2:0,3:0)0;",
+                 "((1:0,2:0,3:0):0);", "((1:0,2:0):1,3:0,4:0);", "(1:0,2:0,(3:0,4:0));", "(1:0,2:0,(3:0,4:0)5:1);",
+                 "(1:0,2,3:0);", "(1,2,3);", "(1:0,,2:0,3:0);", "(1:0,2:0,3:0,);", "(,1:0,2:0,3:0);", ";", "1:0;",
+                 "1;", "(2:0,1:0,3:0);", "(2:0,3:0,4:0);", "(1:0,2:0,1:0);", "(1:0,1:0,1:0);",
+                 "(1:0,(1:0,2:0):1,3:0);", "(1:0,2:0,(3:0,1:0):1);", "(1:0,2:0,(1:0,1:0):1,4:0);",
+                 "[x](1:0,2:0,3:0);", "(1:0,2:0,3:0)", "(1:0,2:0,(3:0,4:0):1;", "(1:0,2:0,3:0));",
+                 "(11:0,2:0,3:0);", "(1:0,'2':0,3:0);"):
+        yield text_bytes(text)
+    for names in ((2, 2), (3, 3), (4, 4), (3, 2), (1, 2), (2, 1), (99, 99), (64, 2), (33, 3)):
+        yield text_bytes("(1:0,%d:0,%d:0);" % names)
+        yield text_bytes("(1:0,2:0,(%d:0,%d:0):1,5:0);" % names)
+
+
+def texts_out_of_order():
+    """Siblings exchanged at every depth, at one place and at several: the first in the text counts,
+    also where a bracket that begins before it ends behind it."""
+    for text in ("(1:0,3:0,2:0);", "(1:0,2:0,4:0,3:0);", "(1:0,4:0,3:0,2:0);", "(1:0,3:0,2:0,4:0);",
+                 "(1:0,2:0,(4:0,3:0):1);", "(1:0,(4:0,3:0):1,2:0);", "(1:0,(3:0,4:0):1,2:0);",
+                 "(1:0,(2:0,4:0):1,3:0);", "(1:0,3:0,(2:0,4:0):1);", "(1:0,(2:0,(5:0,4:0):1):1,3:0);",
+                 "(1:0,2:0,((5:0,4:0):1,3:0):1,6:0);", "(1:0,6:0,((5:0,4:0):1,3:0):1,2:0);",
+                 "(1:0,2:0,(3:0,(4:0,(6:0,5:0):1):1):1);", "(1:0,2:0,(3:0,((6:0,5:0):1,4:0):1):1);",
+                 "(1:0,2:0,(((5:0,6:0):1,4:0):1,3:0):1);", "(1:0,(((6:0,5:0):1,4:0):1,3:0):1,2:0);",
+                 "(1:0,5:0,(4:0,3:0):1,(2:0,6:0):1);", "(1:0,(3:0,2:0):1,(5:0,4:0):1,6:0);",
+                 "(1:0,(5:0,4:0):1,(3:0,2:0):1,6:0);", "(1:0,(2:0,3:0):1,(5:0,4:0):1,6:0);",
+                 "(1:0,(2:0,9:0):1,(3:0,8:0):1,(4:0,7:0):1,(5:0,6:0):1);",
+                 "(1:0,4:0,(3:0,2:0):1);", "(1:0,5:0,(4:0,3:0):1,2:0);", "(1:0,2:0,(6:0,((5:0,4:0):1,3:0):1):1);",
+                 "(1:0,7:0,(2:0,(6:0,(5:0,(4:0,3:0):1):1):1):1);",
+                 "(1:0,9:0,((8:0,7:0):1,(6:0,5:0):1):1,(4:0,3:0):1,2:0);",
+                 "(1:0,(9:0,(8:0,7:0):1):1,(6:0,(5:0,4:0):1):1,(3:0,2:0):1);",
+                 "(1:0,10:0,9:0,8:0,7:0,6:0,5:0,4:0,3:0,2:0);", "(1:0,2:0,3:0,4:0,5:0,6:0,7:0,8:0,10:0,9:0);"):
+        yield text_bytes(text)
+        # The same with a bad cost too, with a name too, and with a byte.
+        yield text_bytes(text.replace("):1", "):0"))
+        yield text_bytes(text.replace("2:0", "2:16000001"))
+        yield text_bytes(text.replace("2:0", "3:16000001"))
+        yield text_bytes(text.replace("2:0", "3:16000001").replace(";", "; "))
+
+
+def deep_texts(dice):
+    """62 brackets open at once, and 63; 64 images, and 65; with the largest costs, or the least."""
+    for n in (63, 64):
+        yield newick(on_a_chain(n))
+    yield newick(on_a_chain(64, 16000000))
+    for n in (65, 66):
+        yield newick(on_a_chain(n))
+    deep = in_brackets(on_a_chain(64))
+    # Behind the 62nd bracket: another one, too early an end, an image more, and each mark.
+    at = deep.index("63:0")
+    for put in ("(", "(63:0,64:0):1", "63:0)", "65:0,", ""):
+        yield text_bytes(deep[:at] + put)
+    yield text_bytes(deep[:at] + "65:0," + deep[at:] + ";")
+    yield text_bytes("(" * 70)
+    # A bracket is closed, and another one opened at the same depth, which takes more than 64 images;
+    # then one too many.
+    deep = "(1:0," + "(2:0," * 60
+    for put in ("(4:0,5:0):1,(6:0,7:0):1", "(4:0,5:0):1,((6:0,7:0):1,8:0):1"):
+        yield text_bytes(deep + put + "):1" * 60 + ",3:0);")
+    # One place that is wrong, where the brackets are deepest and elsewhere: siblings exchanged, a name, a
+    # cost, a byte; then two.
+    for first, then in (("63:0,64:0>64:0,63:0", ""), ("64:0>33:0", ""), ("64:0>65:0", ""), ("64:0>64:16000001", ""),
+                        ("1:0,2>1:16000001,2", ""), ("64:0):1>64:0):0", ""), ("(33:0>(34:0", ""), (";>; ", ""),
+                        ("63:0,64:0>64:0,63:0", "0):1)>0):0)"), ("64:0>2:0", "1:0,2>1:16000001,2"),
+                        ("64:0>64:16000001", ";>")):
+        text = in_brackets(on_a_chain(64)) + ";"
+        for change in (first, then) if then else (first,):
+            old, new = change.split(">")
+            assert old in text
+            text = text.replace(old, new)
+        yield text_bytes(text)
+    for n in (33, 64):
+        vertices = any_tree(dice, n, 9, "uneven")
+        yield newick(vertices)
+        exchange(dice, vertices)
+        yield newick(vertices)
+
+
+def many_images():
+    """More than 64 images: named twice, out of order, with bad costs, and with bytes behind. With
+    320 of them a count of 8 bits is 64."""
+    for images in (65, 66, 80, 100, 127, 128, 320):
+        yield newick([[1, 0]] + [[2 + k % 8, 0] for k in range(images - 1)])
+    yield newick([[1, 16000001]] + [[image, 0] for image in range(65, 1, -1)])
+    yield newick([[1, 0], [[[2, 0]] * 63, 0], [3, 0]])
+    yield newick([[1, 0]] + [[2, 0]] * 64) + [10]
+    yield newick([[1, 0]] + [[2, 0]] * 64)[:-1]
+
+
+def read_newick_cases(dice):
+    def outputs(n, short):
+        room1, room2 = two_rooms(dice, 2 * n - 3, short)
+        return far_places(dice, room1), places(dice, room2)
+
+    yield [], [], []
+    for n, rows in links(dice, 30):
+        yield (newick(vertices_of(rows)),) + outputs(n, False)
+    kinds = ["profile", "n", "room", "name", "cost", "order"]
+    for faults in fault_sets(dice, kinds, 8, 60):
+        # More than 64 images make long lines, so few of them stand behind other bytes.
+        faults = faults - {"n"} if "profile" in faults and dice.chance(2, 3) else faults
+        text, n = damaged_newick(dice, damaged_n(dice), faults)
+        if faults & {"profile", "n"}:
+            yield text, [8] * dice.below(6), [7] * dice.below(6)
+        else:
+            yield (text,) + outputs(n, "room" in faults)
+    for texts in (changed_bytes(dice), ended_texts(), numbers_in_texts(), shapes_of_texts(), texts_out_of_order(),
+                  deep_texts(dice), many_images()):
+        for text in texts:
+            yield with_few_places(text)
+    # Room in each output: just enough, one less, more; where all is well, where something is wrong
+    # behind room, and where 18 or 1 comes before it.
+    for n in EVERY_SIZE:
+        vertices = any_tree(dice, n, 9, "star" if n > 9 else "uneven")
+        needed = 2 * n - 3
+        text = newick(vertices)
+        for more, more2 in ((0, 0), (-1, 0), (0, -1), (1, 2), (-needed, -needed)):
+            yield text, [8] * (needed + more), [7] * (needed + more2)
+        vertices[-1][:] = 99, 16000001
+        for wrong in (newick(vertices), text[:-1]):
+            yield wrong, [8] * needed, [7] * (needed - 1)
+            yield wrong, [], []
+        if n in (3, 64):
+            yield newick(vertices + [[2, 0]] * (65 - n)), [8] * needed, []
+    for n in EVERY_SIZE:
+        for spoil in (lambda vertices: rename(dice, n, vertices), lambda vertices: spoil_cost(dice, vertices),
+                      lambda vertices: exchange(dice, vertices), turn_about):
+            vertices = any_tree(dice, n, 9, "star" if n > 9 and spoil is not turn_about else "uneven")
+            spoil(vertices)
+            yield with_few_places(newick(vertices))
+
+
+def needed_text(table):
+    """The bytes that the writer of this table needs, or few where it is refused."""
+    answer = law.write_newick(*table, [0] * LONGEST_BYTES)
+    return answer[1] if answer[0] == 0 else 6
+
+
+def write_newick_cases(dice):
+    kinds = ["n", "count", "length", "row", "own", "room"]
+    for n, table, faults in link_tables(dice, 40, kinds, 7, 60):
+        yield table + (byte_places(dice, room(dice, needed_text(table), "room" in faults)),)
+    for n in EVERY_SIZE + (9, 12):
+        rows = tree_rows(dice, n, "star" if n > 12 else "uneven", 300, even=False)
+        table = (n, len(rows)) + sides_and_costs(rows)
+        for more in (-1, 0, 1):
+            yield table + ([9] * (needed_text(table) + more),)
+    # Costs of every number of digits, at the first row, at the last, and at an inner one.
+    fars = [2, 4, 8, 12, 14]
+    for cost in [10 ** digits - less for digits in range(8) for less in (1, 0)] + [15999999, 16000000, 16000001]:
+        for row in (0, 3, 4):
+            costs = [1] * 5
+            costs[row] = cost
+            yield 4, 5, fars, costs, byte_places(dice, needed_text((4, 5, fars, costs)))
+    # Many images: bad rows, lost own links, and too little room, with each fault before it.
+    for n in (5, 9, 33, 64):
+        rows = tree_rows(dice, n, "caterpillar", 9, even=False)
+        fars, costs = sides_and_costs(rows)
+        for row in (0, len(rows) - 1):
+            spoilt = list(costs)
+            spoilt[row] = 16000001
+            yield n, len(rows), fars, spoilt, [9] * 3
+        inner = [row for row, far in enumerate(fars) if is_inner(n, far)]
+        yield n, len(rows), fars, [0 if row == inner[-1] else cost for row, cost in enumerate(costs)], []
+        lost = [row for row in rows if row[0] != own_link(n, n)]
+        yield (n, len(lost)) + sides_and_costs(lost) + ([9] * 3,)
+    # The longest text, with just enough room, and one byte less.
+    fars = law.tree_far_sides(dice, 64, "caterpillar")
+    for needed in (1432, 1431):
+        yield 64, len(fars), fars, [16000000] * len(fars), [9] * needed
+    rows = sorted(tree_rows(dice, 64, "uneven", 15999999, even=False))
+    yield (64, len(rows)) + sides_and_costs(rows) + ([9] * 1432,)
+
+
 CASES = {
     "index": index_cases,
     "order": order_cases,
@@ -2018,6 +2360,8 @@ CASES = {
     "exact_grafted": grafted_cases,
     "convert_costs": convert_costs_cases,
     "convert_links": convert_links_cases,
+    "write_newick": write_newick_cases,
+    "read_newick": read_newick_cases,
 }
 
 
@@ -2104,7 +2448,7 @@ def form_met(name, arguments, answer):
 
 def make():
     """All files by name, and what was made of each call."""
-    files, report, answers, signs, tests = {}, [], [], set(), set()
+    files, report, answers, signs, tests, sizes = {}, [], [], set(), set(), set()
     for seed, name in enumerate(CALLS, 1):
         inputs, seen, refusals, behind, by_table, by_form = [], set(), {}, {}, set(), {}
         answers.append(name)
@@ -2129,6 +2473,10 @@ def make():
                 signs.add((arguments[0], (answer[1] > 0) - (answer[1] < 0)))
             if name == "exact_grafted" and answer[0] == 7:
                 tests.add((arguments[0], failing_test(*arguments[:2])))
+            if name == "write_newick":
+                sizes.add((name, answer[0], arguments[0]))
+            if name == "read_newick":
+                sizes.add((name, answer[0], arguments[0].count(ord(",")) + 1))
             if name in OVER_SEVERAL_TABLES and answer[0] != 0:
                 by_table.add(answer[:2])
         for number in CALLS[name][2]:
@@ -2146,6 +2494,10 @@ def make():
         report.append((name, len(inputs), refusals))
     assert signs >= {(n, sign) for n in EVERY_SIGN for sign in (-1, 0, 1)}, signs
     assert tests >= {(n, test) for n in EVERY_TEST for test in ((2, -1), (n - 1, -1), (n - 1, n - 2))}, tests
+    for n in EVERY_SIZE:
+        met = [("write_newick", number, n) for number in ((0, 3, 12, 13) if n > 3 else (0, 3, 12))]
+        met += [("read_newick", number, n) for number in (0, 3, 12, 13, 22)]
+        assert sizes >= set(met), (n, set(met) - sizes)
     assert max(map(len, files.values())) <= LARGEST_FILE, {f: len(t) for f, t in files.items()}
     files["crates/cases/stdout"] = "".join(line + "\n" for line in answers).encode()
     assert len(files["crates/cases/stdout"]) <= LARGEST_ANSWERS, len(files["crates/cases/stdout"])

@@ -1,7 +1,7 @@
 #!/usr/bin/env python3
 """Every public call of document 01, and of document 02 the links that a team shares,
-the far end of the listing, the second engine of the exact reading, and the larger costs
-with the new stored forms, written from their definitions.
+the far end of the listing, the second engine of the exact reading, the larger costs
+with the new stored forms, and trees as Newick text, written from their definitions.
 
 Nothing here is taken from the crates: the words, the orders of checks and the
 numbers are the documents', and where they leave a point open, the decision noted
@@ -20,13 +20,14 @@ writes into. A refused call alters no list.
 
 runs the settled examples of document 01, checks of demands 2 and 3 on tables drawn
 from a fixed seed, and what document 02 says of the links that a team shares, of the
-far end, of the second engine, which answers as the first on every table tried, and of
-the two stored forms and the conversions between them.
+far end, of the second engine, which answers as the first on every table tried, of the
+two stored forms and the conversions between them, and of Newick text.
 """
 
 import functools
 import itertools
 import operator
+import re
 import sys
 from collections import namedtuple
 from fractions import Fraction
@@ -37,6 +38,10 @@ if not __debug__:
 MOST_ENTRY = 8000000
 MOST_COST = 16000000
 MOST_TABLES = 16
+
+# Newick text: brackets open at once, and the digits of a cost.
+MOST_OPEN = 62
+MOST_DIGITS = 8
 
 # A stored form: the bits in front of n, the bits and the limit of an entry, and those of a
 # doubled cost. The limits of the new form are those of every table.
@@ -598,6 +603,115 @@ def cost_table_in(stored, room):
     return n, t, used
 
 
+# Newick text
+
+# A vertex as it stands in a text: the place of its first byte, from 1, the images behind it in the
+# order in which they are named, the vertices in its bracket, none for an image, and its cost.
+Vertex = namedtuple("Vertex", "place images inside cost")
+
+
+def newick_text(fars, costs):
+    """The text of a link table. A row is a vertex of it: an image, or a bracket around the rows
+    whose upper row it is. The last row is image 1's own link; behind it is the root."""
+    uppers = upper_rows_of(fars)
+
+    def right_behind(row):
+        return [vertex(other) for other, upper in enumerate(uppers, 1) if upper == row]
+
+    def vertex(row):
+        far, cost = fars[row - 1], costs[row - 1]
+        name = str(far.bit_length()) if ones(far) == 1 else bracket(right_behind(row))
+        return "%s:%d" % (name, cost)
+
+    def bracket(vertices):
+        return "(" + ",".join(vertices) + ")"
+
+    return bracket(["1:%d" % costs[-1]] + right_behind(len(fars))) + ";"
+
+
+class NewickReader:
+    """Goes through a text from its first byte to its last, and takes each as soon as it is
+    known that some text of the profile goes on with it; 18 where none does."""
+
+    def __init__(self, text):
+        self.text = text
+        self.taken = 0
+
+    def sees(self, wanted):
+        """Is the next byte one of these?"""
+        return self.taken < len(self.text) and chr(self.text[self.taken]) in wanted
+
+    def take(self, wanted):
+        """The next byte, which must be one of these."""
+        if not self.sees(wanted):
+            refuse(18, self.taken + 1)
+        self.taken += 1
+        return chr(self.text[self.taken - 1])
+
+    def image(self):
+        digits = self.take("123456789")
+        if self.sees("0123456789"):
+            digits += self.take("0123456789")
+        return int(digits)
+
+    def cost(self):
+        self.take(":")
+        digits = self.take("0123456789")
+        while digits != "0" and len(digits) < MOST_DIGITS and self.sees("0123456789"):
+            digits += self.take("0123456789")
+        return int(digits)
+
+    def vertex(self, now_open):
+        """An image or, where one more may be open, a bracket of two vertices or more."""
+        place = self.taken + 1
+        if now_open < MOST_OPEN and self.sees("("):
+            self.take("(")
+            inside = self.rest_of_bracket([self.vertex(now_open + 1)], 2, now_open + 1)
+            images = [image for vertex in inside for image in vertex.images]
+        else:
+            inside, images = [], [self.image()]
+        return Vertex(place, images, inside, self.cost())
+
+    def rest_of_bracket(self, vertices, fewest, now_open):
+        """The vertices of a bracket from the first on, which was read; there are so many or more."""
+        while self.take(",)" if len(vertices) >= fewest else ",") == ",":
+            vertices.append(self.vertex(now_open))
+        return vertices
+
+    def root(self):
+        """The vertices of the outermost bracket, image 1 the first of them; nothing stands behind."""
+        self.take("(")
+        self.take("1")
+        vertices = self.rest_of_bracket([Vertex(2, [1], [], self.cost())], 3, 1)
+        self.take(";")
+        if self.taken < len(self.text):
+            refuse(18, self.taken + 1)
+        return vertices
+
+
+def far_side_of(n, vertex):
+    """The far side of the row that this vertex is; of image 1 it is its own link's."""
+    return own_link(n, 1) if vertex.images == [1] else sum(2 ** (image - 1) for image in vertex.images)
+
+
+def rows_behind(n, vertices):
+    """Far sides and costs of these vertices and of all that stand in their brackets."""
+    rows = []
+    for vertex in vertices:
+        rows.append((far_side_of(n, vertex), vertex.cost))
+        rows += rows_behind(n, vertex.inside)
+    return rows
+
+
+def places_out_of_order(n, vertices):
+    """The places of all siblings whose far side is below that of the one before."""
+    found = [after.place for before, after in zip(vertices, vertices[1:])
+             if far_side_of(n, after) < far_side_of(n, before)]
+    for vertex in vertices:
+        found += places_out_of_order(n, vertex.inside)
+    return found
+
+
 # The public calls
 
 @call
@@ -799,6 +913,37 @@ def read_links(stored, position, fars, costs):
     return 0, n, len(found), used
 
 
+@call
+def write_newick(n, count, fars, costs, out):
+    check_n(n)
+    check_count(n, count)
+    check_both_lengths(count, fars, costs)
+    check_rows(n, fars, costs)
+    return written(list(newick_text(fars, costs).encode("ascii")), out)
+
+
+@call
+def read_newick(text, fars, costs):
+    vertices = NewickReader(text).root()
+    names = [image for vertex in vertices for image in vertex.images]
+    n = len(names)
+    check_n(n)
+    check_room(fars, 2 * n - 3)
+    check_room(costs, 2 * n - 3)
+    for image in range(1, n + 1):
+        if image not in names:
+            refuse(13, image)
+    rows = sorted(rows_behind(n, vertices))
+    found, found_costs = [far for far, _ in rows], [cost for _, cost in rows]
+    check_rows(n, found, found_costs)
+    places = places_out_of_order(n, vertices[1:])
+    if places:
+        refuse(22, min(places))
+    fars[:len(found)] = found
+    costs[:len(found)] = found_costs
+    return 0, n, len(found)
+
+
 # What each number says, and what its places are called; the number of places is that of the
 # letters behind it. Refusal 12 has no place where the index call gives it, and refusal 17 a
 # row alone where it is about a link table.
@@ -821,6 +966,8 @@ SAYINGS = {
     15: ("stored tables of different n", None, ""),
     16: ("no tables or more than sixteen", None, ""),
     17: ("number above the old limits", "row and column", "ab"),
+    18: ("outside the Newick profile", "byte", "a"),
+    22: ("siblings out of order", "byte", "a"),
 }
 TEXT_BYTES = 192
 
@@ -1162,6 +1309,14 @@ STORED_A_LINKS_NEW = [0xFE, 0x0C, 0x1A, 0x00, 0x00, 0x03, 0x00, 0x00, 0x00, 0xE0
 
 # Numbers that a writer may be told for the form.
 FORM_NUMBERS = (0, 1, 2, 127, 2 ** 63, 2 ** 64 - 1)
+
+NEWICK = {
+    "A": "(1:1,2:1,3:1);",
+    "B": "(1:0,2:0,3:0);",
+    "E": "(1:2,2:2,(3:2,4:2):4);",
+    "G": "(1:2,2:2,3:2,4:2);",
+    "H": "(1:8,3:2,(2:36,((4:2,5:14):42,(6:48,7:12):18):32):12);",
+}
 
 LISTING_A = "images 3 rows 3\n2 1 3\n4 1 3\n6 1 0\norder 1 3 2\n"
 LISTING_A_LAST_N = "images 3 rows 3\n2 1 3\n4 1 3\n6 1 0\norder 1 2 3\n"
@@ -1909,6 +2064,215 @@ def test_engines(dice):
             engines_agree(n, moved_entries(dice, n, t, 1))
 
 
+def newick_rows(text):
+    """Rows that the reader of Newick text answers, or its refusal; the text is a string. Just
+    enough room gives the same as more, which keeps its ends; one place less in either output is 3,
+    which comes behind 18 and 1 and before all else."""
+    text = list(text.encode("latin-1"))
+    fars, costs = [5] * 126, [6] * 126
+    answer = read_newick(text, fars, costs)
+    count = answer[2] if answer[0] == 0 else 0
+    assert fars[count:] == [5] * (126 - count) and costs[count:] == [6] * (126 - count)
+    if answer[0] != 0:
+        assert read_newick(text, [], []) == (answer if answer[0] in (1, 18) else (3, 0, 0, 0, 0))
+        return answer
+    room = 2 * answer[1] - 3
+    assert read_newick(text, [0] * room, [0] * room) == answer
+    for short, shorter in ((room - 1, room), (room, room - 1), (0, 0)):
+        assert read_newick(text, [0] * short, [0] * shorter) == (3, 0, 0, 0, 0)
+    return list(zip(fars[:count], costs[:count]))
+
+
+def newick_of(n, rows):
+    """The text that the writer gives, as a string. Just enough room gives the same as more, which
+    keeps its end; one byte less is 3."""
+    fars, costs, out = [far for far, _ in rows], [cost for _, cost in rows], [77] * 1500
+    refused, used = write_newick(n, len(rows), fars, costs, out)
+    assert refused == 0 and out[used:] == [77] * (1500 - used)
+    again = [78] * used
+    assert write_newick(n, len(rows), fars, costs, again) == (0, used) and again == out[:used]
+    assert write_newick(n, len(rows), fars, costs, again[1:]) == (3, 0, 0, 0, 0)
+    return bytes(again).decode("ascii")
+
+
+def test_newick_examples():
+    for name, text in NEWICK.items():
+        n, rows = EXAMPLES[name][0], MEASURED[name]
+        assert newick_of(n, rows) == text and newick_rows(text) == rows
+    fars, costs = [2, 4, 6], [1, 1, 1]
+    for n in (0, 2, 65, 2 ** 64 - 1):
+        assert write_newick(n, 2, [], [1], []) == (1, n, 0, 0, 0)
+    for count in (0, 2, 4, 2 ** 64 - 1):
+        assert write_newick(3, count, fars, [], []) == (10, count, 0, 0, 0)
+    assert write_newick(3, 3, [2, 4, 7], [1, 1], []) == (2, 0, 0, 0, 0)
+    assert write_newick(3, 3, [2, 4, 7], costs, []) == (12, 3, 0, 0, 0)
+    assert write_newick(4, 4, [2, 4, 12, 14], [1, MOST_COST, 1, 1], []) == (13, 4, 0, 0, 0)
+    assert write_newick(4, 4, [2, 4, 12, 14], [1, MOST_COST, 0, 1], []) == (12, 3, 0, 0, 0)
+    assert write_newick(3, 3, fars, [1, MOST_COST + 1, 1], []) == (12, 2, 0, 0, 0)
+    assert write_newick(3, 3, fars, costs, [0] * 13) == (3, 0, 0, 0, 0)
+    # Four images: every table that there is has a text of its own.
+    texts = set()
+    for chosen in range(128):
+        rows = [(2 * far, 1) for far in range(1, 8) if chosen >> (far - 1) & 1]
+        if is_link_table(4, rows):
+            texts.add(newick_of(4, rows))
+            assert newick_rows(newick_of(4, rows)) == rows
+    assert len(texts) == 4
+
+
+def test_newick_refusals():
+    """What is said of single texts in the documents and the decisions on them."""
+    deep = "".join("(%d:0," % image for image in range(1, 63))
+    wide = ",".join("2:0" for _ in range(63))
+    for text, refused in (
+            ("", (18, 1)), ("(", (18, 2)), ("(2:0", (18, 2)), ("((1:0", (18, 2)), ("(10:", (18, 3)),
+            ("(1,", (18, 3)), ("(1:00", (18, 5)), ("(1:01", (18, 5)), ("(1:0,0", (18, 6)), ("(1:0,02", (18, 6)),
+            ("(1:0,100:", (18, 8)), ("(1:0,65:123456789", (18, 17)), ("(1:0,(2:0)", (18, 10)),
+            ("(1:0,2:0)", (18, 9)), ("(1:0,)", (18, 6)), ("(1:0,2:0,3:0):0;", (18, 14)),
+            ("(1:0,2:0,3:0)", (18, 14)), ("(1:0,2:0,3:0);\n", (18, 15)), ("(1:0,2:0,3:0);(", (18, 15)),
+            ("(1:0, 2:0,3:0);", (18, 6)), ("(1:0,2:0,(3:0,4:0));", (18, 19)), ("(1:+1", (18, 4)),
+            (deep + "(", (18, len(deep) + 1)), (deep + "63:0,64:0", (18, len(deep) + 10)),
+            ("(1:0,%s,3:00);" % wide, (18, 261)), ("(1:0,%s,3:0);" % wide, (1, 65)),
+            ("(1:0,%s,%s);" % (wide, wide), (1, 127)),
+            ("(1:0,1:0,2:0);", (13, 3)), ("(1:0,99:0,2:99999999);", (13, 3)), ("(1:0,3:0,3:0,5:0);", (13, 2)),
+            ("(1:0,2:0,4:0);", (13, 3)), ("(1:0,3:16000001,2:16000001);", (12, 1)),
+            ("(1:16000001,3:0,2:0);", (12, 3)), ("(1:0,(4:0,3:0):0,2:0);", (12, 4)),
+            ("(1:0,(4:0,3:0):1,2:0);", (22, 11)), ("(1:0,3:0,2:0);", (22, 10)),
+            ("(1:0,6:0,((5:0,4:0):1,3:0):1,2:0);", (22, 10)), ("(1:0,2:0,((5:0,4:0):1,3:0):1,6:0);", (22, 16))):
+        assert newick_rows(text) == refused + (0,) * (5 - len(refused)), text
+    assert newick_rows("(1:16000000,2:0,3:0);") == [(2, 0), (4, 0), (6, 16000000)]
+
+
+def test_longest_newick_text(dice):
+    """64 images one behind another, 62 brackets in each other, with the largest costs; an image more
+    is a bracket too many where it stands deepest, and else an image too many."""
+    text = newick_of(64, [(far, MOST_COST) for far in tree_far_sides(dice, 64, "caterpillar")])
+    assert len(text) == 1432 and text.count("(") == 62 and len(newick_rows(text)) == 125
+    deepest = re.search("[0-9]+:[0-9]+(?=,[0-9]+:[0-9]+[)])", text)
+    more = text[:deepest.start()] + "(64:1,65:1):1" + text[deepest.end():]
+    assert newick_rows(more) == (18, deepest.start() + 1, 0, 0, 0)
+    more = text[:deepest.start()] + "65:1," + text[deepest.start():]
+    assert newick_rows(more) == (1, 65, 0, 0, 0)
+
+
+def is_newick(text):
+    """Is it a text of the profile? Innermost brackets are taken for an image until none but the
+    outermost is left."""
+    most_open = max(itertools.accumulate([0] + [(byte == "(") - (byte == ")") for byte in text]))
+    vertex = "([1-9][0-9]?|x):(0|[1-9][0-9]{0,7})"
+    text, before = ("" if "x" in text else text), None
+    while text != before:
+        text, before = re.sub(r"\(%s(,%s)+\)(?=:)" % (vertex, vertex), "x", text), text
+    root = r"\(1:(0|[1-9][0-9]{0,7})(,%s){2,}\);" % vertex
+    return most_open <= MOST_OPEN and re.fullmatch(root, text) is not None
+
+
+@functools.lru_cache(maxsize=None)
+def begins_newick(text):
+    """Does a text of the profile begin so? A vertex that has begun is ended, and every bracket that
+    is open gets two vertices more and is closed."""
+    for end in ("", "(1:0", "1:0", ":0", "0"):
+        now_open = (text + end).count("(") - (text + end).count(")")
+        closed = ",2:0,2:0):0" * (now_open - 1) + ",2:0,2:0);" if now_open > 0 else ";"
+        if is_newick(text + end) or is_newick(text + end + closed):
+            return True
+    return False
+
+
+def place_outside(text):
+    """The place of the first byte that no text of the profile has there, or None."""
+    if is_newick(text):
+        return None
+    return next((end for end in range(1, len(text) + 1) if not begins_newick(text[:end])), len(text) + 1)
+
+
+def test_newick_places(dice):
+    """The place of 18 is where the beginning of the text is no longer that of a text that could be
+    completed, for every byte of some texts changed, left out, or put in, and for texts that end
+    there; what is accepted is what the writer gives."""
+    texts = list(NEWICK.values()) + ["(1:0,(10:99999999,2:10):16000001,9:0,(3:0,(4:1,(5:0,63:0,6:1):8):0):9);"]
+    texts += [newick_of(n, tree_rows(dice, n, random_shape(dice), 99, even=False)) for n in (5, 9, 12)]
+    changed = set()
+    for text in texts:
+        for at in range(len(text) + 1):
+            changed.add(text[:at])
+            for put in dice.mixed("(),:; 0189x")[:3]:
+                changed |= {text[:at] + put + text[at + 1:], text[:at] + put + text[at:]}
+            changed.add(text[:at] + text[at + 1:])
+        for _ in range(20):
+            one, other = sorted(dice.below(len(text)) for _ in range(2))
+            changed |= {text[:one] + text[other:], text[:other] + text[one:]}
+    accepted = refused = 0
+    for text in sorted(changed) + texts:
+        place, answer = place_outside(text), newick_rows(text)
+        if place is not None:
+            assert answer == (18, place, 0, 0, 0), text
+            refused += 1
+        elif isinstance(answer, list):
+            assert newick_of(text.count(",") + 1, answer) == text
+            accepted += 1
+        else:
+            assert answer[0] in (12, 13, 22), text
+    assert accepted > 50 and refused > 1000, (accepted, refused)
+    # 62 brackets, and what stands behind them.
+    deep = "(1:0," + "(2:0," * 61
+    for text in (deep + "3:0)", deep + "(", deep + "(3:0,4:0)", deep[:-5] + "3:0,4:0):0);",
+                 deep + "3:0" + "):0" * 61 + ")", deep + "3:0" + "):0" * 60 + "," + "(2:0," * 2):
+        assert newick_rows(text) == (18, place_outside(text), 0, 0, 0), text
+
+
+def mixed_newick(dice, fars, costs, row=0):
+    """The vertices at the far end of a row, all of them for the last, as nested lists in an order
+    of chance: the far side, the cost, and what its bracket has."""
+    uppers = upper_rows_of(fars)
+    return [[fars[at], costs[at], mixed_newick(dice, fars, costs, at + 1)]
+            for at in dice.mixed(at for at, upper in enumerate(uppers) if upper == (row or len(fars)))]
+
+
+def spelled(vertices):
+    """The text of nested lists, without the brackets around them, and the places in it, from 0, of
+    all siblings that are below the one before, in the order of the text."""
+    text, places, before = "", [], 0
+    for far, cost, inside in vertices:
+        text += "," if text else ""
+        if far < before:
+            places.append(len(text))
+        before = far
+        inner, inner_places = spelled(inside)
+        places += [len(text) + 1 + place for place in inner_places]
+        text += ("(%s):%d" % (inner, cost)) if inside else "%d:%d" % (far.bit_length(), cost)
+    return text, places
+
+
+def test_newick(dice):
+    """Reading undoes writing, for trees of every shape and size; siblings in another order are
+    refused at the first that is below the one before, and a bad cost is found before them, at the
+    lowest row whatever the order."""
+    ordered = 0
+    for n in list(range(3, 14)) + [20, 33, 47, 63, 64]:
+        for shape in ("star", "caterpillar", "uneven", "uneven"):
+            rows = tree_rows(dice, n, shape, dice.one_of([1, 9, 300, MOST_COST - 1]), even=False)
+            text = newick_of(n, rows)
+            assert newick_rows(text) == rows and newick_of(n, newick_rows(text)) == text
+            fars, costs = [far for far, _ in rows], [cost for _, cost in rows]
+            for _ in range(2 if n > 9 else 6):
+                inner, places = spelled(mixed_newick(dice, fars, costs))
+                front = "(1:%d," % costs[-1]
+                found = newick_rows(front + inner + ");")
+                if places:
+                    assert found == (22, len(front) + 1 + places[0], 0, 0, 0)
+                else:
+                    assert found == rows and front + inner + ");" == text
+                    ordered += 1
+            worse = list(costs)
+            for row in dice.mixed(range(len(rows)))[:2]:
+                worse[row] = MOST_COST + 1 if dice.chance(1, 2) or not is_inner(n, fars[row]) else 0
+            lowest = min(row for row in range(len(rows)) if worse[row] != costs[row])
+            inner, _ = spelled(mixed_newick(dice, fars, worse))
+            assert newick_rows("(1:%d,%s);" % (worse[-1], inner)) == (12, lowest + 1, 0, 0, 0)
+    assert ordered > 10, ordered
+
+
 def self_test():
     dice = Dice(1)
     tests = [
@@ -1923,6 +2287,8 @@ def self_test():
         (test_consensus_refusals, (dice,)), (test_consensus, (dice,)), (test_far_end, (dice,)),
         (test_ends_of_the_index, ()), (test_moved_index, (dice,)),
         (test_engines_on_all_small_tables, ()), (test_engines, (dice,)),
+        (test_newick_examples, ()), (test_newick_refusals, ()), (test_longest_newick_text, (dice,)),
+        (test_newick_places, (dice,)), (test_newick, (dice,)),
     ]
     for test, arguments in tests:
         test(*arguments)

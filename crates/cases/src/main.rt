@@ -38,6 +38,9 @@ fn one_case(call: u32, text: &[u8], at: usize) -> usize {
     if call == calls::LISTING {
         return listing_cases::listing_case(text, at);
     }
+    if calls::WRITE_NEWICK <= call {
+        return newick_cases::newick_case(call, text, at);
+    }
     reader_cases::reader_case(call, text, at)
 }
 
@@ -107,4 +110,6 @@ fn main() {
     run(calls::EXACT_GRAFTED, b"exact_grafted", b"exact_grafted.txt");
     run(calls::CONVERT_COSTS, b"convert_costs", b"convert_costs.txt");
     run(calls::CONVERT_LINKS, b"convert_links", b"convert_links.txt");
+    run(calls::WRITE_NEWICK, b"write_newick", b"write_newick.txt");
+    run(calls::READ_NEWICK, b"read_newick", b"read_newick.txt");
 }
