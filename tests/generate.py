@@ -8,9 +8,9 @@ It writes crates/cases/data/CALL.txt, one case a line: the call's arguments in
 order, a slice as its length and then its elements. It writes crates/cases/stdout,
 for each call a line with its name and then one line a case: the numbers of the
 answer, then each lent output as the call leaves it, its length first. It writes
-tests/listing/NAME.stdin, stored bytes for both listing programs, and the text that
-each of them prints, tests/PROGRAM/NAME.stdout; example H is also what `rt ci` runs
-them on. All is decided by the seeds below.
+tests/listing/NAME.stdin, stored bytes for both listing programs and for the one that
+prints Newick text, and the text that each of them prints, tests/PROGRAM/NAME.stdout;
+example H is also what `rt ci` runs them on. All is decided by the seeds below.
 """
 
 import os
@@ -98,6 +98,9 @@ EVERY_TEST = (4, 5, 9, 33, 64)
 # The programs that print a listing, and what they print. The cases of `listing` have the
 # text of each, and a refusal stands in the text.
 LISTINGS = {"listing": law.listing, "listing_last_n": law.listing_last_n}
+
+# All programs that read a stored cost table: these and the one that prints Newick text.
+PROGRAMS = dict(LISTINGS, newick=law.newick_line)
 
 # Those that put a table's number behind a refusal number.
 OVER_SEVERAL_TABLES = ("compare", "write_batch", "choice", "two_costs", "consensus")
@@ -2503,9 +2506,9 @@ def make():
     assert len(files["crates/cases/stdout"]) <= LARGEST_ANSWERS, len(files["crates/cases/stdout"])
     for name, stored in listing_inputs():
         files["tests/listing/%s.stdin" % name] = bytes(stored)
-        for program, text_of in LISTINGS.items():
+        for program, text_of in PROGRAMS.items():
             files["tests/%s/%s.stdout" % (program, name)] = text_of(stored).encode()
-    for program, text_of in LISTINGS.items():
+    for program, text_of in PROGRAMS.items():
         stored = stored_costs(*law.example("H"))
         files["crates/%s/stdin" % program] = bytes(stored)
         files["crates/%s/stdout" % program] = text_of(stored).encode()
@@ -2556,7 +2559,7 @@ def check(files):
             with open(path, "rb") as file:
                 if file.read() != text:
                     wrong.append("differs: " + name)
-    for folder in ["crates/cases/data"] + ["tests/" + program for program in LISTINGS]:
+    for folder in ["crates/cases/data"] + ["tests/" + program for program in PROGRAMS]:
         path = os.path.join(ROOT, folder)
         for name in sorted(os.listdir(path)) if os.path.isdir(path) else []:
             if folder + "/" + name not in files:

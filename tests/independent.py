@@ -1138,15 +1138,27 @@ def listing_last_n(stored):
     return listing_with(stored, lambda n, d: n)
 
 
-def listing_with(stored, last_of):
-    """The exact reading, and the order from 1 with the last image that is chosen by n and
-    the costs; or one line with the refusal."""
+def newick_line(stored):
+    """What the program newick prints for these bytes: the Newick text of the exact reading."""
+    return program_text(stored, lambda n, t, rows: newick_text(*zip(*rows)) + "\n")
+
+
+def program_text(stored, text_of):
+    """The text of the stored table and of its exact reading; or one line with the refusal."""
     try:
         n, t, _ = cost_table_in(stored, None)
         check_wiring(n, t)
     except Refusal as refusal:
         return "refused %d %d %d %d %d\n" % refusal.answer()
-    rows = exact_rows(n, tuple(t))
+    return text_of(n, t, exact_rows(n, tuple(t)))
+
+
+def listing_with(stored, last_of):
+    """The listing whose order from 1 has the last image that is chosen by n and the costs."""
+    return program_text(stored, lambda n, t, rows: listing_text(n, t, rows, last_of))
+
+
+def listing_text(n, t, rows, last_of):
     uppers = upper_rows_of([far for far, cost in rows])
     lines = ["images %d rows %d" % (n, len(rows))]
     lines += ["%d %d %d" % (far, cost, upper) for (far, cost), upper in zip(rows, uppers)]
