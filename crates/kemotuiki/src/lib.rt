@@ -9,6 +9,7 @@ use numbers::KemotuikiLinks;
 use numbers::KemotuikiOrder;
 use numbers::KemotuikiPath;
 use numbers::KemotuikiRows;
+use numbers::KemotuikiTree;
 ghost use mathlib.Core.Path.{_≡_};
 ghost use Rattle.ground.specs.Outcomes.{Left};
 ghost use Rattle.theory.specs.Outcomes.{LeftRows};
@@ -27,9 +28,11 @@ ghost use Rattle.batch.specs.Batch.{batchOutcome};
 ghost use Rattle.choice.specs.Call.{choiceEither};
 ghost use Rattle.conversion.specs.Costs.{costsConverted};
 ghost use Rattle.conversion.specs.Links.{linksConverted};
+ghost use Rattle.newick_writer.specs.Writing as newick-writing;
+ghost use Rattle.newick_reader.specs.Outcomes as newick-reading;
 ghost use Rattle.refusal_text.specs.Text.{refusalTextOutcome};
 ghost use Rattle.numbers.specs.Numbers.{ofIndex, ofOrder, ofRows, ofPath, ofComparison, ofShared};
-ghost use Rattle.numbers.specs.Stored.{ofBytes, ofBatched, ofCosts, ofLinks, ofChosen};
+ghost use Rattle.numbers.specs.Stored.{ofBytes, ofBatched, ofCosts, ofLinks, ofChosen, ofTree};
 ghost use Rattle.kemotuiki.specs.Crossing.{crossed, crossedRows};
 ghost use Rattle.bits.specs.Editions.{editionBy};
 ghost use Rattle.stored_costs.specs.Form.{costForm};
@@ -269,6 +272,34 @@ pub extern "C" fn kemotuiki_convert_links(
     ensures { λ r. ⌜ Left (crossed ofBytes (linksConverted (editionBy form) (now (bytes .entry)) (now (out .entry)))) r (now (out .exit)) ⌝ }
 {
     numbers::of_bytes(conversion::convert_links(bits::edition_by(form), bytes, out))
+}
+
+// A link table as Newick text.
+#[no_mangle]
+pub extern "C" fn kemotuiki_write_newick(
+    n: usize,
+    count: usize,
+    fars: &[u64],
+    costs: &[u32],
+    out: &mut [u8],
+) -> KemotuikiBytes
+    ensures { λ r. ⌜ Left (crossed ofBytes (newick-writing.writeOutcome n count (now (fars .entry)) (now (costs .entry)) (now (out .entry)))) r
+        (now (out .exit)) ⌝ }
+{
+    numbers::of_bytes(newick_writer::write_newick(n, count, fars, costs, out))
+}
+
+// Newick text read as a link table.
+#[no_mangle]
+pub extern "C" fn kemotuiki_read_newick(
+    text: &[u8],
+    fars: &mut [u64],
+    costs: &mut [u32],
+) -> KemotuikiTree
+    ensures { λ r. ⌜ LeftRows (crossedRows ofTree (newick-reading.readOutcome (now (text .entry)) (now (fars .entry)) (now (costs .entry)))) r
+        (now (fars .exit)) (now (costs .exit)) ⌝ }
+{
+    numbers::of_tree(newick_reader::read_newick(text, fars, costs))
 }
 
 // What an answer with this head says, as text with a zero byte behind it.

@@ -1,20 +1,23 @@
--- The struct of numbers for each case of an answer about bytes and stored tables. Assumes nothing.
+-- The struct of numbers for each case of an answer about bytes, stored tables and Newick text. Assumes nothing.
 use Rattle.ground.specs.declared.Written.{Written}
 use Rattle.ground.specs.declared.Written.the-variants.{Places}
 use Rattle.stored_costs.specs.declared.StoredCosts.{StoredCosts}
 use Rattle.stored_links.specs.declared.StoredLinks.{StoredLinks}
 use Rattle.batch.specs.declared.Batched.{Batched}
 use Rattle.choice.specs.declared.Chosen.{Chosen}
+use Rattle.newick_reader.specs.declared.NewickTree.{NewickTree}
 use Rattle.numbers.specs.Heads.{accepted, refused}
 use Rattle.numbers.specs.declared.KemotuikiBytes.{KemotuikiBytes}
 use Rattle.numbers.specs.declared.KemotuikiChoice.{KemotuikiChoice}
 use Rattle.numbers.specs.declared.KemotuikiCosts.{KemotuikiCosts}
 use Rattle.numbers.specs.declared.KemotuikiLinks.{KemotuikiLinks}
+use Rattle.numbers.specs.declared.KemotuikiTree.{KemotuikiTree}
 use Rattle.ground.specs.declared.Written.the-variants as written
 use Rattle.stored_costs.specs.declared.StoredCosts.the-variants as costs
 use Rattle.stored_links.specs.declared.StoredLinks.the-variants as links
 use Rattle.batch.specs.declared.Batched.the-variants as batch
 use Rattle.choice.specs.declared.Chosen.the-variants as choice
+use Rattle.newick_reader.specs.declared.NewickTree.the-variants as tree
 
 -- the bytes written
 abbrev pub ofBytes : Written → KemotuikiBytes
@@ -40,3 +43,8 @@ ofLinks (links.Refused r) = record { head = refused 0 r; n = 0; rows = 0; used =
 abbrev pub ofChosen : Chosen → KemotuikiChoice
 ofChosen (choice.Table m used) = record { head = accepted; chosen = m; used = used }
 ofChosen (choice.Refused m r) = record { head = refused m r; chosen = 0; used = 0 }
+
+-- n and the row count
+abbrev pub ofTree : NewickTree → KemotuikiTree
+ofTree (tree.Table n N) = record { head = accepted; n = n; rows = N }
+ofTree (tree.Refused r) = record { head = refused 0 r; n = 0; rows = 0 }

@@ -8,12 +8,13 @@ use ground::Answer;
 use ground::Refusal;
 use ground::SignedAnswer;
 use ground::Written;
+use newick_reader::NewickTree;
 use stored_costs::StoredCosts;
 use stored_links::StoredLinks;
 ghost use mathlib.Core.Path.{_≡_};
 ghost use Rattle.numbers.specs.Heads.{accepted, refused};
 ghost use Rattle.numbers.specs.Numbers.{ofIndex, ofOrder, ofRows, ofPath, ofComparison, ofShared};
-ghost use Rattle.numbers.specs.Stored.{ofBytes, ofBatched, ofCosts, ofLinks, ofChosen};
+ghost use Rattle.numbers.specs.Stored.{ofBytes, ofBatched, ofCosts, ofLinks, ofChosen, ofTree};
 
 // The refusal's number, 0 where the call was accepted; the table that was refused, where a call takes more than one; the refusal's places.
 // Unused ones are 0.
@@ -96,6 +97,14 @@ pub struct KemotuikiChoice {
     pub head: KemotuikiHead,
     pub chosen: usize,
     pub used: usize,
+}
+
+// The tree of a Newick text: its images and its rows.
+#[repr(C)]
+pub struct KemotuikiTree {
+    pub head: KemotuikiHead,
+    pub n: usize,
+    pub rows: usize,
 }
 
 // The head of an accepted answer.
@@ -314,6 +323,24 @@ pub fn of_chosen(x: Chosen) -> KemotuikiChoice
             head: refuse(table, r),
             chosen: 0,
             used: 0,
+        },
+    }
+}
+
+// The numbers of the tree of a Newick text.
+pub fn of_tree(x: NewickTree) -> KemotuikiTree
+    ensures { λ r. ⌜ r ≡ ofTree x ⌝ }
+{
+    match x {
+        NewickTree::Table { n, count } => KemotuikiTree {
+            head: accept(),
+            n,
+            rows: count,
+        },
+        NewickTree::Refused(r) => KemotuikiTree {
+            head: refuse(0, r),
+            n: 0,
+            rows: 0,
         },
     }
 }

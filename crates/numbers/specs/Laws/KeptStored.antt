@@ -1,4 +1,4 @@
--- Every kind of answer about bytes and stored tables crosses and nothing is lost. Assumes nothing.
+-- Every kind of answer about bytes, stored tables and Newick text crosses and nothing is lost. Assumes nothing.
 use mathlib.Core.Logic.{inl, inr}
 use mathlib.Core.Path.{refl}
 use Rattle.ground.specs.declared.Written.{Written}
@@ -7,18 +7,21 @@ use Rattle.stored_costs.specs.declared.StoredCosts.{StoredCosts}
 use Rattle.stored_links.specs.declared.StoredLinks.{StoredLinks}
 use Rattle.batch.specs.declared.Batched.{Batched}
 use Rattle.choice.specs.declared.Chosen.{Chosen}
+use Rattle.newick_reader.specs.declared.NewickTree.{NewickTree}
 use Rattle.numbers.specs.Kept.{Kept}
 use Rattle.numbers.specs.Laws.Kept.{ReadBack, kept}
-use Rattle.numbers.specs.Stored.{ofBatched, ofBytes, ofChosen, ofCosts, ofLinks}
+use Rattle.numbers.specs.Stored.{ofBatched, ofBytes, ofChosen, ofCosts, ofLinks, ofTree}
 use Rattle.numbers.specs.declared.KemotuikiBytes.{KemotuikiBytes}
 use Rattle.numbers.specs.declared.KemotuikiChoice.{KemotuikiChoice}
 use Rattle.numbers.specs.declared.KemotuikiCosts.{KemotuikiCosts}
 use Rattle.numbers.specs.declared.KemotuikiLinks.{KemotuikiLinks}
+use Rattle.numbers.specs.declared.KemotuikiTree.{KemotuikiTree}
 use Rattle.ground.specs.declared.Written.the-variants as written
 use Rattle.stored_costs.specs.declared.StoredCosts.the-variants as costs
 use Rattle.stored_links.specs.declared.StoredLinks.the-variants as links
 use Rattle.batch.specs.declared.Batched.the-variants as batch
 use Rattle.choice.specs.declared.Chosen.the-variants as choice
+use Rattle.newick_reader.specs.declared.NewickTree.the-variants as tree
 
 pub bytes-kept : Kept (λ (k : KemotuikiBytes). k .head) ofBytes (λ m. written.Refused)
 bytes-kept = kept _ ofBytes (λ m. written.Refused) (λ k. Places (k .used)) (λ m q. refl) each
@@ -54,3 +57,10 @@ choice-kept = kept _ ofChosen choice.Refused (λ k. choice.Table (k .chosen) (k 
     each : (x : Chosen) → ReadBack (λ (k : KemotuikiChoice). k .head) ofChosen choice.Refused (λ k. choice.Table (k .chosen) (k .used)) x
     each (choice.Table m used) = inr (refl, refl)
     each (choice.Refused m q) = inl (m, q, refl, refl)
+
+pub tree-kept : Kept (λ (k : KemotuikiTree). k .head) ofTree (λ m. tree.Refused)
+tree-kept = kept _ ofTree (λ m. tree.Refused) (λ k. tree.Table (k .n) (k .rows)) (λ m q. refl) each
+  where
+    each : (x : NewickTree) → ReadBack (λ (k : KemotuikiTree). k .head) ofTree (λ m. tree.Refused) (λ k. tree.Table (k .n) (k .rows)) x
+    each (tree.Table n N) = inr (refl, refl)
+    each (tree.Refused q) = inl (0, q, refl, refl)

@@ -1,0 +1,2 @@
+-- Of what the exact reading has left.
+pub mod Read
