@@ -14,10 +14,16 @@ use Rattle.ground.specs.Laws.Refusals.{outside-false, refuseIf-passed, then-pas
 use Rattle.ground.specs.declared.Check.the-variants.{Passed}
 use Rattle.theory.specs.Checks.{imagesCheck}
 use Rattle.text.specs.Decimal.{decimal}
-use Rattle.newick_text.specs.Trees.{Formed, Siblings, Tree, bracket, image, none, text}
-use Rattle.newick_text.specs.Tables.{RisingTree, linkTree, names, rooted, tableOf}
-use Rattle.newick_text.specs.Bytes.{State, costing, dead, done, ended, head, isDone, run, start, treeOf, vertex}
-use Rattle.newick_text.specs.Reading.{costsCheck, fall, namesCheck, profileCheck, readChecks, treeChecks, treeIn}
+use Rattle.newick_text.specs.Trees.{Siblings, bracket, image, none, text}
+use Rattle.newick_text.specs.Profile.{Formed, Tree}
+use Rattle.newick_text.specs.Tables.{names, tableOf}
+use Rattle.newick_text.specs.Order.{RisingTree}
+use Rattle.newick_text.specs.LinkTrees.{linkTree, rooted}
+use Rattle.newick_text.specs.Bytes.{run}
+use Rattle.newick_text.specs.States.{State, costing, dead, done, ended, head, start, vertex}
+use Rattle.newick_text.specs.Ends.{isDone, treeOf}
+use Rattle.newick_text.specs.Reading.{costsCheck, namesCheck, profileCheck, readChecks, treeChecks, treeIn}
+use Rattle.newick_text.specs.Order.{fall}
 use Rattle.newick_text.specs.Laws.Falls.{no-fall}
 use Rattle.newick_text.specs.Laws.NamedOnce.{AllOnce, all-once}
 use Rattle.newick_text.specs.Laws.OneText.{grown-again}

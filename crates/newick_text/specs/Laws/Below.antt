@@ -5,7 +5,9 @@ use Prim.Native.Nat.{ℕ, _-_, _<_, _≤_}
 use native.Mathlib.Omega.{arith}
 use Rattle.ground.specs.Filters.{Each}
 use Rattle.newick_text.specs.Trees.{Head, Siblings, bracket, closed, image, named, none}
-use Rattle.newick_text.specs.Tables.{Rising, headOf, rows}
+use Rattle.newick_text.specs.Tables.{rows}
+use Rattle.newick_text.specs.Order.{Rising}
+use Rattle.newick_text.specs.LinkTrees.{headOf}
 use Rattle.newick_text.specs.Laws.Sides.{image-of}
 use Rattle.newick_text.specs.Laws.Sizes.{tops-side}
 use Rattle.newick_text.specs.Laws.Vertices.{Bushy, HeadBushy, HeadNamed, HeadRising, Named, headOcc, headRows, headSide, occ, tops}

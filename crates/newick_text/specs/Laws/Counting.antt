@@ -9,7 +9,8 @@ use Rattle.ground.specs.Counts.{one-if}
 use Rattle.ground.specs.Filters.{Each}
 use Rattle.ground.specs.Totals.{total}
 use Rattle.ground.specs.Laws.Totals.{total-add, total-zero}
-use Rattle.newick_text.specs.Trees.{Formed, Siblings, bracket, image, none, size}
+use Rattle.newick_text.specs.Trees.{Siblings, bracket, image, none, size}
+use Rattle.newick_text.specs.Profile.{Formed}
 use Rattle.newick_text.specs.Tables.{names, rows, side}
 use Rattle.newick_text.specs.Laws.Numbers.{total-image}
 use Rattle.newick_text.specs.Laws.Vertices.{Bushy, Named, occ}

@@ -9,8 +9,10 @@ use borrow.Author.Tests.{le-leb, lt-ltb, ltb-false, ltb-true, ne-eqb}
 use borrow.Table.Steps.{cases}
 use Rattle.text.specs.Decimal.{decimal, digit}
 use Rattle.text.specs.Laws.Numbers.{decimal-more, decimal-small}
-use Rattle.newick_text.specs.Trees.{CostFits, Head, ImageFits, named}
-use Rattle.newick_text.specs.Bytes.{Open, State, atOne, blank, costing, head, run, step, value, vertex}
+use Rattle.newick_text.specs.Trees.{Head, named}
+use Rattle.newick_text.specs.Profile.{CostFits, ImageFits}
+use Rattle.newick_text.specs.Bytes.{run, step}
+use Rattle.newick_text.specs.States.{Open, State, atOne, blank, costing, head, value, vertex}
 
 module _ (o : Open) (v : Head) where
   blank-digit : (b : ℕ) → 48 ≤ b → b ≤ 57 → step (costing o v blank) b ≡ costing o v (value (b - 48))

@@ -7,7 +7,8 @@ use Rattle.ground.specs.Filters.{Each}
 use Rattle.ground.specs.Laws.Filters.{each-cons}
 use Rattle.theory.specs.LinkTables.{Row}
 use Rattle.newick_text.specs.Trees.{Head, Siblings, add, bracket, closed, image, named, none, size}
-use Rattle.newick_text.specs.Tables.{Rising, imageSide, rows, side}
+use Rattle.newick_text.specs.Tables.{imageSide, rows, side}
+use Rattle.newick_text.specs.Order.{Rising}
 use Rattle.newick_text.specs.Laws.Vertices.{Bushy, HeadBushy, HeadNamed, HeadRising, Named, headOcc, headRows, headSide, occ, tops}
 
 -- ## One vertex more

@@ -7,8 +7,9 @@ use lib.Dec.{eqb, leb, ltb}
 use borrow.Author.Tests.{leb-true, ltb-true, not-true}
 use borrow.Table.Steps.{cases}
 use Rattle.ground.specs.Laws.Tests.{and-l, and-r}
-use Rattle.newick_text.specs.Bytes.{Open, State, atOne, begins, costing, dead, done, ended, grows, head, isDead, isDigit, onlyIf, run, start, step}
-use Rattle.newick_text.specs.Bytes.{vertex}
+use Rattle.newick_text.specs.Bytes.{begins, grows, isDigit, onlyIf, run, step}
+use Rattle.newick_text.specs.States.{Open, State, atOne, costing, dead, done, ended, head, start, vertex}
+use Rattle.newick_text.specs.Ends.{isDead}
 
 -- alive
 abbrev pub Live : State → Type 0

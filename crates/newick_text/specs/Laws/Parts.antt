@@ -8,7 +8,9 @@ use borrow.Table.Steps.{cases}
 use Rattle.ground.specs.Filters.{Each, filter}
 use Rattle.theory.specs.LinkTables.{Row}
 use Rattle.newick_text.specs.Trees.{Head, Siblings, add, bracket, closed, image, named, none}
-use Rattle.newick_text.specs.Tables.{Rising, imageSide, insert, part, rows, side}
+use Rattle.newick_text.specs.Tables.{imageSide, insert, rows, side}
+use Rattle.newick_text.specs.Order.{Rising}
+use Rattle.newick_text.specs.LinkTrees.{part}
 use Rattle.newick_text.specs.Laws.Sorting.{all-append, all-comm, all-insert, insertAll}
 use Rattle.newick_text.specs.Laws.Vertices.{Bushy, Named, headSide, occ, tops}
 

@@ -7,7 +7,9 @@ use native.Mathlib.Omega.{arith}
 use lib.ListN.{length, length-append}
 use Rattle.theory.specs.LinkTables.{Row}
 use Rattle.newick_text.specs.Trees.{Head, Siblings, closed, named, put}
-use Rattle.newick_text.specs.Tables.{Rising, part, rows, side}
+use Rattle.newick_text.specs.Tables.{rows, side}
+use Rattle.newick_text.specs.Order.{Rising}
+use Rattle.newick_text.specs.LinkTrees.{part}
 use Rattle.newick_text.specs.Laws.Sorting.{all-append, insertAll}
 use Rattle.newick_text.specs.Laws.Vertices.{Bushy, HeadBushy, HeadNamed, HeadRising, Named, headOcc, headRows, headSide, occ, tops}
 

@@ -12,7 +12,9 @@ use borrow.Table.Steps.{cases}
 use Rattle.ground.specs.Filters.{Each}
 use Rattle.theory.specs.LinkTables.{Row}
 use Rattle.newick_text.specs.Trees.{Head, Siblings, bracket, image, none, put}
-use Rattle.newick_text.specs.Tables.{Rising, imageSide, insert, part, rows, side}
+use Rattle.newick_text.specs.Tables.{imageSide, insert, rows, side}
+use Rattle.newick_text.specs.Order.{Rising}
+use Rattle.newick_text.specs.LinkTrees.{part}
 use Rattle.newick_text.specs.Laws.Putting.{put-bushy, put-length, put-named, put-occ, put-part-in, put-part-out, put-rising, put-rows, put-tops}
 use Rattle.newick_text.specs.Laws.Sorting.{all-append, all-comm, all-insert, insertAll}
 use Rattle.newick_text.specs.Laws.Vertices.{Bushy, HeadBushy, HeadNamed, HeadRising, Named, headOcc, headRows, headSide, occ, tops}

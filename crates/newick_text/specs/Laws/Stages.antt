@@ -4,7 +4,8 @@ use mathlib.Core.Path.{refl, subst, sym, _∙_, _≡_}
 use Prim.Native.Nat.{ℕ, _≤_}
 use Rattle.theory.specs.LinkTables.{LinkTable, Row}
 use Rattle.newick_text.specs.Trees.{Siblings, none}
-use Rattle.newick_text.specs.Tables.{grow, grown, rows, sorted}
+use Rattle.newick_text.specs.Tables.{rows, sorted}
+use Rattle.newick_text.specs.LinkTrees.{grow, grown}
 use Rattle.newick_text.specs.Laws.Grows.{stage-more}
 use Rattle.newick_text.specs.Laws.Vertices.{Stage, occ, tops}
 

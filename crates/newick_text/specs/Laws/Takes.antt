@@ -27,7 +27,8 @@ use Rattle.theory.specs.Laws.Contained.{and-within, within-and}
 use Rattle.theory.specs.Laws.Nested.{bit-holds, holds-true}
 use Rattle.theory.specs.Laws.Paths.{row-far}
 use Rattle.newick_text.specs.Trees.{Siblings, none}
-use Rattle.newick_text.specs.Tables.{part, side}
+use Rattle.newick_text.specs.Tables.{side}
+use Rattle.newick_text.specs.LinkTrees.{part}
 use Rattle.newick_text.specs.Laws.Lists.{between-split}
 use Rattle.newick_text.specs.Laws.Numbers.{bit-pow-le, zero-or-one}
 use Rattle.newick_text.specs.Laws.Parts.{part-named, part-occ, part-tops}

@@ -9,7 +9,8 @@ use Rattle.ground.specs.Filters.{Each}
 use Rattle.ground.specs.Members.{isIn}
 use Rattle.theory.specs.LinkTables.{Row, fars}
 use Rattle.newick_text.specs.Trees.{Head, Siblings, bracket, closed, image, named, none, size}
-use Rattle.newick_text.specs.Tables.{Rising, imageSide, rows, side, sorted}
+use Rattle.newick_text.specs.Tables.{imageSide, rows, side, sorted}
+use Rattle.newick_text.specs.Order.{Rising}
 
 -- how often image m + 1 is named
 unfoldable pub occ : Siblings → ℕ → ℕ
