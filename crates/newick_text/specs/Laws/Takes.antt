@@ -152,9 +152,12 @@ module _ (L n : ℕ) (T : List Row) (t : LinkTable L n T) (P Q : List Row) (R : 
     ascends = ascends .0;
     less = λ X d. top X d .less;
     single = λ e.
-        let j = bit-some n S (far-S .some) (far-S .fits) in
-        (j .0, j .1, cases (eqb (2 ^ (j .0)) S) (λ q. sym (eqb-true (2 ^ (j .0)) S q))
-        (λ q. absurd (omega (arith, cover (j .0) (j .1) (j .2) (eqb-false (2 ^ (j .0)) S q), ap (λ (h : Siblings). occ h (j .0)) e))));
+        let j = bit-some n S (far-S .some) (far-S .fits) in (
+          j .0,
+          j .1,
+          cases (eqb (2 ^ (j .0)) S) (λ q. sym (eqb-true (2 ^ (j .0)) S q))
+              (λ q. absurd (omega (arith, cover (j .0) (j .1) (j .2) (eqb-false (2 ^ (j .0)) S q), ap (λ (h : Siblings). occ h (j .0)) e))),
+        );
     joint = not-single;
     made = λ X d.
         side-is n (taken S f) S (part-named n (contains S) f (g .named)) taken-once (far-S .fits) (λ m l.
