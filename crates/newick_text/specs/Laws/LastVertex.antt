@@ -7,8 +7,9 @@ use Rattle.ground.specs.Filters.{Each}
 use Rattle.ground.specs.Laws.Filters.{each-cons}
 use Rattle.theory.specs.LinkTables.{Row}
 use Rattle.newick_text.specs.Trees.{Head, Siblings, add, bracket, closed, image, named, none, size}
-use Rattle.newick_text.specs.Tables.{imageSide, rows, side}
+use Rattle.newick_text.specs.Tables.{imageSide, insert, rows, side, sorted}
 use Rattle.newick_text.specs.Order.{Rising}
+use Rattle.newick_text.specs.Laws.Sorting.{all-append, all-insert, insertAll, sorted-all}
 use Rattle.newick_text.specs.Laws.Vertices.{Bushy, HeadBushy, HeadNamed, HeadRising, Named, headOcc, headRows, headSide, occ, tops}
 
 -- ## One vertex more
@@ -39,6 +40,17 @@ add-rows none (named i) c = refl
 add-rows none (closed g) c = refl
 add-rows (image j d r) v c = ap (λ (l : List Row). (imageSide j, d) ∷ l) (add-rows r v c)
 add-rows (bracket h d r) v c = ap (λ (l : List Row). rows h ++ ((side h, d) ∷ l)) (add-rows r v c) ∙ sym (append-assoc (rows h) ((side h, d) ∷ rows r) (headRows v c))
+
+-- its rows in order, its own row apart
+pub add-sorted : (f : Siblings) (v : Head) (c : ℕ) (y : List Row) (R : Row) → headRows v c ≡ y ++ (R ∷ [])
+    → sorted (rows (add f v c)) ≡ insert R (insertAll (rows f) (insertAll y []))
+unfolding insertAll
+add-sorted f v c y R e =
+    sorted-all (rows (add f v c))
+    ∙ ap (λ (l : List Row). insertAll l []) (add-rows f v c ∙ ap (λ (l : List Row). rows f ++ l) e)
+    ∙ all-append (rows f) (y ++ (R ∷ [])) []
+    ∙ ap (insertAll (rows f)) (all-append y (R ∷ []) [] ∙ all-insert R y [])
+    ∙ all-insert R (rows f) (insertAll y [])
 
 pub bushy-add : (f : Siblings) (v : Head) (c : ℕ) → Bushy f → HeadBushy v → Bushy (add f v c)
 bushy-add none (named i) c h k = tt

@@ -12,7 +12,7 @@ use Rattle.newick_text.specs.Tables.{imageSide, insert, rows, side}
 use Rattle.newick_text.specs.Order.{Rising}
 use Rattle.newick_text.specs.LinkTrees.{part}
 use Rattle.newick_text.specs.Laws.Sorting.{all-append, all-comm, all-insert, insertAll}
-use Rattle.newick_text.specs.Laws.Vertices.{Bushy, Named, headSide, occ, tops}
+use Rattle.newick_text.specs.Laws.Vertices.{Bushy, Named, Once, headSide, occ, tops}
 
 pub part-occ : (p : ℕ → Bool) (f : Siblings) (m : ℕ) → occ (part p f) m + occ (part (λ S. not (p S)) f) m ≡ occ f m
 unfolding part occ
@@ -23,6 +23,9 @@ part-occ p (image i c r) m =
 part-occ p (bracket g c r) m =
     let ih = part-occ p r m in
     cases (p (side g)) (λ e. rw e (omega arith)) (λ e. rw e (omega arith))
+
+pub part-once : (p : ℕ → Bool) (f : Siblings) → Once f → Once (part p f)
+part-once p f o m = omega (arith, part-occ p f m, o m)
 
 pub part-named : (n : ℕ) (p : ℕ → Bool) (f : Siblings) → Named n f → Named n (part p f)
 unfolding part

@@ -1,5 +1,5 @@
 -- How the far sides of vertices, of their rows and of all of them together compare. Assumes nothing.
-use mathlib.Core.List.{List·Memᴰ·head, List·Memᴰ·not-nil, List·Memᴰ·tail, _∷_}
+use mathlib.Core.List.{List·Memᴰ·head, List·Memᴰ·tail, _∷_}
 use mathlib.Core.Path.{refl, _≡_}
 use Prim.Native.Nat.{suc, ℕ, _+_, _-_, _<_, _≤_}
 use native.Mathlib.Omega.{arith}
@@ -7,10 +7,10 @@ use lib.ListN.{length, length-append}
 use lib.Pow.{pow-pos}
 use Rattle.ground.specs.Filters.{Each}
 use Rattle.ground.specs.Laws.Filters.{each-cons, each-nil}
-use Rattle.newick_text.specs.Trees.{Siblings, bracket, image, none, size}
+use Rattle.newick_text.specs.Trees.{Head, Siblings, bracket, closed, image, named, none, size}
 use Rattle.newick_text.specs.Tables.{imageSide, rows, side}
 use Rattle.newick_text.specs.Laws.Lists.{each-append}
-use Rattle.newick_text.specs.Laws.Vertices.{Bushy, tops}
+use Rattle.newick_text.specs.Laws.Vertices.{Bushy, HeadBushy, headSide, tops}
 
 -- no far side in the rows is above all
 rows-side : (f : Siblings) → Each (rows f) (λ r. r .0 ≤ side f)
@@ -50,6 +50,10 @@ tops-some (image i c r) b X (List·Memᴰ·head e) = omega (arith, pow-pos (i - 
 tops-some (image i c r) b X (List·Memᴰ·tail d) = tops-some r b X d
 tops-some (bracket g c r) b X (List·Memᴰ·head e) = omega (arith, size-side g (b .1), b .0)
 tops-some (bracket g c r) b X (List·Memᴰ·tail d) = tops-some r (b .2) X d
+
+pub head-some : (v : Head) → HeadBushy v → 1 ≤ headSide v
+head-some (named i) b = pow-pos (i - 1)
+head-some (closed g) b = omega (arith, size-side g (b .1), b .0)
 
 -- ## How many rows
 

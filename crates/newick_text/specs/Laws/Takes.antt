@@ -1,13 +1,12 @@
 -- The vertices that a row of a link table takes: just those that make it up. Assumes nothing.
-use mathlib.Core.Bool.{false≢true, not, true}
+use mathlib.Core.Bool.{Bool, false≢true, not, true}
 use mathlib.Core.List.{List, List·Memᴰ, List·Memᴰ·append-cases, List·Memᴰ·head, List·Memᴰ·tail, Memᴰ·append-left, Memᴰ·append-right, _++_, _∷_}
 use mathlib.Core.Logic.{inl, inr, _⊎_}
 use mathlib.Core.Path.{ap, refl, subst, sym, _∙_, _≡_}
 use Prim.Native.Nat.{suc, zero, ℕ, _<_, _^_}
 use native.Mathlib.Omega.{arith}
-use lib.Bits.{and-le-r, bitAnd}
 use lib.Dec.{eqb}
-use borrow.Author.Tests.{eq-eqb, eqb-false, eqb-true, not-true}
+use borrow.Author.Tests.{eqb-false, eqb-true, not-true}
 use borrow.Table.Steps.{cases}
 use Rattle.ground.specs.Ascending.{Between}
 use Rattle.ground.specs.Bits.{bit}
@@ -23,15 +22,14 @@ use Rattle.ground.specs.Laws.Members.{mem-isIn}
 use Rattle.theory.specs.FarSides.{FarSide, Nested}
 use Rattle.theory.specs.LinkTables.{LinkTable, Row, far, fars}
 use Rattle.theory.specs.Routes.{contains}
-use Rattle.theory.specs.Laws.Contained.{and-within, within-and}
-use Rattle.theory.specs.Laws.Nested.{bit-holds, holds-true}
 use Rattle.theory.specs.Laws.Paths.{row-far}
 use Rattle.newick_text.specs.Trees.{Siblings, none}
 use Rattle.newick_text.specs.Tables.{side}
 use Rattle.newick_text.specs.LinkTrees.{part}
+use Rattle.newick_text.specs.Laws.Containing.{contains-bit, share-contains}
 use Rattle.newick_text.specs.Laws.Lists.{between-split}
 use Rattle.newick_text.specs.Laws.Numbers.{bit-pow-le, zero-or-one}
-use Rattle.newick_text.specs.Laws.Parts.{part-named, part-occ, part-tops}
+use Rattle.newick_text.specs.Laws.Parts.{part-named, part-occ, part-once, part-tops}
 use Rattle.newick_text.specs.Laws.Sides.{not-held, side-is}
 use Rattle.newick_text.specs.Laws.Vertices.{Once, Stage, occ, tops}
 
@@ -89,27 +87,8 @@ module _ (L n : ℕ) (T : List Row) (t : LinkTable L n T) (P Q : List Row) (R : 
         nested = rw (r .1) (t .nested (r .0) i R R-in);
       }
 
-  -- a vertex that shares an image with the row is within it
-  share : (X m : ℕ) → List·Memᴰ X (tops f) → m < n → bit X m ≡ 1 → bit S m ≡ 1 → contains S X ≡ true
-  share X m d l x s = go (top X d) (top X d .nested)
-    where
-      go : Top n S X → Nested n X S → contains S X ≡ true
-      go k (inl w) = eq-eqb (bitAnd X S) X (within-and n X S (k .fits .fits) w)
-      go k (inr (inl w)) = absurd (omega (arith, within-and n S X (far-S .fits) w, and-le-r S X, k .less))
-      go k (inr (inr w)) = absurd (false≢true (sym (w m l (bit-holds X m x)) ∙ bit-holds S m s))
-
-  -- what is within the row has its images in the row
-  sub : (X m : ℕ) → m < n → contains S X ≡ true → bit X m ≡ 1 → bit S m ≡ 1
-  sub X m l c x = holds-true S m (and-within n X S (eqb-true (bitAnd X S) X c) m l (bit-holds X m x))
-
   f-once : Once f
   f-once m = rw (g .once m) (omega (arith, one-if-le (isIn (2 ^ m) (fars P))))
-
-  taken-once : Once (taken S f)
-  taken-once m = omega (arith, part-occ (contains S) f m, f-once m)
-
-  others-once : Once (others S f)
-  others-once m = omega (arith, part-occ (contains S) f m, f-once m)
 
   -- an own link below the row has been seen
   seen-own : (m : ℕ) → m < n → bit S m ≡ 1 → (2 ^ m ≡ S → ⊥) → occ f m ≡ 1
@@ -123,25 +102,28 @@ module _ (L n : ℕ) (T : List Row) (t : LinkTable L n T) (P Q : List Row) (R : 
       go (inr (List·Memᴰ·head e)) = absurd (d e)
       go (inr (List·Memᴰ·tail y)) = absurd (omega (arith, bit-pow-le S (suc m) b, between-mem (suc S) (2 ^ n) (fars Q) (ascends .1) (2 ^ suc m) y))
 
-  -- the vertices that it takes have just its images
+  -- the vertices that it takes have just its images: one that shares an image with it is within it
   cover : (m : ℕ) → m < n → bit S m ≡ 1 → (2 ^ m ≡ S → ⊥) → occ (taken S f) m ≡ 1
   cover m l b d =
-      let o = not-held n (others S f) m (part-named n (λ X. not (contains S X)) f (g .named)) others-once l (λ X x.
+      let p : ℕ → Bool = λ X. not (contains S X) in
+      let o = not-held n (others S f) m (part-named n p f (g .named)) (part-once p f f-once) l (λ X x.
       let k = others-top S f X x in
-      zero-or-one X m (λ e. false≢true (sym (not-true (contains S X) (k .0)) ∙ share X m (k .1) l e b))) in
+      let h = top X (k .1) in
+      zero-or-one X m (λ e.
+      false≢true (sym (not-true (contains S X) (k .0)) ∙ share-contains n S X m (far-S .fits) (h .fits .fits) (h .less) l e b (h .nested)))) in
       omega (arith, part-occ (contains S) f m, seen-own m l b d, o)
 
   uncover : (m : ℕ) → m < n → bit S m ≡ 0 → occ (taken S f) m ≡ 0
   uncover m l b =
-      not-held n (taken S f) m (part-named n (contains S) f (g .named)) taken-once l (λ X x.
-      zero-or-one X m (λ e. omega (arith, b, sub X m l (taken-top S f X x .0) e)))
+      not-held n (taken S f) m (part-named n (contains S) f (g .named)) (part-once (contains S) f f-once) l (λ X x.
+      zero-or-one X m (λ e. omega (arith, b, contains-bit n S X m l (taken-top S f X x .0) e)))
 
   not-single : Each (tops (taken S f)) (λ X. (m : ℕ) → 2 ^ m ≡ S → ⊥)
   not-single X d m e =
       let k = taken-top S f X d in
       let x = top X (k .1) in
       let j = bit-some n X (x .fits .some) (x .fits .fits) in
-      let b = sub X (j .0) (j .1) (k .0) (j .2) in
+      let b = contains-bit n S X (j .0) (j .1) (k .0) (j .2) in
       cases (eqb m (j .0))
       (λ q. omega (arith, bit-pow-le X (j .0) (j .2), x .less, e, ap (λ (y : ℕ). 2 ^ y) (eqb-true m (j .0) q)))
       (λ q. omega (arith, b, ap (λ (y : ℕ). bit y (j .0)) e, bit-pow-other m (j .0) (eqb-false m (j .0) q)))
@@ -160,7 +142,7 @@ module _ (L n : ℕ) (T : List Row) (t : LinkTable L n T) (P Q : List Row) (R : 
         );
     joint = not-single;
     made = λ X d.
-        side-is n (taken S f) S (part-named n (contains S) f (g .named)) taken-once (far-S .fits) (λ m l.
+        side-is n (taken S f) S (part-named n (contains S) f (g .named)) (part-once (contains S) f f-once) (far-S .fits) (λ m l.
         cases (eqb (bit S m) 1)
         (λ e. let b = eqb-true (bit S m) 1 e in cover m l b (not-single X d m) ∙ sym b)
         (λ e. let b : bit S m ≡ 0 = omega (arith, eqb-false (bit S m) 1 e, bit-lt S m) in uncover m l b ∙ sym b));

@@ -1,9 +1,11 @@
 -- What is said of vertices, and of one vertex without its cost: their images, far sides, brackets and rows. Assumes nothing.
 use mathlib.Core.List.{List, List·Memᴰ, [], _++_, _∷_}
-use mathlib.Core.Path.{_≡_}
+use mathlib.Core.Path.{refl, _≡_}
 use Prim.Native.Nat.{suc, ℕ, _+_, _<_, _^_, _≤_}
 use native.Mathlib.Omega.{arith}
 use lib.Dec.{eqb}
+use borrow.Author.Tests.{eq-eqb, ne-eqb}
+use borrow.Table.Steps.{cases}
 use Rattle.ground.specs.Counts.{one-if}
 use Rattle.ground.specs.Filters.{Each}
 use Rattle.ground.specs.Members.{isIn}
@@ -11,6 +13,7 @@ use Rattle.theory.specs.LinkTables.{Row, fars}
 use Rattle.newick_text.specs.Trees.{Head, Siblings, bracket, closed, image, named, none, size}
 use Rattle.newick_text.specs.Tables.{imageSide, rows, side, sorted}
 use Rattle.newick_text.specs.Order.{Rising}
+use Rattle.newick_text.specs.Laws.Lists.{is-in-more}
 
 -- how often image m + 1 is named
 unfoldable pub occ : Siblings → ℕ → ℕ
@@ -90,6 +93,13 @@ headRows (closed g) c = rows g ++ ((side g, c) ∷ [])
 -- 1 where the own link of image m + 1 is among the far sides
 abbrev pub seen : List ℕ → ℕ → ℕ
 seen l m = one-if (isIn (2 ^ m) l)
+
+-- one far side more: the own link that it is, and the others
+pub seen-last : (l : List ℕ) (S m : ℕ) → 2 ^ m ≡ S → seen (l ++ (S ∷ [])) m ≡ 1
+seen-last l S m e = rw (is-in-more (2 ^ m) S l, eq-eqb (2 ^ m) S e) (cases (isIn (2 ^ m) l) (λ y. rw y refl) (λ y. rw y refl))
+
+pub seen-more : (l : List ℕ) (S m : ℕ) → (2 ^ m ≡ S → ⊥) → seen (l ++ (S ∷ [])) m ≡ seen l m
+seen-more l S m d = rw (is-in-more (2 ^ m) S l, ne-eqb (2 ^ m) S d) (cases (isIn (2 ^ m) l) (λ y. rw y refl) (λ y. rw y refl))
 
 -- the vertices f of the rows P over n images
 pub record Stage (n : ℕ) (P : List Row) (f : Siblings) : Type 0 where
