@@ -17,13 +17,12 @@ use Rattle.text.specs.Decimal.{decimal}
 use Rattle.newick_text.specs.Trees.{Siblings, bracket, image, none, text}
 use Rattle.newick_text.specs.Profile.{Formed, Tree}
 use Rattle.newick_text.specs.Tables.{names, tableOf}
-use Rattle.newick_text.specs.Order.{RisingTree}
+use Rattle.newick_text.specs.Order.{RisingTree, fall}
 use Rattle.newick_text.specs.LinkTrees.{linkTree, rooted}
-use Rattle.newick_text.specs.Bytes.{run}
 use Rattle.newick_text.specs.States.{State, costing, dead, done, ended, head, start, vertex}
+use Rattle.newick_text.specs.Bytes.{run}
 use Rattle.newick_text.specs.Ends.{isDone, treeOf}
 use Rattle.newick_text.specs.Reading.{costsCheck, namesCheck, profileCheck, readChecks, treeChecks, treeIn}
-use Rattle.newick_text.specs.Order.{fall}
 use Rattle.newick_text.specs.Laws.Falls.{no-fall}
 use Rattle.newick_text.specs.Laws.NamedOnce.{AllOnce, all-once}
 use Rattle.newick_text.specs.Laws.OneText.{grown-again}
@@ -71,7 +70,8 @@ tree-accepted L f room w e =
     go (bracket g c r) w q z = tt
 
 -- the vertices of an accepted tree, over image 1's row
-pub root-proper : (L room i c : ℕ) (r : Siblings) → Tree (image i c r) → Accepted L (image i c r) room → Proper (length (names (image i c r))) (bracket r c none)
+pub root-proper : (L room i c : ℕ) (r : Siblings) → Tree (image i c r) → Accepted L (image i c r) room
+    → Proper (length (names (image i c r))) (bracket r c none)
 unfolding occ
 root-proper L room i c r w a = record {
   named = (a .all .named .2, tt);
@@ -83,7 +83,8 @@ root-proper L room i c r w a = record {
 pub tree-again : (L room : ℕ) (f : Siblings) → Tree f → Accepted L f room → linkTree (tableOf f) ≡ f
 tree-again L room none w a = absurd (omega (arith, w .three))
 tree-again L room (image i c r) w a =
-    ap rooted (grown-again (length (names (image i c r))) (a .few) (bracket r c none) (root-proper L room i c r w a)) ∙ ap (λ (x : ℕ). image x c r) (sym (w .one))
+    ap rooted (grown-again (length (names (image i c r))) (a .few) (bracket r c none) (root-proper L room i c r w a))
+    ∙ ap (λ (x : ℕ). image x c r) (sym (w .one))
 tree-again L room (bracket g c r) w a = absurd (w .one)
 
 -- ## A text

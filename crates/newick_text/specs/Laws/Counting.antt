@@ -1,5 +1,5 @@
 -- How many images vertices name, and how deep their brackets are. Assumes nothing.
-use mathlib.Core.List.{List·Memᴰ·head, List·Memᴰ·tail, Memᴰ·append-left, Memᴰ·append-right, _∷_}
+use mathlib.Core.List.{List·Memᴰ, List·Memᴰ·head, List·Memᴰ·tail, Memᴰ·append-left, Memᴰ·append-right, _∷_}
 use mathlib.Core.Path.{refl, sym, _≡_}
 use Prim.Native.Nat.{suc, ℕ, _+_, _<_, _≤_}
 use native.Mathlib.Omega.{arith}
@@ -9,6 +9,7 @@ use Rattle.ground.specs.Counts.{one-if}
 use Rattle.ground.specs.Filters.{Each}
 use Rattle.ground.specs.Totals.{total}
 use Rattle.ground.specs.Laws.Totals.{total-add, total-zero}
+use Rattle.theory.specs.LinkTables.{Row}
 use Rattle.newick_text.specs.Trees.{Siblings, bracket, image, none, size}
 use Rattle.newick_text.specs.Profile.{Formed}
 use Rattle.newick_text.specs.Tables.{names, rows, side}
@@ -39,7 +40,8 @@ unfolding rows
 rows-costs k none h = tt
 rows-costs k (image i c r) h = (h _ (List·Memᴰ·head refl), rows-costs k r (λ x d. h x (List·Memᴰ·tail d)))
 rows-costs k (bracket g c r) h =
-    (rows-costs k g (λ x d. h x (Memᴰ·append-left ((side g, c) ∷ rows r) d)), h _ (Memᴰ·append-right (rows g) (List·Memᴰ·head refl)), rows-costs k r (λ x d. h x (Memᴰ·append-right (rows g) (List·Memᴰ·tail d))))
+    let q : Each ((side g, c) ∷ rows r) (λ x. x .1 < k) = λ x d. h x (Memᴰ·append-right (rows g) d) in
+    (rows-costs k g (λ x d. h x (Memᴰ·append-left ((side g, c) ∷ rows r) d)), q _ (List·Memᴰ·head refl), rows-costs k r (λ x d. q x (List·Memᴰ·tail d)))
 
 -- each bracket more costs an image
 pub formed-of : (n d : ℕ) (f : Siblings) → n ≤ 64 → Named n f → Costs 100000000 f → Bushy f → d + length (names f) ≤ 62 + size f → Formed d f
@@ -50,4 +52,5 @@ formed-of n d (bracket g c r) l h k b e =
     let a = names-some g (b .1) in
     let q = names-some r (b .2) in
     let s = length-append (names g) (names r) in
-    (omega (arith, b .0), b .0, formed-of n (suc d) g l (h .0) (k .0) (b .1) (omega (arith, b .0)), k .1, formed-of n d r l (h .1) (k .2) (b .2) (omega (arith, b .0)))
+    let inner = formed-of n (suc d) g l (h .0) (k .0) (b .1) (omega (arith, b .0)) in
+    (omega (arith, b .0), b .0, inner, k .1, formed-of n d r l (h .1) (k .2) (b .2) (omega (arith, b .0)))

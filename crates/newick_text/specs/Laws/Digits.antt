@@ -11,8 +11,8 @@ use Rattle.text.specs.Decimal.{decimal, digit}
 use Rattle.text.specs.Laws.Numbers.{decimal-more, decimal-small}
 use Rattle.newick_text.specs.Trees.{Head, named}
 use Rattle.newick_text.specs.Profile.{CostFits, ImageFits}
-use Rattle.newick_text.specs.Bytes.{run, step}
 use Rattle.newick_text.specs.States.{Open, State, atOne, blank, costing, head, value, vertex}
+use Rattle.newick_text.specs.Bytes.{run, step}
 
 module _ (o : Open) (v : Head) where
   blank-digit : (b : ℕ) → 48 ≤ b → b ≤ 57 → step (costing o v blank) b ≡ costing o v (value (b - 48))
@@ -21,12 +21,14 @@ module _ (o : Open) (v : Head) where
 
   value-digit : (x b : ℕ) → 1 ≤ x → x < 10000000 → 48 ≤ b → b ≤ 57 → step (costing o v (value x)) b ≡ costing o v (value (10 * x + (b - 48)))
   unfolding step
-  value-digit x b p q l h = rw (ne-eqb b 44 (λ e. omega arith), ne-eqb b 41 (λ e. omega arith), le-leb 48 b l, le-leb b 57 h, le-leb 1 x p, lt-ltb x 10000000 q) refl
+  value-digit x b p q l h =
+      rw (ne-eqb b 44 (λ e. omega arith), ne-eqb b 41 (λ e. omega arith), le-leb 48 b l, le-leb b 57 h, le-leb 1 x p, lt-ltb x 10000000 q) refl
 
   small-cost : (x : ℕ) (t : List ℕ) → x < 10 → run (costing o v blank) (decimal x ++ t) ≡ run (costing o v (value x)) t
   unfolding run
   small-cost x t h =
-      rw (decimal-small x h) (ap (λ (s : State). run s t) (blank-digit (48 + x) (omega arith) (omega arith) ∙ ap (λ (y : ℕ). costing o v (value y)) (omega arith)))
+      rw (decimal-small x h)
+      (ap (λ (s : State). run s t) (blank-digit (48 + x) (omega arith) (omega arith) ∙ ap (λ (y : ℕ). costing o v (value y)) (omega arith)))
 
   cost-digits : (k x : ℕ) (t : List ℕ) → x < 10 ^ suc k → CostFits x → run (costing o v blank) (decimal x ++ t) ≡ run (costing o v (value x)) t
   unfolding run
@@ -39,7 +41,8 @@ module _ (o : Open) (v : Head) where
       let d = digit (x % 10) in
       rw (decimal-more x l (omega arith), append-assoc (decimal (x / 10)) (d ∷ []) t)
       (ih (d ∷ t) (omega arith) (omega arith)
-      ∙ ap (λ (s : State). run s t) (value-digit (x / 10) d (omega arith) (omega arith) (omega arith) (omega arith) ∙ ap (λ (y : ℕ). costing o v (value y)) (omega arith))))
+      ∙ ap (λ (s : State). run s t)
+      (value-digit (x / 10) d (omega arith) (omega arith) (omega arith) (omega arith) ∙ ap (λ (y : ℕ). costing o v (value y)) (omega arith))))
 
   pub cost-read : (x : ℕ) (t : List ℕ) → CostFits x → run (costing o v blank) (decimal x ++ t) ≡ run (costing o v (value x)) t
   cost-read x t f = cost-digits 7 x t f f
@@ -68,4 +71,5 @@ module _ (o : Open) where
       let z : atOne o ≡ false = cases (atOne o) (λ a. absurd (omega (arith, f a))) (λ a. a) in
       rw (decimal-more i l (omega arith), decimal-small (i / 10) (omega arith))
       (ap (λ (s : State). run (step s d) t) (begin-digit (i / 10) (omega arith) (omega arith) (λ a. absurd (false≢true (sym z ∙ a))))
-      ∙ ap (λ (s : State). run s t) (second-digit (i / 10) d (omega arith) (omega arith) (omega arith) (omega arith) z ∙ ap (λ (x : ℕ). head o (named x)) (omega arith))))
+      ∙ ap (λ (s : State). run s t)
+      (second-digit (i / 10) d (omega arith) (omega arith) (omega arith) (omega arith) z ∙ ap (λ (x : ℕ). head o (named x)) (omega arith))))

@@ -14,8 +14,7 @@ use Rattle.ground.specs.Laws.Bits.{bit-some}
 use Rattle.text.specs.Decimal.{decimal}
 use Rattle.newick_text.specs.Trees.{Siblings, bracket, image, listed, none}
 use Rattle.newick_text.specs.Tables.{imageSide, side}
-use Rattle.newick_text.specs.Order.{Rising, RisingTree}
-use Rattle.newick_text.specs.Order.{fall, fallFrom, firstOf}
+use Rattle.newick_text.specs.Order.{Rising, RisingTree, fall, fallFrom, firstOf}
 use Rattle.newick_text.specs.Laws.Parts.{rising-from}
 use Rattle.newick_text.specs.Laws.Sides.{image-bit, side-bit, top-fits, top-occ}
 use Rattle.newick_text.specs.Laws.Sizes.{tops-some}

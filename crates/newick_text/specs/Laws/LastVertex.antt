@@ -6,7 +6,7 @@ use native.Mathlib.Omega.{arith}
 use Rattle.ground.specs.Filters.{Each}
 use Rattle.ground.specs.Laws.Filters.{each-cons}
 use Rattle.theory.specs.LinkTables.{Row}
-use Rattle.newick_text.specs.Trees.{Head, Siblings, add, bracket, closed, image, named, none, size}
+use Rattle.newick_text.specs.Trees.{Head, Siblings, add, bracket, closed, image, named, none, put, size}
 use Rattle.newick_text.specs.Tables.{imageSide, insert, rows, side, sorted}
 use Rattle.newick_text.specs.Order.{Rising}
 use Rattle.newick_text.specs.Laws.Sorting.{all-append, all-insert, insertAll, sorted-all}
@@ -39,7 +39,8 @@ unfolding rows
 add-rows none (named i) c = refl
 add-rows none (closed g) c = refl
 add-rows (image j d r) v c = ap (λ (l : List Row). (imageSide j, d) ∷ l) (add-rows r v c)
-add-rows (bracket h d r) v c = ap (λ (l : List Row). rows h ++ ((side h, d) ∷ l)) (add-rows r v c) ∙ sym (append-assoc (rows h) ((side h, d) ∷ rows r) (headRows v c))
+add-rows (bracket h d r) v c =
+    ap (λ (l : List Row). rows h ++ ((side h, d) ∷ l)) (add-rows r v c) ∙ sym (append-assoc (rows h) ((side h, d) ∷ rows r) (headRows v c))
 
 -- its rows in order, its own row apart
 pub add-sorted : (f : Siblings) (v : Head) (c : ℕ) (y : List Row) (R : Row) → headRows v c ≡ y ++ (R ∷ [])
@@ -58,7 +59,8 @@ bushy-add none (closed g) c h k = (k .0, k .1, tt)
 bushy-add (image j d r) v c h k = bushy-add r v c h k
 bushy-add (bracket g d r) v c h k = (h .0, h .1, bushy-add r v c (h .2) k)
 
-pub rising-add : (b : ℕ) (f : Siblings) (v : Head) (c : ℕ) → Rising b f → HeadRising v → b ≤ headSide v → Each (tops f) (λ X. X < headSide v) → Rising b (add f v c)
+pub rising-add : (b : ℕ) (f : Siblings) (v : Head) (c : ℕ) → Rising b f → HeadRising v → b ≤ headSide v → Each (tops f) (λ X. X < headSide v)
+    → Rising b (add f v c)
 unfolding tops
 rising-add b none (named i) c h k l t = (l, tt)
 rising-add b none (closed g) c h k l t = (l, k, tt)
@@ -73,14 +75,19 @@ pub record Snoc (f : Siblings) : Type 0 where
   pub cost : ℕ
   pub whole : f ≡ add init last cost
 
+-- one vertex more at the front
+snoc-front : (v : Head) (c : ℕ) (f : Siblings) → Snoc f → Snoc (put v c f)
+snoc-front (named i) c f s = record { init = image i c (s .init); last = s .last; cost = s .cost; whole = ap (image i c) (s .whole) }
+snoc-front (closed g) c f s = record { init = bracket g c (s .init); last = s .last; cost = s .cost; whole = ap (bracket g c) (s .whole) }
+
 pub snoc : (f : Siblings) → 1 ≤ size f → Snoc f
 snoc none h = absurd (omega arith)
 snoc (image i c none) h = record { init = none; last = named i; cost = c; whole = refl }
-snoc (image i c (image j d r)) h = let s = snoc (image j d r) (omega arith) in record { init = image i c (s .init); last = s .last; cost = s .cost; whole = ap (image i c) (s .whole) }
-snoc (image i c (bracket j d r)) h = let s = snoc (bracket j d r) (omega arith) in record { init = image i c (s .init); last = s .last; cost = s .cost; whole = ap (image i c) (s .whole) }
+snoc (image i c (image j d r)) h = snoc-front (named i) c (image j d r) (snoc (image j d r) (omega arith))
+snoc (image i c (bracket j d r)) h = snoc-front (named i) c (bracket j d r) (snoc (bracket j d r) (omega arith))
 snoc (bracket g c none) h = record { init = none; last = closed g; cost = c; whole = refl }
-snoc (bracket g c (image j d r)) h = let s = snoc (image j d r) (omega arith) in record { init = bracket g c (s .init); last = s .last; cost = s .cost; whole = ap (bracket g c) (s .whole) }
-snoc (bracket g c (bracket j d r)) h = let s = snoc (bracket j d r) (omega arith) in record { init = bracket g c (s .init); last = s .last; cost = s .cost; whole = ap (bracket g c) (s .whole) }
+snoc (bracket g c (image j d r)) h = snoc-front (closed g) c (image j d r) (snoc (image j d r) (omega arith))
+snoc (bracket g c (bracket j d r)) h = snoc-front (closed g) c (bracket j d r) (snoc (bracket j d r) (omega arith))
 
 -- what holds of all holds of both
 pub un-named : (n : ℕ) (f : Siblings) (v : Head) (c : ℕ) → Named n (add f v c) → Named n f × HeadNamed n v
@@ -95,7 +102,8 @@ un-bushy none (closed g) c h = (tt, (h .0, h .1))
 un-bushy (image j d r) v c h = un-bushy r v c h
 un-bushy (bracket g d r) v c h = let ih = un-bushy r v c (h .2) in ((h .0, h .1, ih .0), ih .1)
 
-pub un-rising : (b : ℕ) (f : Siblings) (v : Head) (c : ℕ) → Rising b (add f v c) → Rising b f × HeadRising v × (b ≤ headSide v) × Each (tops f) (λ X. X < headSide v)
+pub un-rising : (b : ℕ) (f : Siblings) (v : Head) (c : ℕ) → Rising b (add f v c)
+    → Rising b f × HeadRising v × (b ≤ headSide v) × Each (tops f) (λ X. X < headSide v)
 unfolding tops
 un-rising b none (named i) c h = (tt, tt, h .0, λ X m. absurd (List·Memᴰ·not-nil m))
 un-rising b none (closed g) c h = (tt, h .1, h .0, λ X m. absurd (List·Memᴰ·not-nil m))

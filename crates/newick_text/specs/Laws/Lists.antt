@@ -11,6 +11,7 @@ use borrow.Table.Steps.{cases}
 use Rattle.ground.specs.Ascending.{Between}
 use Rattle.ground.specs.Filters.{Each}
 use Rattle.ground.specs.Members.{isIn}
+use Rattle.ground.specs.Laws.Filters.{each-cons, each-nil}
 use Rattle.theory.specs.LinkTables.{Row, costs, fars}
 
 -- ## Ascending numbers
@@ -43,6 +44,16 @@ each-append P l m p q x d = go (List·Memᴰ·append-cases l d)
     go : List·Memᴰ x l ⊎ List·Memᴰ x m → P x
     go (inl e) = p x e
     go (inr e) = q x e
+
+pub each-one : {A : Type 0} (P : A → Type 0) (x : A) → P x → Each (x ∷ []) P
+each-one P x p = each-cons P x [] p (each-nil P)
+
+-- any two members
+pub pairs-append : {A : Type 0} (Q : A → A → Type 0) → ((x y : A) → Q x y → Q y x) → (l m : List A)
+    → Each l (λ x. Each l (Q x)) → Each m (λ x. Each m (Q x)) → Each l (λ x. Each m (Q x)) → Each (l ++ m) (λ x. Each (l ++ m) (Q x))
+pairs-append Q s l m a b c =
+    each-append (λ x. Each (l ++ m) (Q x)) l m (λ x d. each-append (Q x) l m (a x d) (c x d))
+    (λ x d. each-append (Q x) l m (λ y e. s y x (c y e x d)) (b x d))
 
 -- ## Rows by their places
 

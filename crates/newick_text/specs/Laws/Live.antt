@@ -7,8 +7,8 @@ use lib.Dec.{eqb, leb, ltb}
 use borrow.Author.Tests.{leb-true, ltb-true, not-true}
 use borrow.Table.Steps.{cases}
 use Rattle.ground.specs.Laws.Tests.{and-l, and-r}
-use Rattle.newick_text.specs.Bytes.{begins, grows, isDigit, onlyIf, run, step}
 use Rattle.newick_text.specs.States.{Open, State, atOne, costing, dead, done, ended, head, start, vertex}
+use Rattle.newick_text.specs.Bytes.{begins, grows, isDigit, onlyIf, run, step}
 use Rattle.newick_text.specs.Ends.{isDead}
 
 -- alive
@@ -38,7 +38,8 @@ begins-digit o b p =
 pub grows-small : (o : Open) (i : ℕ) → grows o i ≡ true → (1 ≤ i) × (i < 10) × (atOne o ≡ false)
 grows-small o i p =
     let d = and-l (leb 1 i && ltb i 10) (not (atOne o)) p in
-    (leb-true 1 i (and-l (leb 1 i) (ltb i 10) d), ltb-true i 10 (and-r (leb 1 i) (ltb i 10) d), not-true (atOne o) (and-r (leb 1 i && ltb i 10) (not (atOne o)) p))
+    let e = not-true (atOne o) (and-r (leb 1 i && ltb i 10) (not (atOne o)) p) in
+    (leb-true 1 i (and-l (leb 1 i) (ltb i 10) d), ltb-true i 10 (and-r (leb 1 i) (ltb i 10) d), e)
 
 -- ## The whole text
 

@@ -1,12 +1,12 @@
 -- Refusal 13: n numbers, and each of 1 to n among them, name every image once. Assumes nothing.
-use mathlib.Core.Bool.{Bool, false, false≢true, true, _||_}
+use mathlib.Core.Bool.{true, _||_}
 use mathlib.Core.Logic.{inl, inr, _⊎_}
-use mathlib.Core.Path.{ap, refl, _≡_}
+use mathlib.Core.Path.{ap, refl, sym, _∙_, _≡_}
 use Prim.Native.Nat.{suc, ℕ, _+_, _<_, _≤_}
 use native.Mathlib.Omega.{arith}
 use lib.Dec.{eqb, ltb}
 use lib.ListN.{length, length-append}
-use borrow.Author.Tests.{eqb-false, eqb-true, ltb-false, ltb-true, ne-eqb}
+use borrow.Author.Tests.{lt-ltb, ltb-false, ltb-true, ne-eqb}
 use borrow.Table.Steps.{cases}
 use Rattle.ground.specs.Counts.{one-if}
 use Rattle.ground.specs.Members.{isIn}
@@ -21,36 +21,22 @@ use Rattle.newick_text.specs.Laws.Lists.{is-in-append}
 use Rattle.newick_text.specs.Laws.Numbers.{eqb-turn, total-below, total-image, total-tight}
 use Rattle.newick_text.specs.Laws.Vertices.{Named, Once, occ}
 
-or-some : (a b : Bool) (x y : ℕ) → (a ≡ true → 0 < x) → (b ≡ true → 0 < y) → (a || b) ≡ true → 0 < x + y
-or-some true b x y p q e = omega (arith, p refl)
-or-some false b x y p q e = omega (arith, q e)
+some-or : (x y : ℕ) → (ltb 0 x || ltb 0 y) ≡ ltb 0 (x + y)
+some-or x y =
+    cases (ltb 0 x) (λ e. rw e (sym (lt-ltb 0 (x + y) (omega (arith, ltb-true 0 x e)))))
+    (λ e. let q : y ≡ x + y = omega (arith, ltb-false 0 x e) in rw e (ap (ltb 0) q))
 
-some-or : (a b : Bool) (x y : ℕ) → (0 < x → a ≡ true) → (0 < y → b ≡ true) → 0 < x + y → (a || b) ≡ true
-some-or true b x y p q e = refl
-some-or false b x y p q e = cases (eqb y 0) (λ z. absurd (false≢true (p (omega (arith, eqb-true y 0 z))))) (λ z. q (omega (arith, eqb-false y 0 z)))
-
-one-true : (a : Bool) → a ≡ true → 0 < one-if a
-one-true true e = omega arith
-one-true false e = absurd (false≢true e)
-
-true-one : (a : Bool) → 0 < one-if a → a ≡ true
-true-one true e = refl
-true-one false e = absurd (omega arith)
-
-named-occ : (f : Siblings) (m : ℕ) → isIn (suc m) (names f) ≡ true → 0 < occ f m
+-- the numbers in the text are those that are named
+names-occ : (f : Siblings) (m : ℕ) → isIn (suc m) (names f) ≡ ltb 0 (occ f m)
 unfolding names occ
-named-occ none m e = absurd (false≢true e)
-named-occ (image i c r) m e =
-    or-some (eqb i (suc m)) (isIn (suc m) (names r)) (one-if (eqb i (suc m))) (occ r m) (one-true (eqb i (suc m))) (named-occ r m) (rw (eqb-turn (suc m) i) at e)
-named-occ (bracket g c r) m e = or-some (isIn (suc m) (names g)) (isIn (suc m) (names r)) (occ g m) (occ r m) (named-occ g m) (named-occ r m) (rw (is-in-append (suc m) (names g) (names r)) at e)
+names-occ none m = refl
+names-occ (image i c r) m =
+    let ih = names-occ r m in
+    rw (eqb-turn (suc m) i, ih, ← some-or (one-if (eqb i (suc m))) (occ r m)) (cases (eqb i (suc m)) (λ e. rw e refl) (λ e. rw e refl))
+names-occ (bracket g c r) m = rw (is-in-append (suc m) (names g) (names r), names-occ g m, names-occ r m) (some-or (occ g m) (occ r m))
 
 pub occ-named : (f : Siblings) (m : ℕ) → 0 < occ f m → isIn (suc m) (names f) ≡ true
-unfolding names occ
-occ-named none m e = absurd (omega arith)
-occ-named (image i c r) m e =
-    rw (eqb-turn (suc m) i) (some-or (eqb i (suc m)) (isIn (suc m) (names r)) (one-if (eqb i (suc m))) (occ r m) (true-one (eqb i (suc m))) (occ-named r m) e)
-occ-named (bracket g c r) m e =
-    rw (is-in-append (suc m) (names g) (names r)) (some-or (isIn (suc m) (names g)) (isIn (suc m) (names r)) (occ g m) (occ r m) (occ-named g m) (occ-named r m) e)
+occ-named f m h = names-occ f m ∙ lt-ltb 0 (occ f m) h
 
 -- ## Numbers that are none of 1 to n
 
@@ -66,7 +52,9 @@ strays n (bracket g c r) = strays n g + strays n r
 total-stray : (n i : ℕ) → total n (λ m. one-if (eqb i (suc m))) + stray n i ≡ 1
 total-stray n i =
     cases (outside 1 n i)
-    (λ e. rw e (omega (arith, total-below n (λ m. one-if (eqb i (suc m))) (λ m l. ap one-if (ne-eqb i (suc m) (λ q. far m l q (or-cases (ltb i 1) (ltb n i) e)))))))
+    (λ e.
+    let other : (m : ℕ) → m < n → i ≡ suc m → ⊥ = λ m l q. far m l q (or-cases (ltb i 1) (ltb n i) e) in
+    rw e (omega (arith, total-below n (λ m. one-if (eqb i (suc m))) (λ m l. ap one-if (ne-eqb i (suc m) (other m l))))))
     (λ e. let k = outside-false 1 n i e in rw e (omega (arith, total-image n i (k .0) (k .1))))
   where
     far : (m : ℕ) → m < n → i ≡ suc m → (ltb i 1 ≡ true) ⊎ (ltb n i ≡ true) → ⊥
@@ -104,7 +92,7 @@ pub record AllOnce (n : ℕ) (f : Siblings) : Type 0 where
 
 pub all-once : (n : ℕ) (f : Siblings) → length (names f) ≡ n → ((m : ℕ) → m < n → isIn (suc m) (names f) ≡ true) → AllOnce n f
 all-once n f e h =
-    let some : (m : ℕ) → m < n → 1 ≤ occ f m = λ m l. named-occ f m (h m l) in
+    let some : (m : ℕ) → m < n → 1 ≤ occ f m = λ m l. ltb-true 0 (occ f m) (sym (names-occ f m) ∙ h m l) in
     let t = total-least n (occ f) some in
     let s = strays-total n f in
     let k : Named n f = strays-none n f (omega arith) in

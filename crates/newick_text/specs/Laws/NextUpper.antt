@@ -81,4 +81,5 @@ upper-next l j k h n =
 pub upper-new : (l : List ℕ) (k : ℕ) → k < length l → unseen (suc (suc k)) (up l k) ≡ true
 upper-new l k h =
     let e = up-from 1 l k h in
-    rw e (subst (λ (m : ℕ). unseen m (upperFrom (suc (1 + k)) (getD l k 0) (drop (suc k) l)) ≡ true) (omega arith) (unseen-of (suc (1 + k)) _ (upper-least (suc (1 + k)) (getD l k 0) (drop (suc k) l))))
+    let w = unseen-of (suc (1 + k)) _ (upper-least (suc (1 + k)) (getD l k 0) (drop (suc k) l)) in
+    rw e (subst (λ (m : ℕ). unseen m (upperFrom (suc (1 + k)) (getD l k 0) (drop (suc k) l)) ≡ true) (omega arith) w)

@@ -15,7 +15,9 @@ use Rattle.ground.specs.Laws.Totals.{total-least, total-one}
 use Rattle.theory.specs.FarSides.{own}
 
 eqb-suc : (x y : ℕ) → eqb (suc x) (suc y) ≡ eqb x y
-eqb-suc x y = cases (eqb x y) (λ e. rw e (eq-eqb (suc x) (suc y) (ap suc (eqb-true x y e)))) (λ e. rw e (ne-eqb (suc x) (suc y) (λ q. eqb-false x y e (omega arith))))
+eqb-suc x y =
+    cases (eqb x y) (λ e. rw e (eq-eqb (suc x) (suc y) (ap suc (eqb-true x y e))))
+    (λ e. rw e (ne-eqb (suc x) (suc y) (λ q. eqb-false x y e (omega arith))))
 
 pub eqb-turn : (x y : ℕ) → eqb x y ≡ eqb y x
 eqb-turn x y = cases (eqb y x) (λ e. rw e (eq-eqb x y (sym (eqb-true y x e)))) (λ e. rw e (ne-eqb x y (λ q. eqb-false y x e (sym q))))
@@ -63,7 +65,8 @@ num-one (suc k) zero h =
     omega (arith, num-same k (λ m. one-if (eqb 1 (suc (suc m)))) (λ m. 0) (λ m. ap one-if (ne-eqb 1 (suc (suc m)) (λ e. omega arith))), num-none k)
 num-one (suc k) (suc j) h =
     let z : one-if (eqb (suc (suc j)) 1) ≡ 0 = ap one-if (ne-eqb (suc (suc j)) 1 (λ e. omega arith)) in
-    omega (arith, z, num-same k (λ m. one-if (eqb (suc (suc j)) (suc (suc m)))) (λ m. one-if (eqb (suc j) (suc m))) (λ m. ap one-if (eqb-suc (suc j) (suc m))), num-one k j (omega arith))
+    let s = num-same k (λ m. one-if (eqb (suc (suc j)) (suc (suc m)))) (λ m. one-if (eqb (suc j) (suc m))) (λ m. ap one-if (eqb-suc (suc j) (suc m))) in
+    omega (arith, z, s, num-one k j (omega arith))
 
 -- ## Totals
 

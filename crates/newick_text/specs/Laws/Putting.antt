@@ -22,13 +22,25 @@ pub put-named : (n : ℕ) (v : Head) (c : ℕ) (f : Siblings) → HeadNamed n v 
 put-named n (named i) c f h k = (h .0, h .1, k)
 put-named n (closed g) c f h k = (h, k)
 
+pub named-put : (n : ℕ) (v : Head) (c : ℕ) (f : Siblings) → Named n (put v c f) → HeadNamed n v × Named n f
+named-put n (named i) c f h = ((h .0, h .1), h .2)
+named-put n (closed g) c f h = (h .0, h .1)
+
 pub put-bushy : (v : Head) (c : ℕ) (f : Siblings) → HeadBushy v → Bushy f → Bushy (put v c f)
 put-bushy (named i) c f h k = k
 put-bushy (closed g) c f h k = (h .0, h .1, k)
 
+pub bushy-put : (v : Head) (c : ℕ) (f : Siblings) → Bushy (put v c f) → HeadBushy v × Bushy f
+bushy-put (named i) c f h = (tt, h)
+bushy-put (closed g) c f h = ((h .0, h .1), h .2)
+
 pub put-rising : (b : ℕ) (v : Head) (c : ℕ) (f : Siblings) → b ≤ headSide v → HeadRising v → Rising (suc (headSide v)) f → Rising b (put v c f)
 put-rising b (named i) c f l h k = (l, k)
 put-rising b (closed g) c f l h k = (l, h, k)
+
+pub rising-put : (b : ℕ) (v : Head) (c : ℕ) (f : Siblings) → Rising b (put v c f) → (b ≤ headSide v) × HeadRising v × Rising (suc (headSide v)) f
+rising-put b (named i) c f h = (h .0, tt, h .1)
+rising-put b (closed g) c f h = (h .0, h .1, h .2)
 
 pub put-tops : (v : Head) (c : ℕ) (f : Siblings) → tops (put v c f) ≡ headSide v ∷ tops f
 unfolding tops

@@ -20,7 +20,9 @@ le-before a b e = go (or-cases (ltb (a .0) (b .0)) (eqb (a .0) (b .0) && leb (a 
   where
     go : (ltb (a .0) (b .0) ≡ true) ⊎ ((eqb (a .0) (b .0) && leb (a .1) (b .1)) ≡ true) → Before a b
     go (inl h) = inl (ltb-true (a .0) (b .0) h)
-    go (inr h) = inr (eqb-true (a .0) (b .0) (and-l (eqb (a .0) (b .0)) (leb (a .1) (b .1)) h), leb-true (a .1) (b .1) (and-r (eqb (a .0) (b .0)) (leb (a .1) (b .1)) h))
+    go (inr h) =
+        let k = leb-true (a .1) (b .1) (and-r (eqb (a .0) (b .0)) (leb (a .1) (b .1)) h) in
+        inr (eqb-true (a .0) (b .0) (and-l (eqb (a .0) (b .0)) (leb (a .1) (b .1)) h), k)
 
 before-le : (a b : Row) → Before a b → rowLe a b ≡ true
 before-le a b (inl h) = or-l (ltb (a .0) (b .0)) (eqb (a .0) (b .0) && leb (a .1) (b .1)) (lt-ltb (a .0) (b .0) h)
