@@ -27,9 +27,9 @@ use Rattle.newick_text.specs.Laws.Falls.{no-fall}
 use Rattle.newick_text.specs.Laws.NamedOnce.{AllOnce, all-once}
 use Rattle.newick_text.specs.Laws.OneText.{grown-again}
 use Rattle.newick_text.specs.Laws.Place.{done-text}
-use Rattle.newick_text.specs.Laws.Vertices.{Bushy, Proper, occ, once-behind}
+use Rattle.newick_text.specs.Laws.Vertices.{Bushy, Proper, behind-once, occ}
 
-formed-bushy : (d : ℕ) (f : Siblings) → Formed d f → Bushy f
+pub formed-bushy : (d : ℕ) (f : Siblings) → Formed d f → Bushy f
 formed-bushy d none h = tt
 formed-bushy d (image i c r) h = formed-bushy d r (h .2)
 formed-bushy d (bracket g c r) h = (h .1, formed-bushy (suc d) g (h .2), formed-bushy d r (h .4))
@@ -66,7 +66,7 @@ tree-accepted L f room w e =
     go none w q z = tt
     go (image i c r) w q z =
         let p : ℕ = 2 + (length (decimal i) + (length (decimal c) + 2)) in
-        no-fall (length (names (image i c r))) p 0 r (omega arith) (q .named .2) (once-behind i r c (q .once)) (formed-bushy 1 r (w .formed .2)) z
+        no-fall (length (names (image i c r))) p 0 r (omega arith) (q .named .2) (behind-once i c r (q .once)) (formed-bushy 1 r (w .formed .2)) z
     go (bracket g c r) w q z = tt
 
 -- the vertices of an accepted tree, over image 1's row
@@ -95,7 +95,7 @@ pub record Said (L : ℕ) (t : List ℕ) (room : ℕ) : Type 0 where
   pub fine : Tree (treeIn t)
   pub accepted : Accepted L (treeIn t) room
 
-done-is : (s : State) → isDone s ≡ true → s ≡ done (treeOf s)
+pub done-is : (s : State) → isDone s ≡ true → s ≡ done (treeOf s)
 done-is start e = absurd (false≢true e)
 done-is (vertex o) e = absurd (false≢true e)
 done-is (head o v) e = absurd (false≢true e)

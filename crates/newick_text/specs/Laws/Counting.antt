@@ -1,5 +1,5 @@
 -- How many images vertices name, and how deep their brackets are. Assumes nothing.
-use mathlib.Core.List.{List·Memᴰ, List·Memᴰ·head, List·Memᴰ·tail, Memᴰ·append-left, Memᴰ·append-right, _∷_}
+use mathlib.Core.List.{List·Memᴰ·head, List·Memᴰ·tail, Memᴰ·append-left, Memᴰ·append-right, _∷_}
 use mathlib.Core.Path.{refl, sym, _≡_}
 use Prim.Native.Nat.{suc, ℕ, _+_, _<_, _≤_}
 use native.Mathlib.Omega.{arith}
@@ -9,7 +9,6 @@ use Rattle.ground.specs.Counts.{one-if}
 use Rattle.ground.specs.Filters.{Each}
 use Rattle.ground.specs.Totals.{total}
 use Rattle.ground.specs.Laws.Totals.{total-add, total-zero}
-use Rattle.theory.specs.LinkTables.{Row}
 use Rattle.newick_text.specs.Trees.{Siblings, bracket, image, none, size}
 use Rattle.newick_text.specs.Profile.{Formed}
 use Rattle.newick_text.specs.Tables.{names, rows, side}

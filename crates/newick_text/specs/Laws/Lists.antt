@@ -26,10 +26,6 @@ between-last a k S (x ∷ l) b h p q = (b .0, between-last (suc x) k S l (b .1) 
 
 -- ## Members
 
-pub is-in-more : (x y : ℕ) (l : List ℕ) → isIn x (l ++ (y ∷ [])) ≡ (isIn x l || eqb x y)
-is-in-more x y [] = cases (eqb x y) (λ e. rw e refl) (λ e. rw e refl)
-is-in-more x y (z ∷ l) = let ih = is-in-more x y l in cases (eqb x z) (λ e. rw e refl) (λ e. rw (e, ih) refl)
-
 pub is-in-append : (x : ℕ) (l m : List ℕ) → isIn x (l ++ m) ≡ (isIn x l || isIn x m)
 is-in-append x [] m = refl
 is-in-append x (y ∷ l) m = let ih = is-in-append x l m in cases (eqb x y) (λ e. rw e refl) (λ e. rw (e, ih) refl)

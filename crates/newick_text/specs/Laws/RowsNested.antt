@@ -22,7 +22,7 @@ use Rattle.newick_text.specs.Tables.{imageSide, rows, side}
 use Rattle.newick_text.specs.Laws.Lists.{each-append, each-one, pairs-append}
 use Rattle.newick_text.specs.Laws.Numbers.{zero-or-one}
 use Rattle.newick_text.specs.Laws.Sides.{image-bit, side-bit}
-use Rattle.newick_text.specs.Laws.Vertices.{Named, Once, occ, once-behind, once-inner, once-rest}
+use Rattle.newick_text.specs.Laws.Vertices.{Named, Once, behind-once, occ, once-inner, once-rest}
 
 -- ## Images of a row
 
@@ -30,17 +30,20 @@ use Rattle.newick_text.specs.Laws.Vertices.{Named, Once, occ, once-behin
 abbrev Names : Siblings → ℕ → Row → Type 0
 Names f m x = bit (x .0) m ≡ 1 → 0 < occ f m
 
-pub row-occ : (n : ℕ) (f : Siblings) (m : ℕ) → Named n f → Once f → m < n → Each (rows f) (λ x. bit (x .0) m ≡ 1 → 0 < occ f m)
+rows-occ : (n : ℕ) (f : Siblings) (m : ℕ) → Named n f → Once f → m < n → Each (rows f) (Names f m)
 unfolding occ rows
-row-occ n none m h o l = each-nil (Names none m)
-row-occ n (image i c r) m h o l =
+rows-occ n none m h o l = each-nil (Names none m)
+rows-occ n (image i c r) m h o l =
     each-cons (Names (image i c r) m) (imageSide i, c) (rows r) (λ b. omega (arith, image-bit i m (h .0)))
-    (λ x d b. omega (arith, row-occ n r m (h .2) (once-behind i r c o) l x d b))
-row-occ n (bracket g c r) m h o l =
+    (λ x d b. omega (arith, rows-occ n r m (h .2) (behind-once i c r o) l x d b))
+rows-occ n (bracket g c r) m h o l =
     let P = Names (bracket g c r) m in
-    each-append P (rows g) ((side g, c) ∷ rows r) (λ x d b. omega (arith, row-occ n g m (h .0) (once-inner g r c o) l x d b))
+    each-append P (rows g) ((side g, c) ∷ rows r) (λ x d b. omega (arith, rows-occ n g m (h .0) (once-inner g r c o) l x d b))
     (each-cons P (side g, c) (rows r) (λ b. omega (arith, side-bit n g (h .0) (once-inner g r c o) m l))
-    (λ x d b. omega (arith, row-occ n r m (h .1) (once-rest g r c o) l x d b)))
+    (λ x d b. omega (arith, rows-occ n r m (h .1) (once-rest g r c o) l x d b)))
+
+pub row-occ : (n : ℕ) (f : Siblings) (x : Row) (m : ℕ) → Named n f → Once f → m < n → List·Memᴰ x (rows f) → bit (x .0) m ≡ 1 → 0 < occ f m
+row-occ n f x m h o l d b = rows-occ n f m h o l x d b
 
 -- a named image has its row
 pub occ-row : (f : Siblings) (m : ℕ) → 0 < occ f m → List·Memᴰ (2 ^ m) (fars (rows f))
@@ -77,24 +80,24 @@ unfolding occ rows
 rows-nested n none h o = each-nil (λ x. Each [] (Nest n x))
 rows-nested n (image i c r) h o =
     let s : Row = (imageSide i, c) in
-    let o′ = once-behind i r c o in
+    let o′ = behind-once i c r o in
     pairs-append (Nest n) (turned n) (s ∷ []) (rows r) (each-one _ s (each-one (Nest n s) s (inl (λ k l t. t)))) (rows-nested n r (h .2) o′)
     (each-one _ s (λ y d.
     disjoint n (imageSide i) (y .0) (λ m. one-if (eqb i (suc m))) (occ r) o (λ m l b. omega (arith, image-bit i m (h .0)))
-    (λ m l b. row-occ n r m (h .2) o′ l y d b)))
+    (λ m l b. row-occ n r y m (h .2) o′ l d b)))
 rows-nested n (bracket g c r) h o =
     let s : Row = (side g, c) in
     let u = once-inner g r c o in
     let w = once-rest g r c o in
-    let there : (y : Row) → List·Memᴰ y (rows r) → (m : ℕ) → m < n → bit (y .0) m ≡ 1 → 0 < occ r m = λ y d m l b. row-occ n r m (h .1) w l y d b in
+    let there : (y : Row) → List·Memᴰ y (rows r) → (m : ℕ) → m < n → bit (y .0) m ≡ 1 → 0 < occ r m = λ y d m l b. row-occ n r y m (h .1) w l d b in
     -- the bracket's own row is apart from those behind it
     let own : (y : Row) → List·Memᴰ y (rows r) → Nest n s y = λ y d.
     disjoint n (side g) (y .0) (occ g) (occ r) o (λ m l b. omega (arith, side-bit n g (h .0) u m l)) (there y d) in
     -- and contains those within it
     let within : (x : Row) → List·Memᴰ x (rows g) → Nest n x s = λ x d. inl (λ k l t.
-    bit-holds (side g) k (omega (arith, row-occ n g k (h .0) u l x d (holds-true (x .0) k t), u k, side-bit n g (h .0) u k l))) in
+    bit-holds (side g) k (omega (arith, row-occ n g x k (h .0) u l d (holds-true (x .0) k t), u k, side-bit n g (h .0) u k l))) in
     let apart : (x : Row) → List·Memᴰ x (rows g) → (y : Row) → List·Memᴰ y (rows r) → Nest n x y = λ x d y e.
-    disjoint n (x .0) (y .0) (occ g) (occ r) o (λ m l b. row-occ n g m (h .0) u l x d b) (there y e) in
+    disjoint n (x .0) (y .0) (occ g) (occ r) o (λ m l b. row-occ n g x m (h .0) u l d b) (there y e) in
     pairs-append (Nest n) (turned n) (rows g) (s ∷ rows r) (rows-nested n g (h .0) u)
     (pairs-append (Nest n) (turned n) (s ∷ []) (rows r) (each-one _ s (each-one (Nest n s) s (inl (λ k l t. t)))) (rows-nested n r (h .1) w) (each-one _ s own))
     (λ x d. each-cons (Nest n x) s (rows r) (within x d) (apart x d))

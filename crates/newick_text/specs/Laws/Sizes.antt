@@ -13,7 +13,7 @@ use Rattle.newick_text.specs.Laws.Lists.{each-append}
 use Rattle.newick_text.specs.Laws.Vertices.{Bushy, HeadBushy, headSide, tops}
 
 -- no far side in the rows is above all
-rows-side : (f : Siblings) → Each (rows f) (λ r. r .0 ≤ side f)
+pub rows-side : (f : Siblings) → Each (rows f) (λ r. r .0 ≤ side f)
 unfolding rows side
 rows-side none = each-nil (λ r. r .0 ≤ 0)
 rows-side (image i c q) = each-cons (λ r. r .0 ≤ side (image i c q)) (imageSide i, c) (rows q) (omega arith) (λ r d. omega (arith, rows-side q r d))

@@ -13,7 +13,7 @@ use Rattle.theory.specs.LinkTables.{Row, fars}
 use Rattle.newick_text.specs.Trees.{Head, Siblings, bracket, closed, image, named, none, size}
 use Rattle.newick_text.specs.Tables.{imageSide, rows, side, sorted}
 use Rattle.newick_text.specs.Order.{Rising}
-use Rattle.newick_text.specs.Laws.Lists.{is-in-more}
+use Rattle.newick_text.specs.Laws.Lists.{is-in-append}
 
 -- how often image m + 1 is named
 unfoldable pub occ : Siblings → ℕ → ℕ
@@ -39,9 +39,9 @@ pub once-rest : (g r : Siblings) (c : ℕ) → Once (bracket g c r) → Once r
 unfolding occ
 once-rest g r c o m = omega (arith, o m)
 
-pub once-behind : (i : ℕ) (r : Siblings) (c : ℕ) → Once (image i c r) → Once r
+pub behind-once : (i c : ℕ) (r : Siblings) → Once (image i c r) → Once r
 unfolding occ
-once-behind i r c o m = omega (arith, o m)
+behind-once i c r o m = omega (arith, o m)
 
 -- the far sides of the vertices
 unfoldable pub tops : Siblings → List ℕ
@@ -96,10 +96,10 @@ seen l m = one-if (isIn (2 ^ m) l)
 
 -- one far side more: the own link that it is, and the others
 pub seen-last : (l : List ℕ) (S m : ℕ) → 2 ^ m ≡ S → seen (l ++ (S ∷ [])) m ≡ 1
-seen-last l S m e = rw (is-in-more (2 ^ m) S l, eq-eqb (2 ^ m) S e) (cases (isIn (2 ^ m) l) (λ y. rw y refl) (λ y. rw y refl))
+seen-last l S m e = rw (is-in-append (2 ^ m) l (S ∷ []), eq-eqb (2 ^ m) S e) (cases (isIn (2 ^ m) l) (λ y. rw y refl) (λ y. rw y refl))
 
 pub seen-more : (l : List ℕ) (S m : ℕ) → (2 ^ m ≡ S → ⊥) → seen (l ++ (S ∷ [])) m ≡ seen l m
-seen-more l S m d = rw (is-in-more (2 ^ m) S l, ne-eqb (2 ^ m) S d) (cases (isIn (2 ^ m) l) (λ y. rw y refl) (λ y. rw y refl))
+seen-more l S m d = rw (is-in-append (2 ^ m) l (S ∷ []), ne-eqb (2 ^ m) S d) (cases (isIn (2 ^ m) l) (λ y. rw y refl) (λ y. rw y refl))
 
 -- the vertices f of the rows P over n images
 pub record Stage (n : ℕ) (P : List Row) (f : Siblings) : Type 0 where
