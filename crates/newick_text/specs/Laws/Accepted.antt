@@ -8,11 +8,12 @@ use lib.Dec.{eqb, ltb}
 use lib.ListN.{length}
 use borrow.Author.Tests.{eqb-true, ltb-false, not-false}
 use Rattle.ground.specs.Members.{isIn}
-use Rattle.ground.specs.Refusals.{outside, roomCheck}
-use Rattle.ground.specs.Laws.First.{first-all}
-use Rattle.ground.specs.Laws.Refusals.{outside-false, refuseIf-passed, then-passed}
+use Rattle.ground.specs.Refusals.{roomCheck}
+use Rattle.ground.specs.Laws.Refusals.{refuseIf-passed, then-passed}
 use Rattle.ground.specs.declared.Check.the-variants.{Passed}
 use Rattle.theory.specs.Checks.{imagesCheck}
+use Rattle.theory.specs.Laws.Checks.{images-passed}
+use Rattle.links.specs.Laws.FirstChecks.{first-passed}
 use Rattle.text.specs.Decimal.{decimal}
 use Rattle.newick_text.specs.Trees.{Siblings, bracket, image, none, text}
 use Rattle.newick_text.specs.Profile.{Formed, Tree}
@@ -50,8 +51,8 @@ tree-accepted L f room w e =
     let b = then-passed (roomCheck (2 * n - 3) room) _ (a .1) in
     let c = then-passed (namesCheck n f) _ (b .1) in
     let d = then-passed (costsCheck L n (tableOf f)) _ (c .1) in
-    let k = outside-false 3 64 n (refuseIf-passed (outside 3 64 n) _ (a .0)) in
-    let q = all-once n f refl (λ m l. not-false (isIn (suc m) (names f)) (first-all (λ i. not (isIn (suc i) (names f))) n (refuseIf-passed _ _ (c .0)) m l)) in
+    let k = images-passed n (a .0) in
+    let q = all-once n f refl (λ m l. not-false (isIn (suc m) (names f)) (first-passed 13 (λ i. not (isIn (suc i) (names f))) n (c .0) m l)) in
     let z = eqb-true (fall f) 0 (not-false (eqb (fall f) 0) (refuseIf-passed (not (eqb (fall f) 0)) _ (d .1))) in
     record {
       some = k .0;
