@@ -4,7 +4,9 @@ use mathlib.Core.List.{List, [], _∷_}
 use Prim.Native.Nat.{suc, zero, ℕ, _*_, _+_, _-_, _<_, _≤_}
 use lib.Dec.{eqb, leb, ltb}
 use lib.ListN.{getD, length, set}
-use Rattle.newick_text.specs.Bytes.{isDigit, isDone, lived, run, start}
+use Rattle.newick_text.specs.Bytes.{isDigit, run}
+use Rattle.newick_text.specs.States.{start}
+use Rattle.newick_text.specs.Ends.{isDone, lived}
 use Rattle.newick_bytes.specs.declared.Judged.{Judged}
 use Rattle.newick_bytes.specs.declared.Judged.the-variants.{Stopped, Whole}
 use Rattle.newick_bytes.specs.declared.Seen.{Seen}

@@ -5,7 +5,9 @@ use Prim.Native.Nat.{ℕ, _+_, _-_}
 use native.Mathlib.Omega.{arith}
 use lib.ListN.{getD, length, take}
 use borrow.Author.Needs.{needs}
-use Rattle.newick_text.specs.Bytes.{isDead, run, start}
+use Rattle.newick_text.specs.Bytes.{run}
+use Rattle.newick_text.specs.States.{start}
+use Rattle.newick_text.specs.Ends.{isDead}
 use Rattle.newick_bytes.specs.Seen.{isDoneSeen, nextOuter, nextSeen}
 use Rattle.newick_bytes.specs.Laws.Shows.{Reached, dead-here, narrow-done, reached-bounded, reached-more, reached-none, stopped-end, stopped-here, whole-end}
 use Rattle.newick_bytes.proofs.judge.Statement.{statement}

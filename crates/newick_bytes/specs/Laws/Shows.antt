@@ -12,11 +12,13 @@ use borrow.Author.Tests.{eq-eqb, eqb-false, eqb-true, le-leb, le-ltb, leb-false,
 use borrow.Table.Steps.{cases}
 use Rattle.newick_text.specs.Trees.{Head, Siblings, add, bracket, image, none, size}
 use Rattle.newick_text.specs.Trees as trees
-use Rattle.newick_text.specs.Bytes.{Digits, Open, State, addTo, atOne, begins, blank, close, costing, dead, depth, digitOf, done, ended, grows, head, isDead, isDigit, isDone, onlyIf, opens, outermost, run, second, start, step, value, vertex, within}
+use Rattle.newick_text.specs.Bytes.{begins, close, digitOf, grows, isDigit, onlyIf, opens, run, second, step}
+use Rattle.newick_text.specs.States.{Digits, Open, State, addTo, atOne, blank, costing, dead, depth, done, ended, head, outermost, start, value, vertex, within}
+use Rattle.newick_text.specs.Ends.{isDead, isDone}
 use Rattle.newick_text.specs.Laws.Adding.{size-add}
 use Rattle.newick_text.specs.Laws.Fine.{Fine, FineOpen, run-fine}
 use Rattle.newick_text.specs.Laws.Place.{dead-not-done, lived-is}
-use Rattle.newick_text.specs.Laws.Steps.{run-append}
+use Rattle.newick_text.specs.Laws.Live.{run-append}
 use Rattle.ground.specs.Laws.Tests.{and-r}
 use Rattle.newick_bytes.specs.Seen.{Bounded, begun, closed, costNext, digitNext, firstPlace, grown, imageBegun, imageNext, isDeadSeen, isDoneSeen, judgedText, more, nextOuter, nextSeen, opened, pick, vertexNext, vertexOuter}
 use Rattle.newick_bytes.specs.declared.Judged.the-variants.{Stopped, Whole}
