@@ -2,6 +2,7 @@
 use mathlib.Core.List.{List, _++_}
 use mathlib.Core.Path.{_≡_}
 use Prim.Native.Nat.{suc, ℕ, _<_, _≤_}
+use lib.ListN.{length, take}
 use Rattle.newick_text.specs.Trees.{Siblings, bracket, image, none, size, text}
 
 -- an image has one or two digits and is at least 1
@@ -40,3 +41,9 @@ pub record Profile (t : List ℕ) : Type 0 where
 pub record Begins (t : List ℕ) : Type 0 where
   pub rest : List ℕ
   pub whole : Profile (t ++ rest)
+
+-- k bytes of t begin some text of the profile, and with the byte behind them, where there is one, they begin none
+pub record FirstImpossible (t : List ℕ) (k : ℕ) : Type 0 where
+  pub before : Begins (take k t)
+  pub at : k < length t → Begins (take (suc k) t) → ⊥
+  pub most : k ≤ length t
