@@ -1,34 +1,37 @@
+-- `newick_writer::digits` meets its contract: the digits counted, and those of what is left, are all of them. Assumes nothing.
+use mathlib.Core.Path.{_≡_}
+use Prim.Native.Nat.{_+_, _<_, _^_}
+use native.Mathlib.Omega.{arith}
+use lib.ListN.{length}
+use Rattle.text.specs.Decimal.{decimal}
+use Rattle.text.specs.Laws.Numbers.{decimal-most}
+use Rattle.newick_writer.specs.Laws.Summing.{more-digits, one-digit}
 use borrow.Author.Needs.{needs}
 use Rattle.newick_writer.proofs.digits.Statement.{statement}
 use Rattle.newick_writer.proofs.digits.Tie as tie
-use Rattle.newick_writer.proofs.digits.Reads as reads
-use Rattle.newick_writer.proofs.digits.Lts as lts
 
 abbrev Inv-loop : tie.InvT-loop
-Inv-loop x rest₀ count₀ rest count = ?
+Inv-loop x rest₀ count₀ rest count = (rest < 2 ^ 64) × (count + length (decimal rest) ≡ 1 + length (decimal x))
 
 abbrev μ-loop : tie.MeasureT-loop
-μ-loop x rest₀ count₀ rest count = ?
+μ-loop x rest₀ count₀ rest count = rest
 
--- src/lib.rt:110:5
 loop-holds : tie.Need-loop-holds Inv-loop μ-loop
-loop-holds c = search needs
+loop-holds c = (c .fits .x .fits, search needs)
 
--- src/lib.rt:112:9
 add-count : tie.Need-add-count Inv-loop μ-loop
-add-count c = search needs
+add-count c = omega (arith, c .before .loop .inv .1, decimal-most (c .before .before .args .x))
 
--- src/lib.rt:110:5
 loop-less : tie.Need-loop-less Inv-loop μ-loop
 loop-less c = search needs
 
--- src/lib.rt:110:5
 loop-again : tie.Need-loop-again Inv-loop μ-loop
-loop-again c = search needs
+loop-again c =
+    let k = c .before .loop in
+    (omega (arith, k .inv .0), omega (arith, k .inv .1, more-digits (k .rest) (c .loop-test .taken) (k .inv .0)))
 
--- src/lib.rt:105:1
 returns : tie.Need-returns Inv-loop μ-loop
-returns c = search needs
+returns c = let k = c .before .loop in omega (arith, k .inv .1, one-digit (k .rest) (c .loop-test .left))
 
 pub digits-spec : {M : Type 1} → statement M
 digits-spec =
