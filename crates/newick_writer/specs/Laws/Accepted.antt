@@ -46,13 +46,13 @@ room-fits m o e = omega (arith, room-passed (length m) (length o) e)
 -- ## What the upper rows were asked for, in 128 places
 
 -- a check whose refusal was the answer, and one whose answer was no refusal
-said-refused : (y : Check) (k : ℕ) (r : Refusal) → written.Refused r ≡ placesIf y k → y ≡ Refused r
+pub said-refused : (y : Check) (k : ℕ) (r : Refusal) → written.Refused r ≡ placesIf y k → y ≡ Refused r
 said-refused Passed k r e = absurd (let z : _≡_ {A = ℕ} 0 1 = cc in omega arith)
 said-refused (Refused p) k r e = let s : p ≡ r = cc in ap Refused s
 
-said-passed : (y : Check) (k j : ℕ) → Places j ≡ placesIf y k → y ≡ Passed
-said-passed Passed k j e = refl
-said-passed (Refused p) k j e = absurd (let z : _≡_ {A = ℕ} 0 1 = cc in omega arith)
+pub said-places : (y : Check) (k j : ℕ) → Places j ≡ placesIf y k → (y ≡ Passed) × (j ≡ k)
+said-places Passed k j e = let s : j ≡ k = cc in (refl, s)
+said-places (Refused p) k j e = absurd (let z : _≡_ {A = ℕ} 0 1 = cc in omega arith)
 
 module _ (n N : ℕ) (l v : List ℕ) where
   -- 128 places are enough, so that 3 is not given
@@ -67,7 +67,7 @@ module _ (n N : ℕ) (l v : List ℕ) where
     uppers-refused {r} s = sym (upper-checks o q) ∙ said-refused (upperChecks limit n N l v (length o)) (length (uppers l)) r (sym s ∙ t .answered)
 
     passed : {k : ℕ} → w ≡ Places k → upperChecks limit n N l v (length o) ≡ Passed
-    passed {k} s = said-passed (upperChecks limit n N l v (length o)) (length (uppers l)) k (sym s ∙ t .answered)
+    passed {k} s = said-places (upperChecks limit n N l v (length o)) (length (uppers l)) k (sym s ∙ t .answered) .0
 
     pub uppers-links : {k : ℕ} → w ≡ Places k → Links limit n N l v
     uppers-links s = link-checks limit n N l v .0 (sym (upper-checks o q) ∙ passed s)
