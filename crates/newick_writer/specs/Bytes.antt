@@ -2,17 +2,16 @@
 use mathlib.Core.Bool.{cond}
 use mathlib.Core.List.{List}
 use Prim.Native.Nat.{ℕ, _+_}
-use lib.Count.{ones}
 use lib.Dec.{eqb}
 use lib.ListN.{length}
 use Rattle.ground.specs.Sums.{sum}
 use Rattle.theory.specs.LinkTables.{Row}
 use Rattle.text.specs.Decimal.{decimal}
-use Rattle.newick_text.specs.Tables.{imageOf}
+use Rattle.newick_text.specs.Tables.{imageOf, imageSide}
 
 -- before the colon: the digits of the image, where the far side has one image; else a bracket opens, or, in the last row, image 1 stands
 unfoldable pub headBytes : ℕ → ℕ
-headBytes S = cond (eqb (ones S) 1) (length (decimal (imageOf S))) 1
+headBytes S = cond (eqb S (imageSide (imageOf S))) (length (decimal (imageOf S))) 1
 
 -- with the colon, the digits of the doubled cost, and the byte behind them
 unfoldable pub rowBytes : Row → ℕ

@@ -18,7 +18,8 @@ returns : tie.Need-returns
 returns c =
     let f = c .before in
     let i = f .before in
-    c .digits .ensures ∙ ap (λ (x : ℕ). length (decimal x)) (f .image-of .ensures) ∙ alone-bytes (i .before .args .s) (i .if1 .taken)
+    let s = i .before in
+    c .digits .ensures ∙ ap (λ (x : ℕ). length (decimal x)) (f .image-of .ensures) ∙ alone-bytes (s .args .s) (s .fits .s .fits) (i .if1 .taken)
 
 returns-2 : tie.Need-returns-2
 returns-2 c = other-bytes (c .before .args .s) (c .if1 .left)

@@ -7,24 +7,23 @@ use native.Mathlib.Omega.{arith}
 use lib.Count.{ones}
 use lib.Dec.{eqb, ltb}
 use lib.ListN.{length, length-append}
-use lib.Pow.{pow-pos}
-use borrow.Author.Tests.{eq-eqb, ltb-false, ltb-true, ne-eqb}
+use borrow.Author.Tests.{eq-eqb, ltb-false, ltb-true}
 use borrow.Table.Steps.{cases}
 use Rattle.ground.specs.Bits.{bit}
 use Rattle.ground.specs.Counts.{one-if}
-use Rattle.ground.specs.Laws.Ones.{ones-in-two, ones-none, ones-pow}
+use Rattle.ground.specs.Laws.Ones.{ones-in-two}
 use Rattle.ground.specs.Laws.Sums.{sum-append}
 use Rattle.ground.specs.Members.{isIn}
 use Rattle.ground.specs.Sums.{sum}
 use Rattle.theory.specs.LinkTables.{LinkTable, Row, fars}
 use Rattle.text.specs.Decimal.{decimal}
-use Rattle.text.specs.Laws.Numbers.{decimal-small}
-use Rattle.newick_text.specs.Laws.Grows.{Bushy, Stage, image-of}
+use Rattle.newick_text.specs.Laws.Grows.{Bushy, Stage}
 use Rattle.newick_text.specs.Laws.LinkTrees.{root-is, stage-all}
 use Rattle.newick_text.specs.Laws.Sides.{Named, Once, occ, side-bit}
 use Rattle.newick_text.specs.Tables.{imageSide, insert, newick, rooted, rowLe, rows, side, sorted}
 use Rattle.newick_text.specs.Trees.{Siblings, behind, bracket, image, listed, none, size, text}
 use Rattle.newick_writer.specs.Bytes.{headBytes, rowBytes, textBytes}
+use Rattle.newick_writer.specs.Laws.Summing.{more-images, one-digit, one-image}
 
 -- ## The order of rows plays no part
 
@@ -38,17 +37,7 @@ unfolding sorted
 sorted-sum g [] = refl
 sorted-sum g (a ∷ l) = omega (arith, insert-sum g a (sorted l), sorted-sum g l)
 
--- ## One image, and more than one
-
-pub one-image : (m : ℕ) → m < 64 → headBytes (2 ^ m) ≡ length (decimal (suc m))
-unfolding headBytes
-one-image m h =
-    let o : ones (2 ^ m) ≡ 1 = ap ones (omega arith) ∙ ones-pow m 0 (pow-pos m) ∙ omega (arith, ones-none) in
-    rw (eq-eqb (ones (2 ^ m)) 1 o, image-of m h) refl
-
-pub more-images : (S : ℕ) → 2 ≤ ones S → headBytes S ≡ 1
-unfolding headBytes
-more-images S h = rw (ne-eqb (ones S) 1 (λ e. omega arith)) refl
+-- ## Images that are named
 
 image-bytes : (n i : ℕ) → n ≤ 64 → 1 ≤ i → i ≤ n → headBytes (imageSide i) ≡ length (decimal i)
 image-bytes n zero f l h = absurd (omega arith)
@@ -120,7 +109,7 @@ tree-bytes n few c g h o b k =
     let a = listed-bytes n few 41 g h o b in
     let x = length-append (decimal 1) (58 ∷ (decimal c ++ (behind 41 g ∷ listed 41 g))) in
     let y = length-append (listed 41 (image 1 c g)) (59 ∷ []) in
-    let one : length (decimal 1) ≡ 1 = ap length (decimal-small 1 (omega arith)) in
+    let one : length (decimal 1) ≡ 1 = one-digit 1 (omega arith) in
     let z = sum-append rowBytes (rows g) ((side g, c) ∷ []) in
     let w = more-images (side g) (bracket-ones n g k h o b) in
     omega (arith, a, x, y, one, z, w, length-append (decimal c) (behind 41 g ∷ listed 41 g))

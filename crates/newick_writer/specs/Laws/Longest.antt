@@ -21,8 +21,8 @@ use Rattle.theory.specs.Tables.{limit}
 use Rattle.text.specs.Decimal.{decimal}
 use Rattle.newick_text.specs.Tables.{newick}
 use Rattle.newick_writer.specs.Bytes.{headBytes, longestText, rowBytes}
-use Rattle.newick_writer.specs.Laws.Bytes.{one-image, text-bytes}
-use Rattle.newick_writer.specs.Laws.Summing.{more-digits, one-digit, other-bytes}
+use Rattle.newick_writer.specs.Laws.Bytes.{text-bytes}
+use Rattle.newick_writer.specs.Laws.Summing.{more-digits, one-digit, one-image, other-bytes}
 
 -- a number below a power of ten has no more digits than this says
 digits-below : (k x : ℕ) → x < 2 ^ 64 → x < 10 ^ suc k → length (decimal x) ≤ suc k
