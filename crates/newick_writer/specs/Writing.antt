@@ -12,7 +12,7 @@ use Rattle.theory.specs.LinkTables.{rowsOf}
 use Rattle.theory.specs.Tables.{limit}
 use Rattle.links.specs.Checks.{rowChecks, sizeChecks}
 use Rattle.newick_text.specs.Tables.{newick}
-use Rattle.newick_writer.specs.Below.{treeText}
+use Rattle.newick_writer.specs.Below.{Sized, treeText}
 use Rattle.newick_writer.specs.Bytes.{textBytes}
 
 -- 1, 10, 2, 12, 13
@@ -31,9 +31,7 @@ writeOutcome n N l v out = writtenIf (writeChecks n N l v (length out)) (newick 
 
 pub record Known (u l v : List ℕ) : Type 0 where
   pub some : 1 ≤ length l
-  pub few : length l ≤ 125
-  pub costed : length v ≡ length l
-  pub ruled : length u ≡ length l
+  pub sized : Sized u l v
   pub bytes : length (treeText u l v) ≡ textBytes (rowsOf l v)
 
 -- the text by upper rows, where there is room for it

@@ -23,7 +23,7 @@ checked c =
     c .refuse-if .ensures ∙ ap (λ (x : ℕ). roomCheck x (length (s .args .out .now))) (c .before .text-bytes .ensures ∙ sym (s .pre .bytes))
 
 text-bytes-requires : tie.Need-text-bytes-requires
-text-bytes-requires c κs = let s = c .before .before .before .before in (s .pre .costed, s .pre .few)
+text-bytes-requires c κs = let s = c .before .before .before .before in (s .pre .sized .costed, s .pre .sized .few)
 
 refuse-if-requires : tie.Need-refuse-if-requires
 refuse-if-requires c κs = search needs
@@ -41,7 +41,7 @@ put-tree-requires c κs =
     let p = begun k .pre in
     let a = begun k .args in
     let m = treeText (a .above .now) (a .fars .now) (a .costs .now) in
-    (p .some, p .costed, p .ruled, p .few, room-fits m (a .out .now) (sym (checked k) ∙ d .enum-told .given .1))
+    (p .some, p .sized, room-fits m (a .out .now) (sym (checked k) ∙ d .enum-told .given .1))
 
 returns : tie.Need-returns
 returns c = written-stops _ _ _ (c .before .r .given .1) (checked (c .before .before .before))

@@ -95,9 +95,7 @@ module _ (n N : ℕ) (l v : List ℕ) where
         let f = few-here in
         rw e (record {
           some = f .0;
-          few = f .1;
-          costed = sym (f .2);
-          ruled = uppers-length 1 l;
+          sized = record { few = f .1; costed = sym (f .2); ruled = uppers-length 1 l };
           bytes = ap length (sym newick-is) ∙ text-bytes limit n (t .few) (rowsOf l v) (t .table) (t .some);
         })
 
