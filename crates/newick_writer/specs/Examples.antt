@@ -1,5 +1,5 @@
 -- Examples A and H of document 01 as Newick text, and whole calls on example G, computed. Assumes nothing.
-use mathlib.Core.List.{List, [], _++_, _∷_}
+use mathlib.Core.List.{[], _++_, _∷_}
 use mathlib.Core.Path.{refl, _≡_}
 use Prim.Native.Nat.{ℕ}
 use lib.Count.{ones, onesIn}

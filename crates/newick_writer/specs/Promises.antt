@@ -8,7 +8,7 @@ use native.Mathlib.Omega.{arith}
 use lib.ListN.{drop, length, take}
 use lib.Seq.{drop-at, take-at}
 use borrow.Author.Tests.{le-ltb}
-use Rattle.ground.specs.Laws.Refusals.{if-accepted, then-passed}
+use Rattle.ground.specs.Laws.Refusals.{then-passed}
 use Rattle.ground.specs.Outcomes.{Left, frontIf, wroteInto}
 use Rattle.ground.specs.Refusals.{roomCheck}
 use Rattle.ground.specs.declared.Check.{Check}
@@ -16,7 +16,7 @@ use Rattle.ground.specs.declared.Check.the-variants.{Passed, Refused}
 use Rattle.ground.specs.declared.Refusal.{Refusal}
 use Rattle.ground.specs.declared.Written.the-variants.{Places}
 use Rattle.ground.specs.declared.Written.the-variants as answers
-use Rattle.theory.specs.LinkTables.{Row, rowsOf}
+use Rattle.theory.specs.LinkTables.{rowsOf}
 use Rattle.theory.specs.Tables.{limit}
 use Rattle.links.specs.Laws.LinkChecks.{link-checks}
 use Rattle.links.specs.Links.{Links}
@@ -55,7 +55,8 @@ module _ (n N : ℕ) (l v : List ℕ) where
   write-accepted room = (accepted-links room, λ p. links-accepted room (p .0) (p .1))
 
   -- a link table is written where there is room: the answer is how many bytes its text has, which stand in front, and the rest is as it was
-  pub written : (out : List ℕ) → Links limit n N l v → length (textOf l v) ≤ length out → writeOutcome n N l v out ≡ wroteInto (length (textOf l v)) (textOf l v) out
+  pub written : (out : List ℕ) → Links limit n N l v → length (textOf l v) ≤ length out
+      → writeOutcome n N l v out ≡ wroteInto (length (textOf l v)) (textOf l v) out
   written out t h = rw (links-accepted (length out) t h) refl
 
   -- refused, no lent byte is altered; which refusal comes first is `write-order` in `InOrder`
@@ -103,6 +104,10 @@ module _ (n N : ℕ) (l v : List ℕ) where
       let t = x .table in
       let r = read-written limit n (rowsOf l v) (t .table) (t .some) (t .few) (omega arith) room h in
       subst (λ (m : List ℕ). (readChecks limit m room ≡ Passed) × (tableOf (treeIn m) ≡ rowsOf l v)) (sym (x .front)) r
+
+  -- so many bytes are always enough
+  pub longest-enough : (room : ℕ) → Links limit n N l v → longestText ≤ room → writeChecks n N l v room ≡ Passed
+  longest-enough room t h = links-accepted room t (omega (arith, h, text-longest n (rowsOf l v) (t .some) (t .few) (t .table)))
 
   pub longest : (out : List ℕ) (k : ℕ) (e : List ℕ) → Left (writeOutcome n N l v out) (Places k) e → k ≤ longestText
   longest out k e w =

@@ -1,5 +1,4 @@
 -- `newick_writer::row_bytes` meets its contract: no number has more than 20 digits. Assumes nothing.
-use mathlib.Core.Path.{_∙_}
 use native.Mathlib.Omega.{arith}
 use Rattle.text.specs.Laws.Numbers.{decimal-most}
 use Rattle.newick_writer.specs.Laws.Summing.{head-most, row-is}

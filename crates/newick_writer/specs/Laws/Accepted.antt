@@ -1,14 +1,14 @@
 -- What the checks of the writer say: they pass for the link tables, and what is known of these. Assumes nothing.
 use mathlib.Core.List.{List}
 use mathlib.Core.Path.{ap, refl, subst, sym, _∙_, _≡_}
-use Prim.Native.Nat.{suc, ℕ, _*_, _-_, _<_, _≤_}
+use Prim.Native.Nat.{suc, ℕ, _*_, _-_, _≤_}
 use native.Mathlib.Omega.{arith}
 use lib.Dec.{ltb}
 use lib.ListN.{length, take}
 use lib.Seq.{take-at}
 use borrow.Author.Tests.{le-ltb, ltb-false}
 use Rattle.ground.specs.Outcomes.{Left, frontIf, writtenIf}
-use Rattle.ground.specs.Refusals.{placesIf, refusal, roomCheck, _then_}
+use Rattle.ground.specs.Refusals.{placesIf, refusal, roomCheck}
 use Rattle.ground.specs.Laws.Refusals.{refuseIf-passed, then-same}
 use Rattle.ground.specs.declared.Check.{Check}
 use Rattle.ground.specs.declared.Check.the-variants.{Passed, Refused}
@@ -17,10 +17,10 @@ use Rattle.ground.specs.declared.Written.{Written}
 use Rattle.ground.specs.declared.Written.the-variants.{Places}
 use Rattle.ground.specs.declared.Written.the-variants as written
 use Rattle.theory.specs.Laws.JoinedRows.{rowsOf-costs, rowsOf-fars}
-use Rattle.theory.specs.LinkTables.{costs, fars, rowsOf}
+use Rattle.theory.specs.LinkTables.{rowsOf}
 use Rattle.theory.specs.Routes.{uppers}
 use Rattle.theory.specs.Tables.{limit}
-use Rattle.links.specs.Checks.{rowChecks, sizeChecks}
+use Rattle.links.specs.Checks.{sizeChecks}
 use Rattle.links.specs.Laws.LinkChecks.{link-checks, rows-length, sizes-passed}
 use Rattle.links.specs.Links.{Links}
 use Rattle.routes.specs.Laws.Accepted.{few-rows}
@@ -32,7 +32,7 @@ use Rattle.newick_text.specs.Tables.{newick}
 use Rattle.newick_writer.specs.Below.{treeText}
 use Rattle.newick_writer.specs.Laws.Below.{tree-text}
 use Rattle.newick_writer.specs.Laws.Bytes.{text-bytes}
-use Rattle.newick_writer.specs.Writing.{Known, roomOutcome, tableChecks, writeChecks, writeOutcome}
+use Rattle.newick_writer.specs.Writing.{Known, roomOutcome, tableChecks, writeOutcome}
 
 -- ## Room
 

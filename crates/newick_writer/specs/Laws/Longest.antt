@@ -1,7 +1,7 @@
 -- No text of a link table over at most 64 images has more than 1,432 bytes. Assumes nothing.
 use mathlib.Core.List.{List, List·Memᴰ·head, List·Memᴰ·tail, [], _∷_}
 use mathlib.Core.Logic.{inl, inr, _⊎_}
-use mathlib.Core.Path.{ap, refl, sym, _∙_, _≡_}
+use mathlib.Core.Path.{ap, refl, _∙_, _≡_}
 use Prim.Native.Nat.{suc, zero, ℕ, _*_, _+_, _/_, _<_, _^_, _≤_}
 use native.Mathlib.Omega.{arith}
 use lib.Count.{ones}

@@ -1,5 +1,5 @@
 -- How the bytes are summed, digit by digit and row by row. Assumes nothing.
-use mathlib.Core.List.{List, [], _++_, _∷_}
+use mathlib.Core.List.{List, [], _∷_}
 use mathlib.Core.Path.{ap, refl, sym, _∙_, _≡_}
 use Prim.Native.Nat.{suc, ℕ, _%_, _+_, _-_, _/_, _<_, _^_, _≤_}
 use native.Mathlib.Numerals.{add-one}
