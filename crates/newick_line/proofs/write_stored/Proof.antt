@@ -68,16 +68,11 @@ within c = omega (arith, square-le (table-is c .few), c .before .before .before 
 array-share-prefix-t : tie.Need-array-share-prefix-t
 array-share-prefix-t c = within (c .before)
 
-slice-aggregate-table : tie.Need-slice-aggregate-table
-slice-aggregate-table c = sym (length-take-le _ _ (within (c .before .before)))
-
-last-image-requires : tie.Need-last-image-requires
-last-image-requires c κs = table-is (c .before .before .before) .table
+slice-aggregate-write-table : tie.Need-slice-aggregate-write-table
+slice-aggregate-write-table c = sym (length-take-le _ _ (within (c .before .before)))
 
 write-table-requires : tie.Need-write-table-requires
-write-table-requires c κs =
-    let d = c .before .before .before .before in
-    let t = table-is d in (t .table, rw (c .last-image .ensures) (last-other (start d .args .which) _ _ (t .table)), start d .pre)
+write-table-requires c κs = let d = c .before .before .before in (table-is d .table, start d .pre)
 
 same-length : tie.Need-same-length
 same-length c = search needs
@@ -91,8 +86,7 @@ same-length-2 c = search needs
 returns-2 : tie.Need-returns-2
 unfolding newickLine
 returns-2 c =
-    put-same (sym (table-is (c .before .before .before .before .before .before .before) .text))
-    (rw (c .before .before .before .last-image .ensures) at (c .before .before .write-table .ensures))
+    put-same (sym (table-is (c .before .before .before .before .before .before) .text)) (c .before .before .write-table .ensures)
 
 pub write-stored-spec : {M : Type 1} → statement M
 write-stored-spec =
@@ -105,8 +99,7 @@ write-stored-spec =
     enum-known-n
     mul-t
     array-share-prefix-t
-    slice-aggregate-table
-    last-image-requires
+    slice-aggregate-write-table
     write-table-requires
     same-length
     returns

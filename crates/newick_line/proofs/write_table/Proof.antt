@@ -40,12 +40,12 @@ abbrev cost-places : tie.After-exact → List ℕ
 cost-places c = c .exact .last .1 .1 .1 .1 .0
 
 -- refused with 7
-refused-is : (c : tie.After-q) → let a = start (reading-q c) .args in tableText (a .last) (a .n) (a .t .now) ≡ refusedLine (c .q .given .0 .0)
+refused-is : (c : tie.After-q) → let a = start (reading-q c) .args in tableLine (a .n) (a .t .now) ≡ refusedLine (c .q .given .0 .0)
 refused-is c =
     let e = c .before .before .before .before .exact in
     let s = start (reading-q c) in
     let z = length-replicate {A = ℕ} 128 0 in
-    text-refused (s .args .last) (s .args .n) (s .args .t .now) _
+    line-refused (s .args .n) (s .args .t .now) _
     (table-refused (s .args .n) (s .args .t .now) (replicate 128 0) (replicate 128 0) (e .last .1 .1 .1 .0) (e .last .1 .1 .1 .1 .0) _
     (s .pre .0) (omega (arith, z)) (omega (arith, z)) (rw (c .q .given .1) at (e .ensures)))
 
@@ -65,7 +65,7 @@ enum-known-q c = search needs
 put-refusal-requires : tie.Need-put-refusal-requires
 put-refusal-requires c κs =
     let d = c .before .before in
-    let s = start (reading-q d) in refused-fits (d .q .given .0 .0) (s .args .out .now) (s .pre .2)
+    let s = start (reading-q d) in refused-fits (d .q .given .0 .0) (s .args .out .now) (s .pre .1)
 
 enum-known-count : tie.Need-enum-known-count
 enum-known-count c = search needs
@@ -85,7 +85,7 @@ slice-aggregate-write-links-2 c = sym (read-is (c .before .before .before .befor
 write-links-requires : tie.Need-write-links-requires
 write-links-requires c κs =
     let d = c .before .before .before .before in
-    let s = start (reading d) in (s .pre .0, s .pre .1, read-is d .links, s .pre .2)
+    (read-is d .links, start (reading d) .pre .1)
 
 same-length : tie.Need-same-length
 same-length c = search needs
@@ -99,7 +99,7 @@ same-length-2 c = search needs
 returns-2 : tie.Need-returns-2
 returns-2 c =
     let d = c .before .before .before .before .before .before .before in
-    put-same (sym (text-read (start (reading d) .args .last) _ _ _ _ _ (read-is d))) (c .before .before .write-links .ensures)
+    put-same (sym (line-read _ _ _ _ _ (read-is d))) (c .before .before .write-links .ensures)
 
 pub write-table-spec : {M : Type 1} → statement M
 write-table-spec =
