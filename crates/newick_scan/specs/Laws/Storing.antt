@@ -1,0 +1,35 @@
+-- One row more in the two arrays, where there is room. Assumes nothing.
+use mathlib.Core.List.{List, [], _++_, _∷_}
+use mathlib.Core.Path.{ap, refl, sym, _∙_, _≡_}
+use Prim.Native.Nat.{min, suc, zero, ℕ, _+_, _<_, _≤_}
+use native.Mathlib.Omega.{arith}
+use lib.ListN.{length, length-append, length-set, length-take, set, take}
+use lib.Seq.{take-all, take-append-le}
+use Rattle.theory.specs.LinkTables.{Row}
+use Rattle.tree.specs.LocalRows.{rowsIn}
+use Rattle.tree.specs.Laws.LocalRows.{rowsIn-length, stored-more}
+use Rattle.newick_scan.specs.Turns.{Stored}
+
+pub stored-room : (f v : List ℕ) (k S c : ℕ) → k < 128 → length f ≡ 128 → length v ≡ 128 → Stored f v k S c (set f k S) (set v k c) (k + 1)
+stored-room f v k S c h l m = record {
+  rows = stored-more f v k S c (omega arith) (omega arith) ∙ sym (take-all 128 (rowsIn f v k ++ ((S, c) ∷ [])) (rw length-append (omega (arith, rowsIn-length f v k))));
+  most = omega arith;
+  far-size = length-set f k S ∙ l;
+  cost-size = length-set v k c ∙ m;
+}
+
+pub stored-full : (f v : List ℕ) (k S c : ℕ) → 128 ≤ k → k ≤ 128 → length f ≡ 128 → length v ≡ 128 → Stored f v k S c f v k
+stored-full f v k S c h q l m = record {
+  rows =
+      let e : k ≡ 128 = omega arith in
+      sym (take-append-le 128 (rowsIn f v k) ((S, c) ∷ []) (omega (arith, rowsIn-length f v k)) ∙ take-all 128 (rowsIn f v k) (omega (arith, rowsIn-length f v k)));
+  most = q;
+  far-size = l;
+  cost-size = m;
+}
+
+-- the first so many of a list and one more are the first so many of all
+pub take-more : (n : ℕ) (T : List Row) (r : Row) → take n (take n T ++ (r ∷ [])) ≡ take n (T ++ (r ∷ []))
+take-more zero T r = refl
+take-more (suc n) [] r = refl
+take-more (suc n) (x ∷ T) r = ap (λ (l : List Row). x ∷ l) (take-more n T r)
