@@ -5,7 +5,7 @@ ghost use mathlib.Core.Path.{_≡_};
 ghost use Prim.Native.Nat.{_<_, _≤_};
 ghost use lib.ListN.{length};
 ghost use Rattle.newick_text.specs.Noting.{imageBit, lowerPlace, mark};
-ghost use Rattle.newick_scan.specs.Turns.{Begun, Closing, Completed, Stored, closed, fallenWith, namedBy, stacks};
+ghost use Rattle.newick_scan.specs.Turns.{Able, Begun, Closing, Completed, Ends, Noting, Stored, closed, fallenWith, namedBy, stacks};
 
 // What was noted. Far, place and last are of the vertex whose cost is read: its far side, the place of its first byte, and the far side of
 // the sibling before it, 0 for none.
@@ -192,5 +192,71 @@ fn close(depth: usize, w: Noted, masks: &[u64], lasts: &[u64], places: &[usize])
         far,
         place,
         last,
+    }
+}
+
+// Behind a digit of a cost: a comma completes the vertex, and a closed bracket then also closes the bracket around it.
+fn end(
+    cost: usize,
+    depth: usize,
+    b: usize,
+    w: Noted,
+    masks: &[u64],
+    lasts: &[u64],
+    places: &[usize],
+    fars: &mut [u64],
+    costs: &mut [u32],
+) -> Noted
+    requires {
+        ⌜ (w .rows ≤ 128) × (cost < 100000000) × (length (now fars) ≡ 128) × (length (now costs) ≡ 128)
+            × Closing depth w (stacks (now masks) (now lasts) (now places)) ⌝
+    }
+    ensures {
+        λ r. ⌜ Ends cost depth b w (stacks (now (masks .entry)) (now (lasts .entry)) (now (places .entry))) (now (fars .entry)) (now (costs .entry)) r
+            (now (fars .exit)) (now (costs .exit)) ⌝
+    }
+{
+    if b == 44 {
+        return complete(cost, w, fars, costs);
+    }
+    if b == 41 {
+        let inner = complete(cost, w, fars, costs);
+        return close(depth, inner, masks, lasts, places);
+    }
+    w
+}
+
+// What the byte at this place says, behind what was read before it. It is one that a text of the profile can have there.
+fn note(
+    s: Seen,
+    b: usize,
+    place: usize,
+    w: Noted,
+    masks: &mut [u64],
+    lasts: &mut [u64],
+    places: &mut [usize],
+    fars: &mut [u64],
+    costs: &mut [u32],
+) -> Noted
+    requires { ⌜ Able s place w (stacks (now masks) (now lasts) (now places)) (now fars) (now costs) ⌝ }
+    ensures {
+        λ r. ⌜ Noting s b place w (stacks (now (masks .entry)) (now (lasts .entry)) (now (places .entry))) (now (fars .entry)) (now (costs .entry)) r
+            (stacks (now (masks .exit)) (now (lasts .exit)) (now (places .exit))) (now (fars .exit)) (now (costs .exit)) ⌝
+    }
+{
+    match s {
+        Seen::Start => w,
+        Seen::Vertex { depth, count: _ } => begin(depth, b, place, w, masks, lasts, places),
+        Seen::Image {
+            x,
+            depth: _,
+            count: _,
+        } => name(x, b, w),
+        Seen::Closed { depth: _, count: _ } => w,
+        Seen::Blank { depth: _, count: _ } => w,
+        Seen::Cost { x, depth, count: _ } => end(x, depth, b, w, masks, lasts, places, fars, costs),
+        Seen::Ended => w,
+        Seen::Done => w,
+        Seen::Dead => w,
     }
 }

@@ -1,0 +1,53 @@
+-- `newick_scan::end` meets its contract: each return rewrites with the tests that led there. Assumes nothing.
+use borrow.Author.Needs.{needs}
+use mathlib.Core.Path.{ap, refl, sym, _∙_, _≡_}
+use native.Mathlib.Omega.{arith}
+use borrow.Author.Tests.{eq-eqb, ne-eqb}
+use Rattle.newick_scan.specs.Laws.Turning.{closing-then, same}
+use Rattle.newick_scan.proofs.end.Statement.{statement}
+use Rattle.newick_scan.proofs.end.Tie as tie
+
+complete-requires : tie.Need-complete-requires
+complete-requires c κs = search needs
+
+same-length : tie.Need-same-length
+same-length c = search needs
+
+same-length-2 : tie.Need-same-length-2
+same-length-2 c = search needs
+
+returns : tie.Need-returns
+returns c = rw (eq-eqb _ _ (c .before .before .before .before .before .before .before .if1 .taken)) (c .before .before .before .before .complete .ensures)
+
+complete-requires-2 : tie.Need-complete-requires-2
+complete-requires-2 c κs = search needs
+
+close-requires : tie.Need-close-requires
+close-requires c κs = closing-then _ _ _ _ _ _ _ _ _ (c .before .before .before .before .complete2 .ensures) (c .before .before .before .before .before .before .before .before .before .before .before .before .before .before .pre .4)
+
+same-length-3 : tie.Need-same-length-3
+same-length-3 c = search needs
+
+same-length-4 : tie.Need-same-length-4
+same-length-4 c = search needs
+
+returns-2 : tie.Need-returns-2
+returns-2 c = rw (ne-eqb _ _ (c .before .before .before .before .before .before .before .before .before .if1 .left), eq-eqb _ _ (c .before .before .before .before .before .before .before .before .if2 .taken)) (record { inner = c .before .before .before .before .before .complete2 .result; complete = c .before .before .before .before .before .complete2 .ensures; told = c .close .ensures })
+
+returns-3 : tie.Need-returns-3
+returns-3 c = rw (ne-eqb _ _ (c .before .if1 .left), ne-eqb _ _ (c .if2 .left)) (same _ _ _)
+
+pub end-spec : {M : Type 1} → statement M
+end-spec =
+    tie.close
+    (tie.spec
+    complete-requires
+    same-length
+    same-length-2
+    returns
+    complete-requires-2
+    close-requires
+    same-length-3
+    same-length-4
+    returns-2
+    returns-3)
