@@ -1,3 +1,5 @@
 pub mod Lower
 pub mod Storing
 pub mod Turning
+pub mod Adding
+pub mod Opening
