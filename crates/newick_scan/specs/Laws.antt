@@ -3,3 +3,4 @@ pub mod Storing
 pub mod Turning
 pub mod Adding
 pub mod Opening
+pub mod Stepping

@@ -75,7 +75,7 @@ capped-none k = cases (ltb k 3) (λ t. rw t refl) (λ t. let l = ltb-false k 3 t
 
 -- ## Open brackets
 
-depth-some : (o : Open) → 1 ≤ depth o
+pub depth-some : (o : Open) → 1 ≤ depth o
 depth-some (outermost f) = omega arith
 depth-some (within f o) = omega arith
 
@@ -91,7 +91,7 @@ top-add : (o : Open) (v : Head) (c : ℕ) → top (addTo o v c) ≡ more (top o)
 top-add (outermost f) v c = ap capped (size-add f v c) ∙ sym (capped-more (size f))
 top-add (within f o) v c = ap capped (size-add f v c) ∙ sym (capped-more (size f))
 
-depth-add : (o : Open) (v : Head) (c : ℕ) → depth (addTo o v c) ≡ depth o
+pub depth-add : (o : Open) (v : Head) (c : ℕ) → depth (addTo o v c) ≡ depth o
 depth-add (outermost f) v c = refl
 depth-add (within f o) v c = refl
 

@@ -12,6 +12,7 @@ use Rattle.newick_text.specs.Trees.{Head, Siblings, add, listed, none}
 use Rattle.newick_text.specs.Tables.{names}
 use Rattle.newick_text.specs.Bytes.{Open, addTo, depth, openText, outermost, within}
 use Rattle.newick_text.specs.Noting.{fallen, lastFar, lowerPlace, marked, noted, notedFar}
+use Rattle.newick_bytes.specs.Laws.Shows.{depth-some}
 use Rattle.newick_scan.specs.Notes.{called, fallenOpen, headed, inside, lastOpen, markedOpen, namesOpen, notedOpen, placeOpen}
 use Rattle.newick_scan.specs.Says.{Held}
 use Rattle.newick_scan.specs.Laws.Adding.{fallen-add, last-add, lower-regroup, marked-add, marked-most, names-add, noted-add}
@@ -48,10 +49,6 @@ module _ (v : Head) (c : ℕ) where
       ∙ lower-regroup (fallenOpen o) (fallen M (suc (placeOpen o)) 0 f) (fallen (marked M f) (suc q) 0 (inside v)) (when (ltb (notedFar (marked M f) v) (lastFar M 0 f)) q)
 
 -- ## What is kept of the brackets around
-
-pub depth-some : (o : Open) → 1 ≤ depth o
-depth-some (outermost f) = omega arith
-depth-some (within f o) = omega arith
 
 held-set : (k : Open → ℕ) (a : List ℕ) (i x : ℕ) (o : Open) → depth o ≤ suc i → Held k a o → Held k (set a i x) o
 held-set k a i x (outermost f) l h = tt
