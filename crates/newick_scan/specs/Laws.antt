@@ -4,3 +4,4 @@ pub mod Turning
 pub mod Adding
 pub mod Opening
 pub mod Stepping
+pub mod Byte

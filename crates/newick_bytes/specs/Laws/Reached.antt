@@ -33,7 +33,7 @@ reached-none t a e = record { inside = omega arith; full = e; kept = refl; held 
 pub reached-bounded : {t : List ℕ} {i : ℕ} {s : Seen} {a : List ℕ} → Reached t i s a → Bounded s
 reached-bounded {t} {i} r = rw (r .kept) (fine-bounded (run start (take i t)) (run-fine start (take i t) tt (r .live)))
 
-run-more : (t : List ℕ) (i : ℕ) → i < length t → run start (take (i + 1) t) ≡ step (run start (take i t)) (getD t i 0)
+pub run-more : (t : List ℕ) (i : ℕ) → i < length t → run start (take (i + 1) t) ≡ step (run start (take i t)) (getD t i 0)
 unfolding run
 run-more t i h = rw (add-one i, take-suc t i 0 h) (run-append start (take i t) (getD t i 0 ∷ []))
 

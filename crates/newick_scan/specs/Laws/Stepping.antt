@@ -30,7 +30,7 @@ use Rattle.newick_scan.specs.Laws.Storing.{take-more}
 
 -- ## Where nothing changes
 
-same-notes : (s : State) (w r : Noted) (a e : Stacks) (f v f′ v′ : List ℕ) → Same w f v r f′ v′ → e ≡ a → Notes s w a f v → Notes s r e f′ v′
+pub same-notes : (s : State) (w r : Noted) (a e : Stacks) (f v f′ v′ : List ℕ) → Same w f v r f′ v′ → e ≡ a → Notes s w a f v → Notes s r e f′ v′
 same-notes s w r a e f v f′ v′ m q h = rw (m .told, m .fars, m .costs, q) h
 
 -- ## A vertex begins
@@ -58,7 +58,7 @@ like-told n m p T w r f v i j k l t = record {
 }
 
 module _ (b p : ℕ) (w r : Noted) (a e : Stacks) (f v f′ v′ : List ℕ) where
-  open-notes : (o : Open) → eqb b 40 ≡ true → depth o ≤ 62 → Sized a → p ≡ placeOpen o → Notes (vertex o) w a f v → Noting (narrow (vertex o)) b p w a f v r e f′ v′ → Notes (vertex (within none o)) r e f′ v′
+  pub open-notes : (o : Open) → eqb b 40 ≡ true → depth o ≤ 62 → Sized a → p ≡ placeOpen o → Notes (vertex o) w a f v → Noting (narrow (vertex o)) b p w a f v r e f′ v′ → Notes (vertex (within none o)) r e f′ v′
   unfolding lastFar
   open-notes o t d z q h n =
       let k : r ≡ turns.noted (w .names) (w .marked) (w .rows) (w .fallen) (w .far) (w .place) 0 = rw t at (n .0 .told) in
@@ -69,7 +69,7 @@ module _ (b p : ℕ) (w r : Noted) (a e : Stacks) (f v f′ v′ : List ℕ) whe
         places = rw (rw (t, q) at (n .0 .places)) (held-push placeOpen (a .places) none o (omega (arith, z .places)) (h .1 .places));
       })
 
-  begin-notes : (o : Open) (i : ℕ) → eqb b 40 ≡ false → p ≡ placeOpen o → Notes (vertex o) w a f v → Noting (narrow (vertex o)) b p w a f v r e f′ v′ → Notes (head o (trees.named i)) r e f′ v′
+  pub begin-notes : (o : Open) (i : ℕ) → eqb b 40 ≡ false → p ≡ placeOpen o → Notes (vertex o) w a f v → Noting (narrow (vertex o)) b p w a f v r e f′ v′ → Notes (head o (trees.named i)) r e f′ v′
   begin-notes o i t q h n =
       let k : r ≡ turns.noted (w .names) (w .marked) (w .rows) (w .fallen) (w .far) p (w .last) = rw t at (n .0 .told) in
       (rw (k, n .1, n .2) (like-told _ _ _ _ w _ f v refl refl refl refl (none-told o w f v (h .0))), record {
@@ -79,7 +79,7 @@ module _ (b p : ℕ) (w r : Noted) (a e : Stacks) (f v f′ v′ : List ℕ) whe
         places = rw (rw t at (n .0 .places)) (h .1 .places);
       }, ap (λ (x : Noted). x .place) k ∙ q, tt)
 
-  name-notes : (o : Open) (i : ℕ) → eqb b 58 ≡ true → Notes (head o (trees.named i)) w a f v → Noting (narrow (head o (trees.named i))) b p w a f v r e f′ v′ → Notes (costing o (trees.named i) blank) r e f′ v′
+  pub name-notes : (o : Open) (i : ℕ) → eqb b 58 ≡ true → Notes (head o (trees.named i)) w a f v → Noting (narrow (head o (trees.named i))) b p w a f v r e f′ v′ → Notes (costing o (trees.named i) blank) r e f′ v′
   unfolding names marked
   name-notes o i t h n =
       let k : r ≡ turns.noted (w .names + 1) (mark (w .marked) i) (w .rows) (w .fallen) (imageBit i) (w .place) (w .last) = rw t at (n .0 .told) in
@@ -100,7 +100,7 @@ module _ (b p : ℕ) (w r : Noted) (a e : Stacks) (f v f′ v′ : List ℕ) whe
 -- ## A vertex ends
 
 module _ (w r : Noted) (a : Stacks) (f v f′ v′ : List ℕ) where
-  complete-notes : (o : Open) (u : Head) (d : Digits) (x : ℕ) → Notes (costing o u d) w a f v → Completed x w f v r f′ v′ → Notes (vertex (addTo o u x)) r a f′ v′
+  pub complete-notes : (o : Open) (u : Head) (d : Digits) (x : ℕ) → Notes (costing o u d) w a f v → Completed x w f v r f′ v′ → Notes (vertex (addTo o u x)) r a f′ v′
   complete-notes o u d x h n =
       let k = n .told in
       let S = notedFar (markedOpen o) u in
@@ -121,7 +121,7 @@ module _ (w r : Noted) (a : Stacks) (f v f′ v′ : List ℕ) where
         places = held-add placeOpen (a .places) u x o (h .1 .places);
       })
 
-  close-notes : (o : Open) → Live (close o) → Notes (vertex o) w a f v → r ≡ closed (depth o) a w → Notes (close o) r a f v
+  pub close-notes : (o : Open) → Live (close o) → Notes (vertex o) w a f v → r ≡ closed (depth o) a w → Notes (close o) r a f v
   close-notes (outermost g) l h k = only (λ s. Notes s r a f v) (leb 3 (size g)) (ended g) l (λ p m. rw k (h .0))
   close-notes (within g o) l h k =
       only (λ s. Notes s r a f v) (leb 2 (size g)) (head o (trees.closed g)) l (λ p m.
