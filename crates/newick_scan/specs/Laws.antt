@@ -5,3 +5,6 @@ pub mod Adding
 pub mod Opening
 pub mod Stepping
 pub mod Byte
+pub mod Able
+pub mod Few
+pub mod Scans
