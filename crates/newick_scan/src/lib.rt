@@ -5,7 +5,8 @@ ghost use mathlib.Core.Path.{_≡_};
 ghost use Prim.Native.Nat.{_<_, _≤_};
 ghost use lib.ListN.{length};
 ghost use Rattle.newick_text.specs.Noting.{imageBit, lowerPlace, mark};
-ghost use Rattle.newick_scan.specs.Turns.{Able, Begun, Closing, Completed, Ends, Noting, Stored, closed, fallenWith, namedBy, stacks};
+ghost use Rattle.newick_scan.specs.Turns.{Able, Begun, Closing, Completed, Ends, Noting, Stored, closed, fallenWith, namedBy, noted, stacks};
+ghost use Rattle.newick_scan.specs.Says.{Says};
 
 // What was noted. Far, place and last are of the vertex whose cost is read: its far side, the place of its first byte, and the far side of
 // the sibling before it, 0 for none.
@@ -27,6 +28,21 @@ pub struct Noted {
 pub enum Scanned {
     Stopped(usize),
     Whole(Noted),
+}
+
+// Nothing was noted yet.
+fn nothing() -> Noted
+    ensures { λ r. ⌜ r ≡ noted 0 0 0 0 0 0 0 ⌝ }
+{
+    Noted {
+        names: 0,
+        marked: 0,
+        rows: 0,
+        fallen: 0,
+        far: 0,
+        place: 0,
+        last: 0,
+    }
 }
 
 // An image as a far side; those above 64 have none.
@@ -259,4 +275,33 @@ fn note(
         Seen::Done => w,
         Seen::Dead => w,
     }
+}
+
+// One way through the text. The first rows go to the two lent arrays, in the order in which their costs end. Of a text that is not of the
+// profile it says how many bytes begin one: the byte behind them is the first that no text of the profile could have there.
+pub fn scan(text: &[u8], fars: &mut [u64], costs: &mut [u32]) -> Scanned
+    requires { ⌜ (length (now fars) ≡ 128) × (length (now costs) ≡ 128) ⌝ }
+    ensures { λ r. ⌜ Says (now (text .entry)) r (now (fars .exit)) (now (costs .exit)) ⌝ }
+{
+    let mut outer = [0usize; 64];
+    let mut masks = [0u64; 64];
+    let mut lasts = [0u64; 64];
+    let mut places = [0usize; 64];
+    let mut w = nothing();
+    let mut s = Seen::Start;
+    let mut i = 0;
+    while i < text.len() {
+        let b = ground::wide(text[i]);
+        let next = newick_bytes::step(s, b, &mut outer);
+        if newick_bytes::is_dead(next) {
+            return Scanned::Stopped(i);
+        }
+        i += 1;
+        w = note(s, b, i, w, &mut masks, &mut lasts, &mut places, fars, costs);
+        s = next;
+    }
+    if newick_bytes::is_done(s) {
+        return Scanned::Whole(w);
+    }
+    Scanned::Stopped(i)
 }

@@ -77,25 +77,27 @@ module _ (t : List ℕ) (i : ℕ) (s : Seen) (o : List ℕ) (w : Noted) (a : Sta
       let e : length (spelled (run start (take i t))) ≡ i = ap length (run-spelled start (take i t) (c .live)) ∙ length-take-le i t (c .inside) in
       omega arith
 
-  pub scans-more : (s′ : Seen) (o′ : List ℕ) (r : Noted) (e : Stacks) (f′ v′ : List ℕ) → i < length t → s′ ≡ nextSeen s (getD t i 0) o → o′ ≡ nextOuter s (getD t i 0) o → isDeadSeen s′ ≡ false → Noting s (getD t i 0) (i + 1) w a f v r e f′ v′ → Scans t (i + 1) s′ o′ r e f′ v′
-  scans-more s′ o′ r e f′ v′ l p q d n =
-      let b = getD t i 0 in
-      let x = run start (take i t) in
-      let c = reached-more t i s o (h .reached) l s′ o′ p q d in
-      let m = subst (λ (y : Seen). Noting y b (i + 1) w a f v r e f′ v′) (h .reached .kept) n in
-      record {
-        reached = c;
-        notes = rw (run-more t i l) (notes-byte b (i + 1) w r a e f v f′ v′ x (h .sized) next-place (rw (run-more t i l) at (c .live)) (h .notes) m);
-        sized = sized-byte b (i + 1) w r a e f v f′ v′ s n (h .sized);
-        few = omega (arith, few-byte b (i + 1) w r a e f v f′ v′ s n, h .few);
-      }
+  -- one byte more, b
+  module _ (b : ℕ) (y : b ≡ getD t i 0) (l : i < length t) (s′ : Seen) (o′ : List ℕ) (p : s′ ≡ nextSeen s b o) (q : o′ ≡ nextOuter s b o) where
+    pub scans-more : (r : Noted) (e : Stacks) (f′ v′ : List ℕ) → isDeadSeen s′ ≡ false → Noting s b (i + 1) w a f v r e f′ v′ → Scans t (i + 1) s′ o′ r e f′ v′
+    scans-more r e f′ v′ d n =
+        let x = run start (take i t) in
+        let c = reached-more t i s o (h .reached) l s′ o′ (rw y at p) (rw y at q) d in
+        let g : run start (take (i + 1) t) ≡ step x b = run-more t i l ∙ ap (step x) (sym y) in
+        let m = subst (λ (k : Seen). Noting k b (i + 1) w a f v r e f′ v′) (h .reached .kept) n in
+        record {
+          reached = c;
+          notes = rw g (notes-byte b (i + 1) w r a e f v f′ v′ x (h .sized) next-place (rw g at (c .live)) (h .notes) m);
+          sized = sized-byte b (i + 1) w r a e f v f′ v′ s n (h .sized);
+          few = omega (arith, few-byte b (i + 1) w r a e f v f′ v′ s n, h .few);
+        }
 
-  pub scans-stop : (s′ : Seen) (o′ : List ℕ) → i < length t → s′ ≡ nextSeen s (getD t i 0) o → o′ ≡ nextOuter s (getD t i 0) o → isDeadSeen s′ ≡ true → Says t (Stopped i) f v
-  scans-stop s′ o′ l p q d =
-      let c = h .reached in
-      let m = notes-room w a f v (run start (take i t)) (c .live) (h .notes) in
-      let k = stopped-here t i l (c .live) (sym (dead-here t i s o c l s′ o′ p q) ∙ d) in
-      (k .0, k .1, m .far-size, m .cost-size)
+    pub scans-stop : isDeadSeen s′ ≡ true → Says t (Stopped i) f v
+    scans-stop d =
+        let c = h .reached in
+        let m = notes-room w a f v (run start (take i t)) (c .live) (h .notes) in
+        let k = stopped-here t i l (c .live) (sym (dead-here t i s o c l s′ o′ (rw y at p) (rw y at q)) ∙ d) in
+        (k .0, k .1, m .far-size, m .cost-size)
 
   pub scans-short : length t ≤ i → isDoneSeen s ≡ false → Says t (Stopped i) f v
   scans-short l d =
