@@ -4,13 +4,10 @@ use mathlib.Core.Path.{_≡_}
 use Prim.Native.Nat.{suc, zero, ℕ, _+_, _-_}
 use lib.ListN.{getD, length, take}
 use Rattle.theory.specs.LinkTables.{Row}
-use Rattle.tree.specs.LocalRows.{rowsIn}
 use Rattle.newick_text.specs.Trees.{Head, Siblings, closed, named, none}
 use Rattle.newick_text.specs.Tables.{names}
 use Rattle.newick_text.specs.Bytes.{Open, State, costing, dead, depth, done, ended, head, openText, outermost, start, vertex, within}
 use Rattle.newick_text.specs.Noting.{fallen, lastFar, lowerPlace, mark, marked, noted, notedFar}
-use Rattle.newick_scan.specs.declared.Noted.{Noted}
-use Rattle.newick_scan.specs.Turns.{Stacks}
 
 -- ## A vertex without its cost
 

@@ -3,9 +3,12 @@
 use newick_bytes::Seen;
 ghost use mathlib.Core.Path.{_≡_};
 ghost use Prim.Native.Nat.{_<_, _≤_};
+ghost use lib.Dec.{eqb};
 ghost use lib.ListN.{length};
 ghost use Rattle.newick_text.specs.Noting.{imageBit, lowerPlace, mark};
-ghost use Rattle.newick_scan.specs.Turns.{Able, Begun, Closing, Completed, Ends, Noting, Stored, closed, fallenWith, namedBy, noted, stacks};
+ghost use Rattle.newick_scan.specs.Turns.{Begun, Completed, Stored, closed, fallenWith, namedBy, noted, stacks};
+ghost use Rattle.newick_scan.specs.Noting.{EndsBy, Noting, kept};
+ghost use Rattle.newick_scan.specs.Able.{Able, Closing, Room};
 ghost use Rattle.newick_scan.specs.Says.{Says};
 
 // What was noted. Far, place and last are of the vertex whose cost is read: its far side, the place of its first byte, and the far side of
@@ -150,7 +153,7 @@ fn name(x: usize, b: usize, w: Noted) -> Noted
 
 // One row more, where there is room: of 64 images there are at most 125 rows.
 fn store(rows: usize, far: u64, cost: usize, fars: &mut [u64], costs: &mut [u32]) -> usize
-    requires { ⌜ (rows ≤ 128) × (cost < 100000000) × (length (now fars) ≡ 128) × (length (now costs) ≡ 128) ⌝ }
+    requires { ⌜ (cost < 100000000) × Room rows (now fars) (now costs) ⌝ }
     ensures { λ r. ⌜ Stored (now (fars .entry)) (now (costs .entry)) rows far cost (now (fars .exit)) (now (costs .exit)) r ⌝ }
 {
     if rows < 128 {
@@ -173,7 +176,7 @@ fn fall(w: Noted) -> usize
 
 // A vertex is complete with its cost.
 fn complete(cost: usize, w: Noted, fars: &mut [u64], costs: &mut [u32]) -> Noted
-    requires { ⌜ (w .rows ≤ 128) × (cost < 100000000) × (length (now fars) ≡ 128) × (length (now costs) ≡ 128) ⌝ }
+    requires { ⌜ (cost < 100000000) × Room (w .rows) (now fars) (now costs) ⌝ }
     ensures { λ r. ⌜ Completed cost w (now (fars .entry)) (now (costs .entry)) r (now (fars .exit)) (now (costs .exit)) ⌝ }
 {
     let rows = store(w.rows, w.far, cost, fars, costs);
@@ -223,13 +226,11 @@ fn end(
     fars: &mut [u64],
     costs: &mut [u32],
 ) -> Noted
-    requires {
-        ⌜ (w .rows ≤ 128) × (cost < 100000000) × (length (now fars) ≡ 128) × (length (now costs) ≡ 128)
-            × Closing depth w (stacks (now masks) (now lasts) (now places)) ⌝
-    }
+    requires { ⌜ (cost < 100000000) × Room (w .rows) (now fars) (now costs) × Closing depth w (stacks (now masks) (now lasts) (now places)) ⌝ }
     ensures {
-        λ r. ⌜ Ends cost depth b w (stacks (now (masks .entry)) (now (lasts .entry)) (now (places .entry))) (now (fars .entry)) (now (costs .entry)) r
-            (now (fars .exit)) (now (costs .exit)) ⌝
+        λ r. ⌜ EndsBy (eqb b 44) (eqb b 41) cost depth
+            (kept w (stacks (now (masks .entry)) (now (lasts .entry)) (now (places .entry))) (now (fars .entry)) (now (costs .entry)))
+            (kept r (stacks (now (masks .entry)) (now (lasts .entry)) (now (places .entry))) (now (fars .exit)) (now (costs .exit))) ⌝
     }
 {
     if b == 44 {
@@ -254,10 +255,11 @@ fn note(
     fars: &mut [u64],
     costs: &mut [u32],
 ) -> Noted
-    requires { ⌜ Able s place w (stacks (now masks) (now lasts) (now places)) (now fars) (now costs) ⌝ }
+    requires { ⌜ Able s place (kept w (stacks (now masks) (now lasts) (now places)) (now fars) (now costs)) ⌝ }
     ensures {
-        λ r. ⌜ Noting s b place w (stacks (now (masks .entry)) (now (lasts .entry)) (now (places .entry))) (now (fars .entry)) (now (costs .entry)) r
-            (stacks (now (masks .exit)) (now (lasts .exit)) (now (places .exit))) (now (fars .exit)) (now (costs .exit)) ⌝
+        λ r. ⌜ Noting s b place
+            (kept w (stacks (now (masks .entry)) (now (lasts .entry)) (now (places .entry))) (now (fars .entry)) (now (costs .entry)))
+            (kept r (stacks (now (masks .exit)) (now (lasts .exit)) (now (places .exit))) (now (fars .exit)) (now (costs .exit))) ⌝
     }
 {
     match s {

@@ -3,7 +3,7 @@ use borrow.Author.Needs.{needs}
 use mathlib.Core.Path.{ap, refl, sym, _∙_, _≡_}
 use native.Mathlib.Omega.{arith}
 use borrow.Author.Tests.{eq-eqb, ne-eqb}
-use Rattle.newick_scan.specs.Laws.Turning.{closing-then, same}
+use Rattle.newick_scan.specs.Laws.Turning.{closing-then}
 use Rattle.newick_scan.proofs.end.Statement.{statement}
 use Rattle.newick_scan.proofs.end.Tie as tie
 
@@ -17,13 +17,13 @@ same-length-2 : tie.Need-same-length-2
 same-length-2 c = search needs
 
 returns : tie.Need-returns
-returns c = rw (eq-eqb _ _ (c .before .before .before .before .before .before .before .if1 .taken)) (c .before .before .before .before .complete .ensures)
+returns c = rw (eq-eqb _ _ (c .before .before .before .before .before .before .before .if1 .taken)) (record { complete = c .before .before .before .before .complete .ensures; stacks = refl })
 
 complete-requires-2 : tie.Need-complete-requires-2
 complete-requires-2 c κs = search needs
 
 close-requires : tie.Need-close-requires
-close-requires c κs = closing-then _ _ _ _ _ _ _ _ _ (c .before .before .before .before .complete2 .ensures) (c .before .before .before .before .before .before .before .before .before .before .before .before .before .before .pre .4)
+close-requires c κs = closing-then _ _ _ _ _ _ _ _ _ (c .before .before .before .before .complete2 .ensures) (c .before .before .before .before .before .before .before .before .before .before .before .before .before .before .pre .2)
 
 same-length-3 : tie.Need-same-length-3
 same-length-3 c = search needs
@@ -32,10 +32,13 @@ same-length-4 : tie.Need-same-length-4
 same-length-4 c = search needs
 
 returns-2 : tie.Need-returns-2
-returns-2 c = rw (ne-eqb _ _ (c .before .before .before .before .before .before .before .before .before .if1 .left), eq-eqb _ _ (c .before .before .before .before .before .before .before .before .if2 .taken)) (record { inner = c .before .before .before .before .before .complete2 .result; complete = c .before .before .before .before .before .complete2 .ensures; told = c .close .ensures })
+returns-2 c = 
+    let e = ne-eqb _ _ (c .before .before .before .before .before .before .before .before .before .if1 .left) in
+    let k = c .before .before .before .before .before .complete2 in
+    rw (e, eq-eqb _ _ (c .before .before .before .before .before .before .before .before .if2 .taken)) (record { inner = k .result; complete = k .ensures; told = c .close .ensures; stacks = refl })
 
 returns-3 : tie.Need-returns-3
-returns-3 c = rw (ne-eqb _ _ (c .before .if1 .left), ne-eqb _ _ (c .if2 .left)) (same _ _ _)
+returns-3 c = rw (ne-eqb _ _ (c .before .if1 .left), ne-eqb _ _ (c .if2 .left)) refl
 
 pub end-spec : {M : Type 1} → statement M
 end-spec =

@@ -2,7 +2,7 @@
 use borrow.Author.Needs.{needs}
 use mathlib.Core.Path.{ap, refl, sym, _∙_, _≡_}
 use native.Mathlib.Omega.{arith}
-use Rattle.newick_scan.specs.Laws.Turning.{able-at, noting-at, same}
+use Rattle.newick_scan.specs.Laws.Turning.{able-at, noting-at}
 use Rattle.newick_scan.proofs.note.Statement.{statement}
 use Rattle.newick_scan.proofs.note.Tie as tie
 
@@ -13,13 +13,16 @@ enum-known-s : tie.Need-enum-known-s
 enum-known-s c = search needs
 
 begin-requires : tie.Need-begin-requires
-begin-requires c κs = let w = able-at _ _ (c .before .before .before .before .s .given .1) (c .before .before .before .before .before .before .before .before .before .before .before .pre .here) in let z = c .before .before .before .before .before .before .before .before .before .before .before .pre .sized in (w .0, w .1, z .masks, z .lasts, z .places)
+begin-requires c κs = 
+    let p = c .before .before .before .before .before .before .before .before .before .before .before .pre in
+    let k = able-at _ _ (c .before .before .before .before .s .given .1) (p .here) in
+    (k .0, k .1, p .sized .masks, p .sized .lasts, p .sized .places)
 
 enum-known-s-2 : tie.Need-enum-known-s-2
 enum-known-s-2 c = search needs
 
 name-requires : tie.Need-name-requires
-name-requires c κs = (able-at _ _ (c .before .s2 .given .1) (c .before .before .before .before .before .before .before .before .pre .here), omega (arith, c .before .before .before .before .before .before .before .before .pre .few, c .before .before .before .before .before .before .before .before .fits .place))
+name-requires c κs = let k = c .before .before .before .before .before .before .before .before in (able-at _ _ (c .before .s2 .given .1) (k .pre .here), omega (arith, k .pre .few, k .fits .place))
 
 enum-told-2 : tie.Need-enum-told-2
 enum-told-2 c = search needs
@@ -31,7 +34,10 @@ enum-known-s-3 : tie.Need-enum-known-s-3
 enum-known-s-3 c = search needs
 
 end-requires : tie.Need-end-requires
-end-requires c κs = let w = able-at _ _ (c .before .before .before .before .before .before .s3 .given .1) (c .before .before .before .before .before .before .before .before .before .before .before .before .before .pre .here) in let p = c .before .before .before .before .before .before .before .before .before .before .before .before .before .pre in (p .most, w .0, p .far-size, p .cost-size, w .1)
+end-requires c κs = 
+    let p = c .before .before .before .before .before .before .before .before .before .before .before .before .before .pre in
+    let k = able-at _ _ (c .before .before .before .before .before .before .s3 .given .1) (p .here) in
+    (k .0, p .room, k .1)
 
 enum-told-4 : tie.Need-enum-told-4
 enum-told-4 c = search needs
@@ -43,7 +49,7 @@ enum-told-6 : tie.Need-enum-told-6
 enum-told-6 c = search needs
 
 returns : tie.Need-returns
-returns c = noting-at _ _ _ _ _ _ _ _ _ _ (c .enum-told .given .1) (same _ _ _, refl)
+returns c = noting-at _ _ _ _ (c .enum-told .given .1) refl
 
 same-length : tie.Need-same-length
 same-length c = search needs
@@ -55,16 +61,18 @@ same-length-3 : tie.Need-same-length-3
 same-length-3 c = search needs
 
 returns-2 : tie.Need-returns-2
-returns-2 c = noting-at _ _ _ _ _ _ _ _ _ _ (c .before .before .before .before .before .before .before .before .before .before .before .s .given .1) (c .before .before .before .before .before .before .begin .ensures, refl, refl)
+returns-2 c = noting-at _ _ _ _ (c .before .before .before .before .before .before .before .before .before .before .before .s .given .1) (c .before .before .before .before .before .before .begin .ensures, refl, refl)
 
 returns-3 : tie.Need-returns-3
-returns-3 c = noting-at _ _ _ _ _ _ _ _ _ _ (c .before .before .s2 .given .1) (record { told = c .name .ensures; fars = refl; costs = refl }, refl)
+returns-3 c = 
+    let e = c .name .ensures in
+    noting-at _ _ _ _ (c .before .before .s2 .given .1) (rw e refl)
 
 returns-4 : tie.Need-returns-4
-returns-4 c = noting-at _ _ _ _ _ _ _ _ _ _ (c .enum-told2 .given .1) (same _ _ _, refl)
+returns-4 c = noting-at _ _ _ _ (c .enum-told2 .given .1) refl
 
 returns-5 : tie.Need-returns-5
-returns-5 c = noting-at _ _ _ _ _ _ _ _ _ _ (c .enum-told3 .given .1) (same _ _ _, refl)
+returns-5 c = noting-at _ _ _ _ (c .enum-told3 .given .1) refl
 
 same-length-4 : tie.Need-same-length-4
 same-length-4 c = search needs
@@ -82,16 +90,16 @@ same-length-8 : tie.Need-same-length-8
 same-length-8 c = search needs
 
 returns-6 : tie.Need-returns-6
-returns-6 c = noting-at _ _ _ _ _ _ _ _ _ _ (c .before .before .before .before .before .before .before .before .before .before .before .s3 .given .1) (c .before .before .before .before .end .ensures, refl)
+returns-6 c = noting-at _ _ _ _ (c .before .before .before .before .before .before .before .before .before .before .before .s3 .given .1) (c .before .before .before .before .end .ensures)
 
 returns-7 : tie.Need-returns-7
-returns-7 c = noting-at _ _ _ _ _ _ _ _ _ _ (c .enum-told4 .given .1) (same _ _ _, refl)
+returns-7 c = noting-at _ _ _ _ (c .enum-told4 .given .1) refl
 
 returns-8 : tie.Need-returns-8
-returns-8 c = noting-at _ _ _ _ _ _ _ _ _ _ (c .enum-told5 .given .1) (same _ _ _, refl)
+returns-8 c = noting-at _ _ _ _ (c .enum-told5 .given .1) refl
 
 returns-9 : tie.Need-returns-9
-returns-9 c = noting-at _ _ _ _ _ _ _ _ _ _ (c .enum-told6 .given .1) (same _ _ _, refl)
+returns-9 c = noting-at _ _ _ _ (c .enum-told6 .given .1) refl
 
 pub note-spec : {M : Type 1} → statement M
 note-spec =

@@ -8,13 +8,14 @@ use lib.ListN.{getD, length}
 use Rattle.newick_bytes.specs.Seen.{nextOuter, nextSeen}
 use Rattle.newick_bytes.specs.Laws.Reached.{reached-bounded}
 use Rattle.newick_scan.specs.Turns.{stacks}
+use Rattle.newick_scan.specs.Noting.{kept}
 use Rattle.newick_scan.specs.Laws.Scans.{Scans, scans-able, scans-more, scans-none, scans-short, scans-stop, scans-whole}
 use Rattle.newick_scan.proofs.scan.Statement.{statement}
 use Rattle.newick_scan.proofs.scan.Tie as tie
 
 abbrev Inv-loop : tie.InvT-loop
 Inv-loop text fars₀ costs₀ outer₀ masks₀ lasts₀ places₀ w₀ s₀ i₀ fars costs outer masks lasts places w s i =
-    Scans text i s outer w (stacks masks lasts places) fars costs
+    Scans text i s outer (kept w (stacks masks lasts places) fars costs)
 
 abbrev μ-loop : tie.MeasureT-loop
 μ-loop text fars₀ costs₀ outer₀ masks₀ lasts₀ places₀ w₀ s₀ i₀ fars costs outer masks lasts places w s i =
@@ -42,13 +43,16 @@ is-dead-requires : tie.Need-is-dead-requires Inv-loop μ-loop
 is-dead-requires c κs = tt
 
 same-length : tie.Need-same-length Inv-loop μ-loop
-same-length c = scans-able _ _ _ _ _ _ _ _ (c .before .before .before .before .before .before .before .before .loop .inv) .far-size ∙ sym (c .before .before .before .before .before .before .before .before .before .before .before .before .before .pre .0)
+same-length c = scans-able _ _ _ _ _ (c .before .before .before .before .before .before .before .before .loop .inv) .room .far-size ∙ sym (c .before .before .before .before .before .before .before .before .before .before .before .before .before .pre .0)
 
 same-length-2 : tie.Need-same-length-2 Inv-loop μ-loop
-same-length-2 c = scans-able _ _ _ _ _ _ _ _ (c .before .before .before .before .before .before .before .before .loop .inv) .cost-size ∙ sym (c .before .before .before .before .before .before .before .before .before .before .before .before .before .pre .1)
+same-length-2 c = scans-able _ _ _ _ _ (c .before .before .before .before .before .before .before .before .loop .inv) .room .cost-size ∙ sym (c .before .before .before .before .before .before .before .before .before .before .before .before .before .pre .1)
 
 returns : tie.Need-returns Inv-loop μ-loop
-returns c = scans-stop _ _ _ _ _ _ _ _ (c .before .before .before .before .before .before .before .before .loop .inv) _ (c .before .before .before .before .before .wide .ensures) (c .before .before .before .before .before .before .before .loop-test .taken) _ _ (c .before .before .before .step .ensures .0) (c .before .before .before .step .ensures .1) (sym (c .before .is-dead .ensures) ∙ c .if1 .taken)
+returns c = 
+    let k = c .before .before .before .before .before .before .before in
+    let m = c .before .before .before .step .ensures in
+    scans-stop _ _ _ _ _ (k .before .loop .inv) _ (c .before .before .before .before .before .wide .ensures) (k .loop-test .taken) _ _ (m .0) (m .1) (sym (c .before .is-dead .ensures) ∙ c .if1 .taken)
 
 add-i : tie.Need-add-i Inv-loop μ-loop
 add-i c = omega (arith, c .before .before .before .before .before .before .before .loop-test .taken)
@@ -63,34 +67,39 @@ slice-aggregate-note-3 : tie.Need-slice-aggregate-note-3 Inv-loop μ-loop
 slice-aggregate-note-3 c = search needs
 
 note-requires : tie.Need-note-requires Inv-loop μ-loop
-note-requires c κs = scans-able _ _ _ _ _ _ _ _ (c .before .before .before .before .before .before .before .before .before .before .before .before .before .loop .inv)
+note-requires c κs = scans-able _ _ _ _ _ (c .before .before .before .before .before .before .before .before .before .before .before .before .before .loop .inv)
 
 loop-less : tie.Need-loop-less Inv-loop μ-loop
 loop-less c = omega (arith, c .before .before .before .before .before .before .before .before .before .before .before .before .before .before .before .before .before .before .before .before .loop-test .taken)
 
 loop-again : tie.Need-loop-again Inv-loop μ-loop
-loop-again c = scans-more _ _ _ _ _ _ _ _ (c .before .before .before .before .before .before .before .before .before .before .before .before .before .before .before .before .before .before .before .before .before .loop .inv) _ (c .before .before .before .before .before .before .before .before .before .before .before .before .before .before .before .before .before .before .wide .ensures) (c .before .before .before .before .before .before .before .before .before .before .before .before .before .before .before .before .before .before .before .before .loop-test .taken) _ _ (c .before .before .before .before .before .before .before .before .before .before .before .before .before .before .before .before .step .ensures .0) (c .before .before .before .before .before .before .before .before .before .before .before .before .before .before .before .before .step .ensures .1) _ _ _ _ (sym (c .before .before .before .before .before .before .before .before .before .before .before .before .before .before .is-dead .ensures) ∙ c .before .before .before .before .before .before .before .before .before .before .before .before .before .if1 .left) (c .before .before .before .before .before .before .before .note .ensures)
+loop-again c = 
+    let j = c .before .before .before .before .before .before .before .before .before .before .before .before .before in
+    let k = c .before .before .before .before .before .before .before .before .before .before .before .before .before .before .before .before .before .before .before .before in
+    let m = c .before .before .before .before .before .before .before .before .before .before .before .before .before .before .before .before .step .ensures in
+    let n = c .before .before .before .before .before .before .before .note .ensures in
+    scans-more _ _ _ _ _ (k .before .loop .inv) _ (c .before .before .before .before .before .before .before .before .before .before .before .before .before .before .before .before .before .before .wide .ensures) (k .loop-test .taken) _ _ (m .0) (m .1) _ (sym (j .before .is-dead .ensures) ∙ j .if1 .left) n
 
 is-done-requires : tie.Need-is-done-requires Inv-loop μ-loop
 is-done-requires c κs = tt
 
 same-length-3 : tie.Need-same-length-3 Inv-loop μ-loop
-same-length-3 c = scans-able _ _ _ _ _ _ _ _ (c .before .before .before .loop .inv) .far-size ∙ sym (c .before .before .before .before .before .before .before .before .pre .0)
+same-length-3 c = scans-able _ _ _ _ _ (c .before .before .before .loop .inv) .room .far-size ∙ sym (c .before .before .before .before .before .before .before .before .pre .0)
 
 same-length-4 : tie.Need-same-length-4 Inv-loop μ-loop
-same-length-4 c = scans-able _ _ _ _ _ _ _ _ (c .before .before .before .loop .inv) .cost-size ∙ sym (c .before .before .before .before .before .before .before .before .pre .1)
+same-length-4 c = scans-able _ _ _ _ _ (c .before .before .before .loop .inv) .room .cost-size ∙ sym (c .before .before .before .before .before .before .before .before .pre .1)
 
 returns-2 : tie.Need-returns-2 Inv-loop μ-loop
-returns-2 c = scans-whole _ _ _ _ _ _ _ _ (c .before .before .before .loop .inv) (c .before .before .loop-test .left) (sym (c .before .is-done .ensures) ∙ c .if2 .taken)
+returns-2 c = scans-whole _ _ _ _ _ (c .before .before .before .loop .inv) (c .before .before .loop-test .left) (sym (c .before .is-done .ensures) ∙ c .if2 .taken)
 
 same-length-5 : tie.Need-same-length-5 Inv-loop μ-loop
-same-length-5 c = scans-able _ _ _ _ _ _ _ _ (c .before .before .before .loop .inv) .far-size ∙ sym (c .before .before .before .before .before .before .before .before .pre .0)
+same-length-5 c = scans-able _ _ _ _ _ (c .before .before .before .loop .inv) .room .far-size ∙ sym (c .before .before .before .before .before .before .before .before .pre .0)
 
 same-length-6 : tie.Need-same-length-6 Inv-loop μ-loop
-same-length-6 c = scans-able _ _ _ _ _ _ _ _ (c .before .before .before .loop .inv) .cost-size ∙ sym (c .before .before .before .before .before .before .before .before .pre .1)
+same-length-6 c = scans-able _ _ _ _ _ (c .before .before .before .loop .inv) .room .cost-size ∙ sym (c .before .before .before .before .before .before .before .before .pre .1)
 
 returns-3 : tie.Need-returns-3 Inv-loop μ-loop
-returns-3 c = scans-short _ _ _ _ _ _ _ _ (c .before .before .before .loop .inv) (c .before .before .loop-test .left) (sym (c .before .is-done .ensures) ∙ c .if2 .left)
+returns-3 c = scans-short _ _ _ _ _ (c .before .before .before .loop .inv) (c .before .before .loop-test .left) (sym (c .before .is-done .ensures) ∙ c .if2 .left)
 
 pub scan-spec : {M : Type 1} → statement M
 scan-spec =

@@ -29,10 +29,10 @@ same-length-2 : tie.Need-same-length-2
 same-length-2 c = search needs
 
 returns : tie.Need-returns
-returns c = stored-room _ _ _ _ _ (c .if1 .taken) (c .before .pre .2) (c .before .pre .3)
+returns c = stored-room _ _ _ _ _ (c .if1 .taken) (c .before .pre .1)
 
 returns-2 : tie.Need-returns-2
-returns-2 c = stored-full _ _ _ _ _ (c .if1 .left) (c .before .pre .0) (c .before .pre .2) (c .before .pre .3)
+returns-2 c = stored-full _ _ _ _ _ (c .if1 .left) (c .before .pre .1)
 
 pub store-spec : {M : Type 1} → statement M
 store-spec =

@@ -14,7 +14,7 @@ use Rattle.newick_text.specs.Bytes.{Open, addTo, depth, openText, outermost, wi
 use Rattle.newick_text.specs.Noting.{fallen, lastFar, lowerPlace, marked, noted, notedFar}
 use Rattle.newick_bytes.specs.Laws.Shows.{depth-some}
 use Rattle.newick_scan.specs.Notes.{called, fallenOpen, headed, inside, lastOpen, markedOpen, namesOpen, notedOpen, placeOpen}
-use Rattle.newick_scan.specs.Says.{Held}
+use Rattle.newick_scan.specs.Reading.{Held}
 use Rattle.newick_scan.specs.Laws.Adding.{fallen-add, last-add, lower-regroup, marked-add, marked-most, names-add, noted-add}
 
 module _ (v : Head) (c : ℕ) where

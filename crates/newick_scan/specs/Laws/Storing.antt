@@ -9,23 +9,25 @@ use Rattle.theory.specs.LinkTables.{Row}
 use Rattle.tree.specs.LocalRows.{rowsIn}
 use Rattle.tree.specs.Laws.LocalRows.{rowsIn-length, stored-more}
 use Rattle.newick_scan.specs.Turns.{Stored}
+use Rattle.newick_scan.specs.Able.{Room}
 
-pub stored-room : (f v : List ℕ) (k S c : ℕ) → k < 128 → length f ≡ 128 → length v ≡ 128 → Stored f v k S c (set f k S) (set v k c) (k + 1)
-stored-room f v k S c h l m = record {
-  rows = stored-more f v k S c (omega arith) (omega arith) ∙ sym (take-all 128 (rowsIn f v k ++ ((S, c) ∷ [])) (rw length-append (omega (arith, rowsIn-length f v k))));
-  most = omega arith;
-  far-size = length-set f k S ∙ l;
-  cost-size = length-set v k c ∙ m;
+pub stored-room : (f v : List ℕ) (k S c : ℕ) → k < 128 → Room k f v → Stored f v k S c (set f k S) (set v k c) (k + 1)
+stored-room f v k S c h m = record {
+  rows =
+      stored-more f v k S c (omega (arith, m .far-size)) (omega (arith, m .cost-size)) 
+      ∙ sym (take-all 128 (rowsIn f v k ++ ((S, c) ∷ [])) (rw length-append (omega (arith, rowsIn-length f v k))));
+  far-size = length-set f k S ∙ m .far-size;
+  cost-size = length-set v k c ∙ m .cost-size;
 }
 
-pub stored-full : (f v : List ℕ) (k S c : ℕ) → 128 ≤ k → k ≤ 128 → length f ≡ 128 → length v ≡ 128 → Stored f v k S c f v k
-stored-full f v k S c h q l m = record {
+pub stored-full : (f v : List ℕ) (k S c : ℕ) → 128 ≤ k → Room k f v → Stored f v k S c f v k
+stored-full f v k S c h m = record {
   rows =
-      let e : k ≡ 128 = omega arith in
-      sym (take-append-le 128 (rowsIn f v k) ((S, c) ∷ []) (omega (arith, rowsIn-length f v k)) ∙ take-all 128 (rowsIn f v k) (omega (arith, rowsIn-length f v k)));
-  most = q;
-  far-size = l;
-  cost-size = m;
+      let T = rowsIn f v k in
+      let l : length T ≡ 128 = rowsIn-length f v k ∙ omega (arith, m .most) in
+      sym (take-append-le 128 T ((S, c) ∷ []) (omega arith) ∙ take-all 128 T (omega arith));
+  far-size = m .far-size;
+  cost-size = m .cost-size;
 }
 
 -- the first so many of a list and one more are the first so many of all
