@@ -1,9 +1,9 @@
 -- Reading Newick text with numbers alone: what is kept of what was read, and what the next byte makes of it. Assumes nothing.
 use mathlib.Core.Bool.{Bool, cond, false, not, true, _&&_, _||_}
-use mathlib.Core.List.{List, [], _∷_}
-use Prim.Native.Nat.{suc, zero, ℕ, _*_, _+_, _-_, _<_, _≤_}
+use mathlib.Core.List.{List}
+use Prim.Native.Nat.{ℕ, _*_, _+_, _-_, _<_, _≤_}
 use lib.Dec.{eqb, leb, ltb}
-use lib.ListN.{getD, length, set}
+use lib.ListN.{getD, set}
 use Rattle.newick_text.specs.Bytes.{isDigit}
 use Rattle.newick_bytes.specs.declared.Seen.{Seen}
 use Rattle.newick_bytes.specs.declared.Seen.the-variants.{Blank, Closed, Cost, Dead, Done, Ended, Image, Start, Vertex}

@@ -6,13 +6,8 @@ use lib.ListN.{getD, length}
 use Rattle.newick_bytes.specs.declared.Seen.{Seen}
 use Rattle.newick_bytes.specs.declared.Seen.the-variants.{Blank, Closed, Cost, Dead, Done, Ended, Image, Start, Vertex}
 use Rattle.newick_scan.specs.declared.Noted.{Noted}
-use Rattle.newick_scan.specs.Turns.{Stacks}
+use Rattle.newick_scan.specs.Stacks.{Sized, Stacks}
 use Rattle.newick_scan.specs.Noting.{Kept}
-
-pub record Sized (a : Stacks) : Type 0 where
-  pub masks : length (a .masks) ≡ 64
-  pub lasts : length (a .lasts) ≡ 64
-  pub places : length (a .places) ≡ 64
 
 -- the innermost of d brackets may close: what was named before it is named now
 pub record Closing (d : ℕ) (w : Noted) (a : Stacks) : Type 0 where

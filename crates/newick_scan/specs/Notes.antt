@@ -1,13 +1,12 @@
 -- What was noted of a text, by what was read of it. Assumes nothing.
 use mathlib.Core.List.{List, _++_}
-use mathlib.Core.Path.{_≡_}
-use Prim.Native.Nat.{suc, zero, ℕ, _+_, _-_}
-use lib.ListN.{getD, length, take}
+use Prim.Native.Nat.{suc, ℕ, _+_}
+use lib.ListN.{length}
 use Rattle.theory.specs.LinkTables.{Row}
 use Rattle.newick_text.specs.Trees.{Head, Siblings, closed, named, none}
 use Rattle.newick_text.specs.Tables.{names}
-use Rattle.newick_text.specs.Bytes.{Open, State, costing, dead, depth, done, ended, head, openText, outermost, start, vertex, within}
-use Rattle.newick_text.specs.Noting.{fallen, lastFar, lowerPlace, mark, marked, noted, notedFar}
+use Rattle.newick_text.specs.Bytes.{Open, openText, outermost, within}
+use Rattle.newick_text.specs.Noting.{fallen, lastFar, lowerPlace, mark, marked, noted}
 
 -- ## A vertex without its cost
 

@@ -2,13 +2,13 @@
 use mathlib.Core.Bool.{Bool, false, true}
 use mathlib.Core.List.{List}
 use mathlib.Core.Path.{_≡_}
-use Prim.Native.Nat.{ℕ, _-_, _<_, _≤_}
+use Prim.Native.Nat.{ℕ}
 use lib.Dec.{eqb}
-use lib.ListN.{getD, length}
 use Rattle.newick_bytes.specs.declared.Seen.{Seen}
 use Rattle.newick_bytes.specs.declared.Seen.the-variants.{Blank, Closed, Cost, Dead, Done, Ended, Image, Start, Vertex}
 use Rattle.newick_scan.specs.declared.Noted.{Noted}
-use Rattle.newick_scan.specs.Turns.{Begun, Completed, Stacks, closed, namedBy}
+use Rattle.newick_scan.specs.Stacks.{Stacks}
+use Rattle.newick_scan.specs.Turns.{Begun, Completed, closed, namedBy}
 
 -- all that was noted, with the two arrays of rows
 pub record Kept : Type 0 where

@@ -1,13 +1,13 @@
 -- What is noted once some bytes were read. Assumes nothing.
 use mathlib.Core.List.{List}
 use mathlib.Core.Path.{_≡_}
-use Prim.Native.Nat.{suc, zero, ℕ, _+_, _-_}
+use Prim.Native.Nat.{ℕ, _+_, _-_}
 use lib.ListN.{getD}
 use Rattle.newick_text.specs.Trees.{Head, closed, named, none}
 use Rattle.newick_text.specs.Bytes.{Open, State, costing, dead, depth, done, ended, head, outermost, start, vertex, within}
 use Rattle.newick_text.specs.Noting.{notedFar}
 use Rattle.newick_scan.specs.declared.Noted.{Noted}
-use Rattle.newick_scan.specs.Turns.{Stacks}
+use Rattle.newick_scan.specs.Stacks.{Stacks}
 use Rattle.newick_scan.specs.Noting.{Kept}
 use Rattle.newick_scan.specs.Notes.{called, fallenOpen, headed, inside, lastOpen, markedOpen, namesOpen, notedOpen, placeOpen}
 use Rattle.newick_scan.specs.Says.{Told, ToldTree}
@@ -40,8 +40,10 @@ FarIs m (closed g) S = S ≡ notedFar m (closed g)
 abbrev pub Notes : State → Kept → Type 0
 Notes start x = ToldOpen (outermost none) x × Around (outermost none) (x .noted) (x .stacks)
 Notes (vertex o) x = ToldOpen o x × Around o (x .noted) (x .stacks)
-Notes (head o h) x = ToldOpen (within (inside h) o) x × Around o (x .noted) (x .stacks) × (x .noted .place ≡ placeOpen o) × FarIs (markedOpen o) h (x .noted .far)
-Notes (costing o h d) x = ToldHead o h x × Around o (x .noted) (x .stacks) × (x .noted .place ≡ placeOpen o) × (x .noted .far ≡ notedFar (markedOpen o) h)
+Notes (head o h) x =
+    ToldOpen (within (inside h) o) x × Around o (x .noted) (x .stacks) × (x .noted .place ≡ placeOpen o) × FarIs (markedOpen o) h (x .noted .far)
+Notes (costing o h d) x =
+    ToldHead o h x × Around o (x .noted) (x .stacks) × (x .noted .place ≡ placeOpen o) × (x .noted .far ≡ notedFar (markedOpen o) h)
 Notes (ended g) x = ToldTree g (x .noted) (x .fars) (x .costs)
 Notes (done g) x = ToldTree g (x .noted) (x .fars) (x .costs)
 Notes dead x = Unit {0}

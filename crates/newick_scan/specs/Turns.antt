@@ -2,30 +2,19 @@
 use mathlib.Core.Bool.{cond}
 use mathlib.Core.List.{List, [], _++_, _∷_}
 use mathlib.Core.Path.{_≡_}
-use Prim.Native.Nat.{ℕ, _+_, _-_, _≤_}
+use Prim.Native.Nat.{ℕ, _+_, _-_}
 use lib.Dec.{eqb, ltb}
-use lib.ListN.{getD, length, set, take}
+use lib.ListN.{getD, length, take}
 use Rattle.ground.specs.Sums.{when}
 use Rattle.tree.specs.LocalRows.{rowsIn}
 use Rattle.newick_text.specs.Noting.{imageBit, lowerPlace, mark}
 use Rattle.newick_scan.specs.declared.Noted.{Noted}
+use Rattle.newick_scan.specs.Stacks.{Stacks, pushed}
 
 abbrev pub noted : ℕ → ℕ → ℕ → ℕ → ℕ → ℕ → ℕ → Noted
 noted n m r p S q l = record { names = n; marked = m; rows = r; fallen = p; far = S; place = q; last = l }
 
--- for each open bracket but the innermost, what was noted where the next one opened: the images named, the far side of the sibling before, the place
-pub record Stacks : Type 0 where
-  pub masks : List ℕ
-  pub lasts : List ℕ
-  pub places : List ℕ
-
-abbrev pub stacks : List ℕ → List ℕ → List ℕ → Stacks
-stacks m l p = record { masks = m; lasts = l; places = p }
-
 -- a vertex begins at place p with the byte b: with 40 it is a bracket, and d are open before it
-abbrev pub pushed : ℕ → ℕ → ℕ → List ℕ → List ℕ
-pushed b d x a = cond (eqb b 40) (set a (d - 1) x) a
-
 abbrev pub begun : ℕ → ℕ → Noted → Noted
 begun b p w =
     cond (eqb b 40) (noted (w .names) (w .marked) (w .rows) (w .fallen) (w .far) (w .place) 0)

@@ -6,7 +6,8 @@ ghost use Prim.Native.Nat.{_<_, _≤_};
 ghost use lib.Dec.{eqb};
 ghost use lib.ListN.{length};
 ghost use Rattle.newick_text.specs.Noting.{imageBit, lowerPlace, mark};
-ghost use Rattle.newick_scan.specs.Turns.{Begun, Completed, Stored, closed, fallenWith, namedBy, noted, stacks};
+ghost use Rattle.newick_scan.specs.Stacks.{stacks};
+ghost use Rattle.newick_scan.specs.Turns.{Begun, Completed, Stored, closed, fallenWith, namedBy, noted};
 ghost use Rattle.newick_scan.specs.Noting.{EndsBy, Noting, kept};
 ghost use Rattle.newick_scan.specs.Able.{Able, Closing, Room};
 ghost use Rattle.newick_scan.specs.Says.{Says};
@@ -100,10 +101,8 @@ fn begin(
     places: &mut [usize],
 ) -> Noted
     requires { ⌜ (1 ≤ depth) × (depth ≤ 62) × (length (now masks) ≡ 64) × (length (now lasts) ≡ 64) × (length (now places) ≡ 64) ⌝ }
-    ensures {
-        λ r. ⌜ Begun depth b place w (stacks (now (masks .entry)) (now (lasts .entry)) (now (places .entry))) r
-            (stacks (now (masks .exit)) (now (lasts .exit)) (now (places .exit))) ⌝
-    }
+    ensures { λ r. ⌜ Begun depth b place w (stacks (now (masks .entry)) (now (lasts .entry)) (now (places .entry))) r
+        (stacks (now (masks .exit)) (now (lasts .exit)) (now (places .exit))) ⌝ }
 {
     if b == 40 {
         masks[depth - 1] = w.marked;
@@ -227,11 +226,9 @@ fn end(
     costs: &mut [u32],
 ) -> Noted
     requires { ⌜ (cost < 100000000) × Room (w .rows) (now fars) (now costs) × Closing depth w (stacks (now masks) (now lasts) (now places)) ⌝ }
-    ensures {
-        λ r. ⌜ EndsBy (eqb b 44) (eqb b 41) cost depth
-            (kept w (stacks (now (masks .entry)) (now (lasts .entry)) (now (places .entry))) (now (fars .entry)) (now (costs .entry)))
-            (kept r (stacks (now (masks .entry)) (now (lasts .entry)) (now (places .entry))) (now (fars .exit)) (now (costs .exit))) ⌝
-    }
+    ensures { λ r. ⌜ EndsBy (eqb b 44) (eqb b 41) cost depth
+        (kept w (stacks (now (masks .entry)) (now (lasts .entry)) (now (places .entry))) (now (fars .entry)) (now (costs .entry)))
+        (kept r (stacks (now (masks .entry)) (now (lasts .entry)) (now (places .entry))) (now (fars .exit)) (now (costs .exit))) ⌝ }
 {
     if b == 44 {
         return complete(cost, w, fars, costs);
@@ -256,11 +253,9 @@ fn note(
     costs: &mut [u32],
 ) -> Noted
     requires { ⌜ Able s place (kept w (stacks (now masks) (now lasts) (now places)) (now fars) (now costs)) ⌝ }
-    ensures {
-        λ r. ⌜ Noting s b place
-            (kept w (stacks (now (masks .entry)) (now (lasts .entry)) (now (places .entry))) (now (fars .entry)) (now (costs .entry)))
-            (kept r (stacks (now (masks .exit)) (now (lasts .exit)) (now (places .exit))) (now (fars .exit)) (now (costs .exit))) ⌝
-    }
+    ensures { λ r. ⌜ Noting s b place
+        (kept w (stacks (now (masks .entry)) (now (lasts .entry)) (now (places .entry))) (now (fars .entry)) (now (costs .entry)))
+        (kept r (stacks (now (masks .exit)) (now (lasts .exit)) (now (places .exit))) (now (fars .exit)) (now (costs .exit))) ⌝ }
 {
     match s {
         Seen::Start => w,

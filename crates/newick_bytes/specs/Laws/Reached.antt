@@ -2,17 +2,16 @@
 use mathlib.Core.Bool.{Bool, false, true}
 use mathlib.Core.List.{List, [], _∷_}
 use mathlib.Core.Path.{ap, refl, sym, _∙_, _≡_}
-use Prim.Native.Nat.{ℕ, _+_, _-_, _<_, _≤_}
+use Prim.Native.Nat.{ℕ, _+_, _<_, _≤_}
 use native.Mathlib.Omega.{arith}
 use native.Mathlib.Numerals.{add-one}
 use lib.ListN.{getD, length, take}
 use lib.Seq.{take-all, take-suc}
-use Rattle.newick_text.specs.Trees as trees
 use Rattle.newick_text.specs.Bytes.{isDead, isDone, lived, run, start, step}
 use Rattle.newick_text.specs.Laws.Fine.{run-fine}
 use Rattle.newick_text.specs.Laws.Place.{dead-not-done, lived-is}
 use Rattle.newick_text.specs.Laws.Steps.{run-append}
-use Rattle.newick_bytes.specs.Seen.{Bounded, isDeadSeen, isDoneSeen, more, nextOuter, nextSeen}
+use Rattle.newick_bytes.specs.Seen.{Bounded, isDeadSeen, isDoneSeen, nextOuter, nextSeen}
 use Rattle.newick_bytes.specs.Laws.Counts.{length-next, stacked-step}
 use Rattle.newick_bytes.specs.Laws.Shows.{Stacked, fine-bounded, narrow, narrow-dead, narrow-done, narrow-step, stack}
 use Rattle.newick_bytes.specs.declared.Seen.{Seen}

@@ -8,7 +8,7 @@ use lib.Dec.{eqb, leb, ltb}
 use lib.ListN.{getD, length}
 use borrow.Author.Tests.{le-leb, le-ltb, lt-ltb, ltb-false, ltb-true, ne-eqb}
 use borrow.Table.Steps.{cases}
-use Rattle.newick_text.specs.Trees.{Head, bracket, none, size}
+use Rattle.newick_text.specs.Trees.{Head, none, size}
 use Rattle.newick_text.specs.Trees as trees
 use Rattle.newick_text.specs.Bytes.{Open, State, addTo, atOne, begins, blank, close, costing, dead, depth, digitOf, done, ended, grows, head, isDead, isDigit, isDone, onlyIf, opens, outermost, second, start, step, value, vertex, within}
 use Rattle.newick_text.specs.Laws.Adding.{size-add}

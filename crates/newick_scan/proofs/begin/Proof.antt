@@ -1,6 +1,5 @@
 -- `newick_scan::begin` meets its contract: each return rewrites with the test that led there. Assumes nothing.
 use borrow.Author.Needs.{needs}
-use mathlib.Core.Path.{refl}
 use borrow.Author.Tests.{eq-eqb, ne-eqb}
 use Rattle.newick_scan.proofs.begin.Statement.{statement}
 use Rattle.newick_scan.proofs.begin.Tie as tie

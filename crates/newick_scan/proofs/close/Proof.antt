@@ -1,7 +1,5 @@
 -- `newick_scan::close` meets its contract: each return rewrites with the test that led there. Assumes nothing.
 use borrow.Author.Needs.{needs}
-use mathlib.Core.Path.{refl}
-use native.Mathlib.Omega.{arith}
 use borrow.Author.Tests.{le-ltb, lt-ltb}
 use Rattle.newick_scan.proofs.close.Statement.{statement}
 use Rattle.newick_scan.proofs.close.Tie as tie

@@ -1,6 +1,5 @@
 -- `newick_scan::complete` meets its contract: the row is stored by `store`, the place is that of `fall`. Assumes nothing.
 use borrow.Author.Needs.{needs}
-use mathlib.Core.Path.{refl}
 use Rattle.newick_scan.proofs.complete.Statement.{statement}
 use Rattle.newick_scan.proofs.complete.Tie as tie
 

@@ -1,5 +1,4 @@
 -- `newick_scan::lower_place` meets its contract: each return rewrites with the tests that led there. Assumes nothing.
-use borrow.Author.Needs.{needs}
 use native.Mathlib.Omega.{arith}
 use mathlib.Core.Path.{sym}
 use Rattle.newick_scan.specs.Laws.Lower.{lower-first, lower-none, lower-second}

@@ -1,8 +1,8 @@
 -- `newick_scan::mark` meets its contract: each return rewrites with the tests that led there; a bit that is 0 can be added. Assumes nothing.
 use borrow.Author.Needs.{needs}
 use native.Mathlib.Omega.{arith}
-use mathlib.Core.Path.{ap, sym, _∙_, _≡_}
-use borrow.Author.Tests.{eq-eqb, le-ltb, lt-ltb, ne-eqb}
+use mathlib.Core.Path.{_≡_}
+use borrow.Author.Tests.{eq-eqb, le-ltb, lt-ltb}
 use Rattle.ground.specs.Laws.Bits.{bit-add-fits, bit-lt}
 use Prim.Native.Nat.{_-_}
 use Rattle.ground.specs.Bits.{bit}
@@ -28,14 +28,14 @@ bit-alone-requires : tie.Need-bit-alone-requires
 bit-alone-requires c κs = search needs
 
 add-result : tie.Need-add-result
-add-result c = 
+add-result c =
     let m = c .before .before .before .before .args .m in
     let x = c .before .before .before .before .args .x in
     let z : bit m (x - 1) ≡ 0 = omega (arith, bit-lt m (x - 1), c .before .before .side .ensures, c .before .if2 .left) in
     omega (arith, c .bit-alone .ensures, bit-add-fits 64 (x - 1) m (omega arith) (omega arith) z)
 
 returns-3 : tie.Need-returns-3
-returns-3 c = 
+returns-3 c =
     let m = c .before .before .before .before .args .m in
     let x = c .before .before .before .before .args .x in
     let z : bit m (x - 1) ≡ 0 = omega (arith, bit-lt m (x - 1), c .before .before .side .ensures, c .before .if2 .left) in

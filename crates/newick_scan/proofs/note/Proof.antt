@@ -1,6 +1,6 @@
 -- `newick_scan::note` meets its contract: each arm is the contract of the function for that arm, or changes nothing. Assumes nothing.
 use borrow.Author.Needs.{needs}
-use mathlib.Core.Path.{ap, refl, sym, _∙_, _≡_}
+use mathlib.Core.Path.{refl}
 use native.Mathlib.Omega.{arith}
 use Rattle.newick_scan.specs.Laws.Turning.{able-at, noting-at}
 use Rattle.newick_scan.proofs.note.Statement.{statement}
@@ -13,7 +13,7 @@ enum-known-s : tie.Need-enum-known-s
 enum-known-s c = search needs
 
 begin-requires : tie.Need-begin-requires
-begin-requires c κs = 
+begin-requires c κs =
     let p = c .before .before .before .before .before .before .before .before .before .before .before .pre in
     let k = able-at _ _ (c .before .before .before .before .s .given .1) (p .here) in
     (k .0, k .1, p .sized .masks, p .sized .lasts, p .sized .places)
@@ -22,7 +22,9 @@ enum-known-s-2 : tie.Need-enum-known-s-2
 enum-known-s-2 c = search needs
 
 name-requires : tie.Need-name-requires
-name-requires c κs = let k = c .before .before .before .before .before .before .before .before in (able-at _ _ (c .before .s2 .given .1) (k .pre .here), omega (arith, k .pre .few, k .fits .place))
+name-requires c κs =
+    let k = c .before .before .before .before .before .before .before .before in
+    (able-at _ _ (c .before .s2 .given .1) (k .pre .here), omega (arith, k .pre .few, k .fits .place))
 
 enum-told-2 : tie.Need-enum-told-2
 enum-told-2 c = search needs
@@ -34,7 +36,7 @@ enum-known-s-3 : tie.Need-enum-known-s-3
 enum-known-s-3 c = search needs
 
 end-requires : tie.Need-end-requires
-end-requires c κs = 
+end-requires c κs =
     let p = c .before .before .before .before .before .before .before .before .before .before .before .before .before .pre in
     let k = able-at _ _ (c .before .before .before .before .before .before .s3 .given .1) (p .here) in
     (k .0, p .room, k .1)
@@ -61,10 +63,12 @@ same-length-3 : tie.Need-same-length-3
 same-length-3 c = search needs
 
 returns-2 : tie.Need-returns-2
-returns-2 c = noting-at _ _ _ _ (c .before .before .before .before .before .before .before .before .before .before .before .s .given .1) (c .before .before .before .before .before .before .begin .ensures, refl, refl)
+returns-2 c =
+    let k = c .before .before .before .before .before .before in
+    noting-at _ _ _ _ (k .before .before .before .before .before .s .given .1) (k .begin .ensures, refl, refl)
 
 returns-3 : tie.Need-returns-3
-returns-3 c = 
+returns-3 c =
     let e = c .name .ensures in
     noting-at _ _ _ _ (c .before .before .s2 .given .1) (rw e refl)
 
@@ -90,7 +94,9 @@ same-length-8 : tie.Need-same-length-8
 same-length-8 c = search needs
 
 returns-6 : tie.Need-returns-6
-returns-6 c = noting-at _ _ _ _ (c .before .before .before .before .before .before .before .before .before .before .before .s3 .given .1) (c .before .before .before .before .end .ensures)
+returns-6 c =
+    let k = c .before .before .before .before in
+    noting-at _ _ _ _ (k .before .before .before .before .before .before .before .s3 .given .1) (k .end .ensures)
 
 returns-7 : tie.Need-returns-7
 returns-7 c = noting-at _ _ _ _ (c .enum-told4 .given .1) refl

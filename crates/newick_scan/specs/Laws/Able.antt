@@ -1,14 +1,12 @@
 -- What was read keeps the numbers small enough for the next byte. Assumes nothing.
 use mathlib.Core.Bool.{Bool, false, true}
 use mathlib.Core.List.{List}
-use mathlib.Core.Path.{ap, refl, sym, _∙_, _≡_}
-use Prim.Native.Nat.{min, ℕ, _-_, _≤_}
+use mathlib.Core.Path.{ap, refl, _∙_, _≡_}
+use Prim.Native.Nat.{ℕ, _-_, _≤_}
 use native.Mathlib.Omega.{arith}
 use lib.Dec.{eqb}
-use lib.ListN.{getD, length, length-set, length-take, take}
+use lib.ListN.{getD, length, length-set}
 use borrow.Table.Steps.{cases}
-use Rattle.theory.specs.LinkTables.{Row}
-use Rattle.tree.specs.Laws.LocalRows.{rowsIn-length}
 use Rattle.newick_text.specs.Trees as trees
 use Rattle.newick_text.specs.Bytes.{Open, State, blank, costing, dead, depth, done, ended, head, outermost, start, value, vertex, within}
 use Rattle.newick_text.specs.Laws.Fine.{Fine}
@@ -16,20 +14,14 @@ use Rattle.newick_text.specs.Laws.Steps.{Live, dead-not}
 use Rattle.newick_bytes.specs.Laws.Shows.{fine-bounded, narrow}
 use Rattle.newick_bytes.specs.declared.Seen.{Seen}
 use Rattle.newick_bytes.specs.declared.Seen.the-variants.{Blank, Closed, Cost, Dead, Done, Ended, Image, Start, Vertex}
-use Rattle.newick_scan.specs.declared.Noted.{Noted}
-use Rattle.newick_scan.specs.Turns.{pushed}
+use Rattle.newick_scan.specs.Stacks.{Sized, pushed}
 use Rattle.newick_scan.specs.Noting.{EndsBy, Kept, Noting}
-use Rattle.newick_scan.specs.Able.{AbleIn, Room, Sized}
+use Rattle.newick_scan.specs.Able.{AbleIn, Room}
 use Rattle.newick_scan.specs.Notes.{markedOpen}
-use Rattle.newick_scan.specs.Says.{Told}
 use Rattle.newick_scan.specs.Reading.{Held, Notes}
 use Rattle.newick_scan.specs.Laws.Adding.{headed-most, marked-most}
 use Rattle.newick_scan.specs.Laws.Opening.{held-top}
-
-told-room : (n m p : ℕ) (T : List Row) (w : Noted) (f v : List ℕ) → Told n m p T w f v → Room (w .rows) f v
-told-room n m p T w f v t =
-    let e : w .rows ≡ min 128 (length T) = sym (rowsIn-length f v (w .rows)) ∙ ap length (t .rows) ∙ length-take 128 T in
-    record { most = omega arith; far-size = t .far-size; cost-size = t .cost-size }
+use Rattle.newick_scan.specs.Laws.Telling.{told-room}
 
 -- what was named before a bracket is named behind it
 mask-most : (a : List ℕ) (o : Open) → Held markedOpen a o → 2 ≤ depth o → getD a (depth o - 2) 0 ≤ markedOpen o
@@ -53,12 +45,14 @@ module _ (x : Kept) where
   notes-able (head o (trees.closed g)) z k h = tt
   notes-able (costing o u blank) z k h = tt
   notes-able (costing o u (value c)) z k h =
-      let m = fine-bounded (costing o u (value c)) k in
-      (m .0, record {
-        most = m .2;
-        sized = z;
-        less = λ l. rw (h .0 .marked) (omega (arith, mask-most (x .stacks .masks) o (h .1 .masks) l, headed-most (markedOpen o) u));
-      })
+      let m = fine-bounded (costing o u (value c)) k in (
+        m .0,
+        record {
+          most = m .2;
+          sized = z;
+          less = λ l. rw (h .0 .marked) (omega (arith, mask-most (x .stacks .masks) o (h .1 .masks) l, headed-most (markedOpen o) u));
+        },
+      )
   notes-able (ended g) z k h = tt
   notes-able (done g) z k h = tt
   notes-able dead z k h = tt

@@ -1,8 +1,8 @@
 -- One vertex more: what is noted of it. Assumes nothing.
-use mathlib.Core.Bool.{Bool, cond, _||_}
+use mathlib.Core.Bool.{_||_}
 use mathlib.Core.List.{List, [], _++_, _∷_, append-assoc}
 use mathlib.Core.Path.{ap, refl, sym, _∙_, _≡_}
-use Prim.Native.Nat.{suc, zero, ℕ, _+_, _-_, _<_, _≤_}
+use Prim.Native.Nat.{suc, ℕ, _+_, _-_, _≤_}
 use native.Mathlib.Omega.{arith}
 use lib.Dec.{ltb}
 use lib.ListN.{length, length-append}
@@ -12,7 +12,7 @@ use Rattle.theory.specs.FarSides.{holds}
 use Rattle.theory.specs.LinkTables.{Row}
 use Rattle.text.specs.Decimal.{decimal}
 use Rattle.newick_text.specs.Trees.{Head, Siblings, add, behind, bracket, closed, image, listed, named, none}
-use Rattle.newick_text.specs.Tables.{imageSide, names}
+use Rattle.newick_text.specs.Tables.{names}
 use Rattle.newick_text.specs.Noting.{fallen, imageBit, lastFar, lowerPlace, mark, marked, noted, notedFar}
 use Rattle.newick_scan.specs.Notes.{called, headed, inside}
 use Rattle.newick_scan.specs.Laws.Lower.{lower-assoc, lower-none}
@@ -49,7 +49,8 @@ names-add (bracket g d r) v c = let ih = names-add r v c in rw (length-append (n
 
 -- ## The rows
 
-pub noted-add : (m : ℕ) (f : Siblings) (v : Head) (c : ℕ) → noted m (add f v c) ≡ (noted m f ++ noted (marked m f) (inside v)) ++ ((notedFar (marked m f) v, c) ∷ [])
+pub noted-add : (m : ℕ) (f : Siblings) (v : Head) (c : ℕ)
+    → noted m (add f v c) ≡ (noted m f ++ noted (marked m f) (inside v)) ++ ((notedFar (marked m f) v, c) ∷ [])
 unfolding noted marked
 noted-add m none (named i) c = refl
 noted-add m none (closed g) c = refl
@@ -77,19 +78,22 @@ none-ends : (p q : ℕ) → q ≡ p + length (listed 44 none) → q ≡ p
 unfolding listed
 none-ends p q e = omega arith
 
-image-ends : (p j d : ℕ) (r : Siblings) → p + length (listed 44 (image j d r)) ≡ (p + (length (decimal j) + (length (decimal d) + 2))) + length (listed 44 r)
+image-ends : (p j d : ℕ) (r : Siblings)
+    → p + length (listed 44 (image j d r)) ≡ (p + (length (decimal j) + (length (decimal d) + 2))) + length (listed 44 r)
 unfolding listed
 image-ends p j d r =
     rw (length-append (decimal j) (58 ∷ (decimal d ++ (behind 44 r ∷ listed 44 r))), length-append (decimal d) (behind 44 r ∷ listed 44 r)) (omega arith)
 
-bracket-ends : (p : ℕ) (g : Siblings) (d : ℕ) (r : Siblings) → p + length (listed 44 (bracket g d r)) ≡ (p + (length (listed 41 g) + (length (decimal d) + 3))) + length (listed 44 r)
+bracket-ends : (p : ℕ) (g : Siblings) (d : ℕ) (r : Siblings)
+    → p + length (listed 44 (bracket g d r)) ≡ (p + (length (listed 41 g) + (length (decimal d) + 3))) + length (listed 44 r)
 unfolding listed
 bracket-ends p g d r =
     rw (length-append (listed 41 g) (58 ∷ (decimal d ++ (behind 44 r ∷ listed 44 r))), length-append (decimal d) (behind 44 r ∷ listed 44 r)) (omega arith)
 
 -- q is the place of the vertex that is added
 pub fallen-add : (m p b : ℕ) (f : Siblings) (v : Head) (c q : ℕ) → q ≡ p + length (listed 44 f)
-    → fallen m p b (add f v c) ≡ lowerPlace (lowerPlace (fallen m p b f) (fallen (marked m f) (suc q) 0 (inside v))) (when (ltb (notedFar (marked m f) v) (lastFar m b f)) q)
+    → fallen m p b (add f v c)
+    ≡ lowerPlace (lowerPlace (fallen m p b f) (fallen (marked m f) (suc q) 0 (inside v))) (when (ltb (notedFar (marked m f) v) (lastFar m b f)) q)
 unfolding fallen marked lastFar
 fallen-add m p b none (named i) c q e = rw (none-ends p q e) (lower-none (when (ltb (imageBit i) b) p))
 fallen-add m p b none (closed g) c q e = rw (none-ends p q e, lower-none (when (ltb (marked m g - m) b) p)) refl

@@ -1,7 +1,7 @@
 -- What is noted after the next byte is what was read then. Assumes nothing.
-use mathlib.Core.Bool.{cond, not, _&&_}
-use mathlib.Core.Path.{ap, refl, sym, _∙_, _≡_}
-use Prim.Native.Nat.{suc, ℕ, _*_, _+_, _-_, _<_, _≤_}
+use mathlib.Core.Bool.{not, _&&_}
+use mathlib.Core.Path.{ap, _≡_}
+use Prim.Native.Nat.{suc, ℕ, _*_, _+_, _-_}
 use native.Mathlib.Omega.{arith}
 use lib.Dec.{eqb, leb, ltb}
 use lib.ListN.{length}
@@ -10,11 +10,12 @@ use borrow.Table.Steps.{cases}
 use Rattle.ground.specs.Laws.Tests.{and-r}
 use Rattle.newick_text.specs.Trees.{Head, none}
 use Rattle.newick_text.specs.Trees as trees
-use Rattle.newick_text.specs.Bytes.{Open, State, addTo, atOne, begins, blank, close, costing, dead, depth, digitOf, done, ended, grows, head, isDigit, opens, outermost, second, spelled, start, step, value, vertex, within}
+use Rattle.newick_text.specs.Bytes.{Open, State, blank, costing, dead, done, ended, head, outermost, start, value, vertex, within}
+use Rattle.newick_text.specs.Bytes.{addTo, atOne, begins, close, depth, digitOf, grows, isDigit, opens, second, spelled, step}
 use Rattle.newick_text.specs.Laws.Steps.{Live, dead-not, only}
 use Rattle.newick_bytes.specs.Laws.Shows.{depth-add, narrow}
+use Rattle.newick_scan.specs.Stacks.{Sized}
 use Rattle.newick_scan.specs.Noting.{Closes, Completes, Kept, Noting, kept}
-use Rattle.newick_scan.specs.Able.{Sized}
 use Rattle.newick_scan.specs.Notes.{placeOpen}
 use Rattle.newick_scan.specs.Reading.{Notes}
 use Rattle.newick_scan.specs.Laws.Stepping.{begin-notes, close-notes, complete-notes, name-notes, open-notes}
@@ -25,7 +26,8 @@ module _ (b p : ℕ) (x y : Kept) where
   same-notes : (s : State) → y ≡ x → Notes s x → Notes s y
   same-notes s e h = rw e h
 
-  vertex-byte : (o : Open) → Sized (x .stacks) → p ≡ placeOpen o → Live (step (vertex o) b) → Notes (vertex o) x → Noting (narrow (vertex o)) b p x y → Notes (step (vertex o) b) y
+  vertex-byte : (o : Open) → Sized (x .stacks) → p ≡ placeOpen o → Live (step (vertex o) b) → Notes (vertex o) x
+      → Noting (narrow (vertex o)) b p x y → Notes (step (vertex o) b) y
   unfolding step
   vertex-byte o z q l h n =
       cases (eqb b 40)
@@ -50,13 +52,16 @@ module _ (b p : ℕ) (x y : Kept) where
       let e : y ≡ kept (y .noted) (x .stacks) (y .fars) (y .costs) = ap (λ a. kept (y .noted) a (y .fars) (y .costs)) (n .stacks) in
       rw e (complete-notes x (y .noted) (y .fars) (y .costs) o u (value c) c h (n .complete))
 
-  close-byte : (o : Open) (u : Head) (c : ℕ) → Live (close (addTo o u c)) → Notes (costing o u (value c)) x → Closes c (depth o) x y → Notes (close (addTo o u c)) y
+  close-byte : (o : Open) (u : Head) (c : ℕ) → Live (close (addTo o u c)) → Notes (costing o u (value c)) x
+      → Closes c (depth o) x y → Notes (close (addTo o u c)) y
   close-byte o u c l h n =
       let e : y ≡ kept (y .noted) (x .stacks) (y .fars) (y .costs) = ap (λ a. kept (y .noted) a (y .fars) (y .costs)) (n .stacks) in
       let i = kept (n .inner) (x .stacks) (y .fars) (y .costs) in
-      rw e (close-notes i (y .noted) (addTo o u c) l (complete-notes x (n .inner) (y .fars) (y .costs) o u (value c) c h (n .complete)) (rw (depth-add o u c) (n .told)))
+      let m = complete-notes x (n .inner) (y .fars) (y .costs) o u (value c) c h (n .complete) in
+      rw e (close-notes i (y .noted) (addTo o u c) l m (rw (depth-add o u c) (n .told)))
 
-  value-byte : (o : Open) (u : Head) (c : ℕ) → Live (step (costing o u (value c)) b) → Notes (costing o u (value c)) x → Noting (narrow (costing o u (value c))) b p x y → Notes (step (costing o u (value c)) b) y
+  value-byte : (o : Open) (u : Head) (c : ℕ) → Live (step (costing o u (value c)) b) → Notes (costing o u (value c)) x
+      → Noting (narrow (costing o u (value c))) b p x y → Notes (step (costing o u (value c)) b) y
   unfolding step
   value-byte o u c l h n =
       cases (eqb b 44)
@@ -68,7 +73,8 @@ module _ (b p : ℕ) (x y : Kept) where
       same-notes (costing o u (value c)) (rw (t, k) at n) h))))))
 
   -- while what was read is a beginning, what is noted is what was read
-  pub notes-byte : (s : State) → Sized (x .stacks) → p ≡ suc (length (spelled s)) → Live (step s b) → Notes s x → Noting (narrow s) b p x y → Notes (step s b) y
+  pub notes-byte : (s : State) → Sized (x .stacks) → p ≡ suc (length (spelled s)) → Live (step s b) → Notes s x
+      → Noting (narrow s) b p x y → Notes (step s b) y
   unfolding step spelled
   notes-byte start z q l h n = only (λ s. Notes s y) (eqb b 40) (vertex (outermost none)) l (λ k m. same-notes start n h)
   notes-byte (vertex o) z q l h n = vertex-byte o z q l h n

@@ -1,6 +1,6 @@
 -- A byte names at most one image. Assumes nothing.
-use mathlib.Core.Bool.{Bool, cond, false, true}
-use mathlib.Core.Path.{ap, refl, sym, _∙_, _≡_}
+use mathlib.Core.Bool.{Bool, false, true}
+use mathlib.Core.Path.{ap, refl, _∙_, _≡_}
 use Prim.Native.Nat.{ℕ, _+_, _≤_}
 use native.Mathlib.Omega.{arith}
 use lib.Dec.{eqb, ltb}
@@ -8,7 +8,8 @@ use borrow.Table.Steps.{cases}
 use Rattle.newick_bytes.specs.declared.Seen.{Seen}
 use Rattle.newick_bytes.specs.declared.Seen.the-variants.{Blank, Closed, Cost, Dead, Done, Ended, Image, Start, Vertex}
 use Rattle.newick_scan.specs.declared.Noted.{Noted}
-use Rattle.newick_scan.specs.Turns.{Stacks, begun, closed, namedBy}
+use Rattle.newick_scan.specs.Stacks.{Stacks}
+use Rattle.newick_scan.specs.Turns.{begun, closed, namedBy}
 use Rattle.newick_scan.specs.Noting.{EndsBy, Kept, Noting}
 
 names-of : (r w : Noted) → r ≡ w → r .names ≡ w .names

@@ -1,5 +1,5 @@
 -- Laws of the lower of two places, 0 being none. Assumes nothing.
-use mathlib.Core.Path.{ap, refl, sym, _∙_, _≡_}
+use mathlib.Core.Path.{refl, sym, _∙_, _≡_}
 use Prim.Native.Nat.{min, suc, zero, ℕ, _<_, _≤_}
 use native.Mathlib.Omega.{arith}
 use Rattle.newick_text.specs.Noting.{lowerPlace}

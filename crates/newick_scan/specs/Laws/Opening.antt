@@ -1,21 +1,20 @@
 -- One vertex more in the innermost bracket: what is noted of it. Assumes nothing.
 use mathlib.Core.List.{List, [], _++_, _∷_, append-assoc}
-use mathlib.Core.Path.{ap, refl, sym, _∙_, _≡_}
-use Prim.Native.Nat.{suc, zero, ℕ, _+_, _-_, _<_, _≤_}
+use mathlib.Core.Path.{ap, sym, _∙_, _≡_}
+use Prim.Native.Nat.{suc, ℕ, _+_, _-_, _≤_}
 use native.Mathlib.Omega.{arith}
 use lib.Dec.{ltb}
 use lib.ListN.{getD, length, length-append, set}
 use lib.Seq.{getD-set-other, getD-set-same}
 use Rattle.ground.specs.Sums.{when}
 use Rattle.theory.specs.LinkTables.{Row}
-use Rattle.newick_text.specs.Trees.{Head, Siblings, add, listed, none}
-use Rattle.newick_text.specs.Tables.{names}
+use Rattle.newick_text.specs.Trees.{Head, Siblings, listed}
 use Rattle.newick_text.specs.Bytes.{Open, addTo, depth, openText, outermost, within}
 use Rattle.newick_text.specs.Noting.{fallen, lastFar, lowerPlace, marked, noted, notedFar}
 use Rattle.newick_bytes.specs.Laws.Shows.{depth-some}
 use Rattle.newick_scan.specs.Notes.{called, fallenOpen, headed, inside, lastOpen, markedOpen, namesOpen, notedOpen, placeOpen}
 use Rattle.newick_scan.specs.Reading.{Held}
-use Rattle.newick_scan.specs.Laws.Adding.{fallen-add, last-add, lower-regroup, marked-add, marked-most, names-add, noted-add}
+use Rattle.newick_scan.specs.Laws.Adding.{fallen-add, last-add, lower-regroup, marked-add, names-add, noted-add}
 
 module _ (v : Head) (c : ℕ) where
   pub marked-open : (o : Open) → markedOpen (addTo o v c) ≡ headed (markedOpen o) v
@@ -39,14 +38,16 @@ module _ (v : Head) (c : ℕ) where
       ∙ sym (ap (λ (l : List Row). l ++ x) (append-assoc (notedOpen o) (noted M f) (noted (marked M f) (inside v)))
       ∙ append-assoc (notedOpen o) (noted M f ++ noted (marked M f) (inside v)) x)
 
-  pub fallen-open : (o : Open) → fallenOpen (addTo o v c) ≡ lowerPlace (fallenOpen (within (inside v) o)) (when (ltb (notedFar (markedOpen o) v) (lastOpen o)) (placeOpen o))
+  pub fallen-open : (o : Open)
+      → fallenOpen (addTo o v c) ≡ lowerPlace (fallenOpen (within (inside v) o)) (when (ltb (notedFar (markedOpen o) v) (lastOpen o)) (placeOpen o))
   fallen-open (outermost f) = fallen-add 0 2 0 f v c (placeOpen (outermost f)) (omega arith)
   fallen-open (within f o) =
       let M = markedOpen o in
       let q = placeOpen (within f o) in
       let e : q ≡ suc (placeOpen o) + length (listed 44 f) = rw (length-append (openText o) (40 ∷ listed 44 f)) (omega arith) in
       ap (lowerPlace (fallenOpen o)) (fallen-add M (suc (placeOpen o)) 0 f v c q e)
-      ∙ lower-regroup (fallenOpen o) (fallen M (suc (placeOpen o)) 0 f) (fallen (marked M f) (suc q) 0 (inside v)) (when (ltb (notedFar (marked M f) v) (lastFar M 0 f)) q)
+      ∙ lower-regroup (fallenOpen o) (fallen M (suc (placeOpen o)) 0 f) (fallen (marked M f) (suc q) 0 (inside v))
+      (when (ltb (notedFar (marked M f) v) (lastFar M 0 f)) q)
 
 -- ## What is kept of the brackets around
 

@@ -17,10 +17,10 @@ use Rattle.newick_bytes.specs.declared.Seen.{Seen}
 use Rattle.newick_bytes.specs.declared.Seen.the-variants.{Start}
 use Rattle.newick_bytes.specs.Laws.Reached.{Reached, dead-here, reached-more, reached-none, run-more, stopped-end, stopped-here, whole-end}
 use Rattle.newick_scan.specs.declared.Scanned.the-variants.{Stopped, Whole}
+use Rattle.newick_scan.specs.Stacks.{Sized, Stacks}
 use Rattle.newick_scan.specs.Turns as turns
-use Rattle.newick_scan.specs.Turns.{Stacks}
 use Rattle.newick_scan.specs.Noting.{Kept, Noting, kept}
-use Rattle.newick_scan.specs.Able.{Able, Sized}
+use Rattle.newick_scan.specs.Able.{Able}
 use Rattle.newick_scan.specs.Says.{Says, ToldTree}
 use Rattle.newick_scan.specs.Reading.{Notes}
 use Rattle.newick_scan.specs.Laws.Able.{notes-able, notes-room, sized-byte}
@@ -40,7 +40,10 @@ pub scans-none : (t o : List ℕ) (a : Stacks) (f v : List ℕ) → length o ≡
 unfolding run names marked fallen noted lastFar
 scans-none t o a f v e z p q = record {
   reached = reached-none t o e;
-  notes = (record { names = refl; marked = refl; fallen = refl; rows = rowsIn-none f v; far-size = p; cost-size = q }, record { last = refl; masks = tt; lasts = tt; places = tt });
+  notes = (
+    record { names = refl; marked = refl; fallen = refl; rows = rowsIn-none f v; far-size = p; cost-size = q },
+    record { last = refl; masks = tt; lasts = tt; places = tt },
+  );
   sized = z;
   few = omega arith;
 }

@@ -1,9 +1,9 @@
 -- One row more in the two arrays, where there is room. Assumes nothing.
 use mathlib.Core.List.{List, [], _++_, _∷_}
 use mathlib.Core.Path.{ap, refl, sym, _∙_, _≡_}
-use Prim.Native.Nat.{min, suc, zero, ℕ, _+_, _<_, _≤_}
+use Prim.Native.Nat.{suc, zero, ℕ, _+_, _<_, _≤_}
 use native.Mathlib.Omega.{arith}
-use lib.ListN.{length, length-append, length-set, length-take, set, take}
+use lib.ListN.{length, length-append, length-set, set, take}
 use lib.Seq.{take-all, take-append-le}
 use Rattle.theory.specs.LinkTables.{Row}
 use Rattle.tree.specs.LocalRows.{rowsIn}
@@ -14,7 +14,7 @@ use Rattle.newick_scan.specs.Able.{Room}
 pub stored-room : (f v : List ℕ) (k S c : ℕ) → k < 128 → Room k f v → Stored f v k S c (set f k S) (set v k c) (k + 1)
 stored-room f v k S c h m = record {
   rows =
-      stored-more f v k S c (omega (arith, m .far-size)) (omega (arith, m .cost-size)) 
+      stored-more f v k S c (omega (arith, m .far-size)) (omega (arith, m .cost-size))
       ∙ sym (take-all 128 (rowsIn f v k ++ ((S, c) ∷ [])) (rw length-append (omega (arith, rowsIn-length f v k))));
   far-size = length-set f k S ∙ m .far-size;
   cost-size = length-set v k c ∙ m .cost-size;

@@ -4,7 +4,8 @@ use mathlib.Core.Path.{ap, subst, sym, _≡_}
 use Prim.Native.Nat.{ℕ}
 use Rattle.newick_bytes.specs.declared.Seen.{Seen}
 use Rattle.newick_scan.specs.declared.Noted.{Noted}
-use Rattle.newick_scan.specs.Turns.{Completed, Stacks}
+use Rattle.newick_scan.specs.Stacks.{Stacks}
+use Rattle.newick_scan.specs.Turns.{Completed}
 use Rattle.newick_scan.specs.Noting.{Kept, Noting}
 use Rattle.newick_scan.specs.Able.{AbleIn, Closing}
 
