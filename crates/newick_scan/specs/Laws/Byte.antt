@@ -14,7 +14,7 @@ use Rattle.newick_text.specs.Bytes.{Open, State, blank, costing, dead, done, en
 use Rattle.newick_text.specs.Bytes.{addTo, atOne, begins, close, depth, digitOf, grows, isDigit, opens, second, spelled, step}
 use Rattle.newick_text.specs.Laws.Steps.{Live, dead-not, only}
 use Rattle.newick_bytes.specs.Kept.{narrow}
-use Rattle.newick_bytesNone.specs.Laws.Shows.{depth-add}
+use Rattle.newick_bytes.specs.Laws.Shows.{depth-add}
 use Rattle.newick_scan.specs.Stacks.{Sized}
 use Rattle.newick_scan.specs.Noting.{Closes, Completes, Kept, Noting, kept}
 use Rattle.newick_scan.specs.Notes.{placeOpen}

@@ -16,7 +16,7 @@ use Rattle.newick_text.specs.Bytes.{Digits, Open, addTo, blank, close, costing,
 use Rattle.newick_text.specs.Noting.{fallen, lastFar, lowerPlace, mark, marked, notedFar}
 use Rattle.newick_text.specs.Laws.Steps.{Live, only}
 use Rattle.newick_bytes.specs.Kept.{narrow}
-use Rattle.newick_bytesNone.specs.Laws.Shows.{depth-some}
+use Rattle.newick_bytes.specs.Laws.Shows.{depth-some}
 use Rattle.newick_scan.specs.declared.Noted.{Noted}
 use Rattle.newick_scan.specs.Stacks.{Sized}
 use Rattle.newick_scan.specs.Turns as turns
