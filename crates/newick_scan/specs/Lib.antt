@@ -9,3 +9,4 @@ pub mod Notes
 pub mod Reading
 -- What is true of it.
 pub mod Laws
+pub mod Examples
