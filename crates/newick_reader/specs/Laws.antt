@@ -1,0 +1,6 @@
+-- One way through a text.
+pub mod Marks
+pub mod Falls
+-- The rows put in their places.
+pub mod Distinct
+pub mod Capped
