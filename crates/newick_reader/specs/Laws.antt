@@ -4,3 +4,5 @@ pub mod Falls
 -- The rows put in their places.
 pub mod Distinct
 pub mod Capped
+pub mod Collecting
+pub mod Searching

@@ -1,4 +1,6 @@
--- Costs that count as one bad cost.
+-- What the contracts of `newick_reader` cite: costs that count as one bad cost, the answer, and what the notes of a text say.
 pub mod Capping
--- What is true of one way through a text, and of rows put in their places.
+pub mod Outcomes
+pub mod Notes
+-- What is true of it.
 pub mod Laws
