@@ -6,3 +6,4 @@ pub mod Distinct
 pub mod Capped
 pub mod Collecting
 pub mod Searching
+pub mod Outcomes
