@@ -7,3 +7,5 @@ pub mod Capped
 pub mod Collecting
 pub mod Searching
 pub mod Outcomes
+pub mod Table
+pub mod Answer
