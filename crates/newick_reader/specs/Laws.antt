@@ -9,3 +9,5 @@ pub mod Searching
 pub mod Outcomes
 pub mod Table
 pub mod Answer
+pub mod Left
+pub mod Refusing

@@ -2,5 +2,7 @@
 pub mod Capping
 pub mod Outcomes
 pub mod Notes
+pub mod InOrder
 -- What is true of it.
 pub mod Laws
+pub mod Promises
