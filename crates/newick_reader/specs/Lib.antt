@@ -6,3 +6,4 @@ pub mod InOrder
 -- What is true of it.
 pub mod Laws
 pub mod Promises
+pub mod Examples
