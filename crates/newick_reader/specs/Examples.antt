@@ -6,7 +6,6 @@ use lib.Count.{ones, onesIn}
 use lib.ListN.{replicate}
 use Rattle.ground.specs.First.{first}
 use Rattle.ground.specs.Refusals.{refusal}
-use Rattle.theory.specs.Outcomes.{RowsOutcome}
 use Rattle.text.specs.Decimal.{decimal, digits}
 use Rattle.newick_text.specs.Bytes.{lived, run, step}
 use Rattle.newick_text.specs.Examples.{textG}
@@ -41,12 +40,14 @@ unfolding decimal digits fallFrom first insert lived listed names ones onesIn ro
 example-13 = (refl, refl, refl)
 
 -- (1:0,2:0,3:16000001); has its bad cost in row 2; (1:0,3:0,2:99999999); in row 1 of the table, and 12 comes before 22
-pub example-12 : (answerIn 3 (40 ∷ 49 ∷ 58 ∷ 48 ∷ 44 ∷ 50 ∷ 58 ∷ 48 ∷ 44 ∷ 51 ∷ 58 ∷ 49 ∷ 54 ∷ 48 ∷ 48 ∷ 48 ∷ 48 ∷ 48 ∷ 49 ∷ 41 ∷ 59 ∷ []) ≡ Refused (refusal 12 2 0 0 0))
+pub example-12 : (answerIn 3 (40 ∷ 49 ∷ 58 ∷ 48 ∷ 44 ∷ 50 ∷ 58 ∷ 48 ∷ 44 ∷ 51 ∷ 58 ∷ 49 ∷ 54 ∷ 48 ∷ 48 ∷ 48 ∷ 48 ∷ 48 ∷ 49 ∷ 41 ∷ 59 ∷ [])
+    ≡ Refused (refusal 12 2 0 0 0))
     × (answerIn 3 (40 ∷ 49 ∷ 58 ∷ 48 ∷ 44 ∷ 51 ∷ 58 ∷ 48 ∷ 44 ∷ 50 ∷ 58 ∷ 57 ∷ 57 ∷ 57 ∷ 57 ∷ 57 ∷ 57 ∷ 57 ∷ 57 ∷ 41 ∷ 59 ∷ []) ≡ Refused (refusal 12 1 0 0 0))
 unfolding decimal digits fallFrom first insert lived listed names ones onesIn rows run side sorted step
 example-12 = (refl, refl)
 
 -- (1:0,6:0,((5:0,4:0):1,3:0):1,2:0); gets the place of the bracket and not of the 4 in it
-pub example-22 : (answerIn 9 (40 ∷ 49 ∷ 58 ∷ 48 ∷ 44 ∷ 54 ∷ 58 ∷ 48 ∷ 44 ∷ 40 ∷ 40 ∷ 53 ∷ 58 ∷ 48 ∷ 44 ∷ 52 ∷ 58 ∷ 48 ∷ 41 ∷ 58 ∷ 49 ∷ 44 ∷ 51 ∷ 58 ∷ 48 ∷ 41 ∷ 58 ∷ 49 ∷ 44 ∷ 50 ∷ 58 ∷ 48 ∷ 41 ∷ 59 ∷ []) ≡ Refused (refusal 22 10 0 0 0))
+pub example-22 : (answerIn 9 (40 ∷ 49 ∷ 58 ∷ 48 ∷ 44 ∷ 54 ∷ 58 ∷ 48 ∷ 44 ∷ 40 ∷ 40 ∷ 53 ∷ 58 ∷ 48 ∷ 44 ∷ 52 ∷ 58 ∷ 48 ∷ 41 ∷ 58 ∷ 49 ∷ 44
+    ∷ 51 ∷ 58 ∷ 48 ∷ 41 ∷ 58 ∷ 49 ∷ 44 ∷ 50 ∷ 58 ∷ 48 ∷ 41 ∷ 59 ∷ []) ≡ Refused (refusal 22 10 0 0 0))
 unfolding decimal digits fallFrom first insert lived listed names ones onesIn rows run side sorted step
 example-22 = refl

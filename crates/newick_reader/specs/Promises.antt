@@ -1,19 +1,15 @@
 -- What the promise of the reader is worth. A call is seen from outside: the text t, its answer, and the two lent slices before, f and v, and after,
 -- f′ and v′. Assumes nothing.
 use mathlib.Core.Bool.{Bool, false, false≢true, true}
-use mathlib.Core.List.{List, [], _∷_}
-use mathlib.Core.Path.{ap, ap₂, refl, subst, sym, _∙_, _≡_}
-use Prim.Native.Nat.{min, suc, zero, ℕ, _*_, _+_, _-_, _<_, _≤_}
+use mathlib.Core.List.{List}
+use mathlib.Core.Path.{ap, refl, subst, sym, _∙_, _≡_}
+use Prim.Native.Nat.{min, suc, ℕ, _*_, _-_, _≤_}
 use native.Mathlib.Omega.{arith}
 use lib.ListN.{drop, length, length-map, take}
 use lib.Seq.{take-at}
-use borrow.Author.Tests.{not-false}
-use borrow.Table.Steps.{cases}
 use Rattle.ground.specs.Buffers.{front}
 use Rattle.ground.specs.Steps.{FirstRefused, Step}
-use Rattle.ground.specs.Laws.Refusals.{refuseIf-passed}
-use Rattle.ground.specs.Refusals.{refusal, _then_}
-use Rattle.ground.specs.declared.Check.{Check}
+use Rattle.ground.specs.Refusals.{refusal}
 use Rattle.ground.specs.declared.Check.the-variants.{Passed, Refused}
 use Rattle.ground.specs.declared.Refusal.{Refusal}
 use Rattle.theory.specs.Laws.Outcomes.{left-rows-once}
@@ -23,13 +19,13 @@ use Rattle.theory.specs.Tables.{limit}
 use Rattle.tree.specs.Laws.Writing.{written-stand}
 use Rattle.tree.specs.Writing.{RowsStand, RowsWritten, rowsLeft}
 use Rattle.links.specs.Links.{Links}
-use Rattle.newick_text.specs.Bytes.{done, isDone, lived, run, start, treeOf}
-use Rattle.newick_text.specs.Reading.{profileCheck, readChecks, treeIn}
+use Rattle.newick_text.specs.Bytes.{isDone, lived, run, start, treeOf}
+use Rattle.newick_text.specs.Reading.{readChecks, treeIn}
 use Rattle.newick_text.specs.Tables.{linkTree, names, newick, tableOf}
 use Rattle.newick_text.specs.Trees.{Profile}
 use Rattle.newick_text.specs.Laws.Place.{FirstImpossible, done-profile, first-impossible, one-place, profile-done}
 use Rattle.newick_text.specs.Laws.ReadLinks.{read-links}
-use Rattle.newick_text.specs.Laws.Reading.{Said, done-is, read-written, said, write-read, written}
+use Rattle.newick_text.specs.Laws.Reading.{done-is, read-written, said, write-read, written}
 use Rattle.newick_text.specs.Laws.Reads.{tree-read}
 use Rattle.newick_reader.specs.InOrder.{read-order, readSteps}
 use Rattle.newick_reader.specs.Outcomes.{readOutcome, rowsIf}
@@ -115,7 +111,8 @@ module _ (t f v : List ℕ) (q : Refusal) (f′ v′ : List ℕ) (l : Answers t 
 
 -- ## 18
 
--- outside the profile it is refused by 18 with the one place before which the bytes begin a text of the profile, while with the byte there, if there is one, none does
+-- outside the profile it is refused by 18 with the one place before which the bytes begin a text of the profile, while with the byte there, where there
+-- is one, they begin none
 pub first-impossible-byte : (t f v : List ℕ) (k : ℕ) → (Profile t → ⊥) → FirstImpossible t k → (r : NewickTree) (f′ v′ : List ℕ) → Answers t f v r f′ v′
     → r ≡ answer.Refused (refusal 18 (suc k) 0 0 0)
 first-impossible-byte t f v k h p r f′ v′ l =

@@ -69,7 +69,8 @@ write-rows-requires c κs =
     let w = c .before .before .before .before .before .before .before .before .before .before .before .before .before in
     let p = start w .pre in
     let n = few w in
-    (omega (arith, n, p .2, w .sort-rows .ensures .far-room), omega (arith, n, p .2, w .sort-rows .ensures .cost-room), omega (arith, n, p .3), omega (arith, n, p .4))
+    let r = w .sort-rows .ensures in
+    (omega (arith, n, p .2, r .far-room), omega (arith, n, p .2, r .cost-room), omega (arith, n, p .3), omega (arith, n, p .4))
 
 same-length : tie.Need-same-length
 same-length c = search needs

@@ -1,13 +1,12 @@
 -- What the notes of a whole text say is what reading the text answers and leaves. Assumes nothing.
 use mathlib.Core.Bool.{Bool, false, not, true, _||_}
 use mathlib.Core.List.{List}
-use mathlib.Core.Path.{ap, ap₂, refl, sym, _∙_, _≡_}
+use mathlib.Core.Path.{ap, ap₂, refl, _∙_, _≡_}
 use Prim.Native.Nat.{min, suc, ℕ, _*_, _+_, _-_, _<_, _≤_}
 use native.Mathlib.Omega.{arith}
 use lib.Dec.{eqb}
 use lib.ListN.{getD, length, take}
 use borrow.Author.Tests.{not-false}
-use Rattle.ground.specs.Bits.{bit}
 use Rattle.ground.specs.Laws.Bits.{bit-none}
 use Rattle.ground.specs.Laws.Refusals.{outside-false, refuseIf-passed, then-assoc, then-passed, then-same}
 use Rattle.ground.specs.Members.{isIn}
@@ -34,7 +33,7 @@ use Rattle.newick_reader.specs.Capping.{capped}
 use Rattle.newick_reader.specs.Notes.{nameChecks, noteOutcome, notedTable, rowChecks, unnamed}
 use Rattle.newick_reader.specs.Outcomes.{readOutcome, rowsIf}
 use Rattle.newick_reader.specs.Laws.Capped.{capped-bad, capped-cost, capped-far, capped-length, capped-same}
-use Rattle.newick_reader.specs.Laws.Marks.{marked-names}
+use Rattle.newick_reader.specs.Laws.Named.{marked-names}
 use Rattle.newick_reader.specs.Laws.Searching.{check-same}
 use Rattle.newick_reader.specs.Laws.Table.{noted-count, noted-fall, noted-table}
 
@@ -51,7 +50,8 @@ names-same : (f : Siblings) (room : ℕ) → Tree f → (n : ℕ)
 names-same f room w n =
     then-same (imagesCheck n) refl (λ p.
     let k = outside-false 3 64 n (refuseIf-passed (outside 3 64 n) _ p) in
-    then-same (roomCheck (2 * n - 3) room) refl (λ q. check-same 13 (unnamed (marked 0 f)) (λ i. not (isIn (suc i) (names f))) n (λ i l. named-bit f w i (omega (arith, k .1)))))
+    then-same (roomCheck (2 * n - 3) room) refl (λ q.
+    check-same 13 (unnamed (marked 0 f)) (λ i. not (isIn (suc i) (names f))) n (λ i l. named-bit f w i (omega (arith, k .1)))))
 
 -- ## 12
 

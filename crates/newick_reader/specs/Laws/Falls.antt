@@ -1,9 +1,9 @@
 -- The lowest place of a sibling below the one before is the first one, since what is in a bracket stands behind its own place and before what follows.
 -- Assumes nothing.
 use mathlib.Core.Bool.{Bool, cond, false, true}
-use mathlib.Core.List.{List, _++_, _∷_}
-use mathlib.Core.Path.{ap, ap₂, refl, sym, _∙_, _≡_}
-use Prim.Native.Nat.{min, suc, zero, ℕ, _+_, _-_, _<_, _^_, _≤_}
+use mathlib.Core.List.{_++_, _∷_}
+use mathlib.Core.Path.{ap, ap₂, refl, _∙_, _≡_}
+use Prim.Native.Nat.{suc, zero, ℕ, _+_, _-_, _<_, _≤_}
 use native.Mathlib.Omega.{arith}
 use lib.Dec.{ltb}
 use lib.ListN.{length, length-append}
@@ -19,7 +19,7 @@ use Rattle.newick_text.specs.Reading.{fall, fallFrom, firstOf}
 use Rattle.newick_text.specs.Laws.Grows.{Bushy}
 use Rattle.newick_text.specs.Laws.OneText.{size-side}
 use Rattle.newick_text.specs.Laws.Sides.{Named, Once}
-use Rattle.newick_reader.specs.Laws.Marks.{New, behind-new, image-is, inside-new, mark-is, marked-side, none-named}
+use Rattle.newick_reader.specs.Laws.Marks.{New, behind-new, image-is, inside-new, marked-side, none-named}
 
 -- ## Where a fall can be
 
@@ -95,7 +95,8 @@ lower-one : (t : Bool) (p y : ℕ) → 1 ≤ p → (0 < y → p ≤ y) → lower
 lower-one true p y l h = lower-here p y h l
 lower-one false p y l h = refl
 
-lower-two : (t : Bool) (p x y k : ℕ) → 1 ≤ p → (0 < x → p ≤ x) → x ≤ k → (0 < y → k ≤ y) → p ≤ k → lowerPlace x (lowerPlace (when t p) y) ≡ cond t p (firstOf x y)
+lower-two : (t : Bool) (p x y k : ℕ) → 1 ≤ p → (0 < x → p ≤ x) → x ≤ k → (0 < y → k ≤ y) → p ≤ k
+    → lowerPlace x (lowerPlace (when t p) y) ≡ cond t p (firstOf x y)
 lower-two true p x y k l a b c d = ap (lowerPlace x) (lower-here p y (λ h. omega (arith, c h)) l) ∙ here-lower x p a l
 lower-two false p x y k l a b c d = lower-first x y k b c
 

@@ -1,6 +1,6 @@
 -- What an answer says of the checks, and of the rows left. Assumes nothing.
 use mathlib.Core.List.{List}
-use mathlib.Core.Path.{ap, refl, sym, _∙_, _≡_}
+use mathlib.Core.Path.{ap, refl, _≡_}
 use Prim.Native.Nat.{ℕ}
 use native.Mathlib.Omega.{arith}
 use lib.ListN.{length}
@@ -9,9 +9,8 @@ use Rattle.ground.specs.declared.Check.the-variants.{Passed, Refused}
 use Rattle.ground.specs.declared.Refusal.{Refusal}
 use Rattle.theory.specs.LinkTables.{Row}
 use Rattle.theory.specs.Outcomes.{LeftRows}
-use Rattle.tree.specs.Laws.Writing.{written-stand}
-use Rattle.tree.specs.Writing.{RowsStand, RowsWritten}
-use Rattle.newick_reader.specs.Outcomes.{rowsIf, tableIf}
+use Rattle.tree.specs.Writing.{RowsWritten}
+use Rattle.newick_reader.specs.Outcomes.{rowsIf}
 use Rattle.newick_reader.specs.declared.NewickTree.the-variants.{Table}
 use Rattle.newick_reader.specs.declared.NewickTree.the-variants as newick
 

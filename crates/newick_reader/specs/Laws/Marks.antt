@@ -1,23 +1,19 @@
 -- The images named on one way through a text: where none is named twice they are added up. Assumes nothing.
-use mathlib.Core.Bool.{Bool, cond, false, true, _||_}
-use mathlib.Core.List.{List, [], _++_, _∷_}
-use mathlib.Core.Path.{ap, ap₂, refl, sym, _∙_, _≡_}
+use mathlib.Core.List.{List, _++_, _∷_}
+use mathlib.Core.Path.{ap, ap₂, refl, _≡_}
 use Prim.Native.Nat.{suc, zero, ℕ, _*_, _+_, _-_, _<_, _^_, _≤_}
 use native.Mathlib.Omega.{arith}
-use lib.Dec.{eqb, ltb}
+use lib.Dec.{eqb}
 use lib.ListN.{length, length-append}
-use borrow.Author.Tests.{eq-eqb, eqb-false, eqb-true, le-ltb, ltb-false, ltb-true, ne-eqb}
+use borrow.Author.Tests.{eq-eqb, eqb-false, eqb-true, le-ltb, ne-eqb}
 use borrow.Table.Steps.{cases}
 use Rattle.ground.specs.Bits.{bit}
 use Rattle.ground.specs.Counts.{one-if}
-use Rattle.ground.specs.Members.{isIn}
-use Rattle.ground.specs.Laws.Bits.{bit-add, bit-add-other, bit-lt, bit-none}
-use Rattle.theory.specs.FarSides.{holds}
+use Rattle.ground.specs.Laws.Bits.{bit-add, bit-add-other, bit-none}
 use Rattle.theory.specs.LinkTables.{Row}
 use Rattle.newick_text.specs.Trees.{Formed, Siblings, bracket, image, none, size}
 use Rattle.newick_text.specs.Tables.{imageSide, names, rows, side}
 use Rattle.newick_text.specs.Noting.{imageBit, mark, marked, noted}
-use Rattle.newick_text.specs.Laws.Reading.{eqb-turn, is-in-append}
 use Rattle.newick_text.specs.Laws.Sides.{Named, Once, occ}
 
 -- no image of f is named in m or twice
@@ -30,7 +26,7 @@ none-named f o j = omega (arith, bit-none j, o j)
 -- ## One image more
 
 -- one that is not there
-added-bit : (m i j : ℕ) → 1 ≤ i → bit m (i - 1) ≡ 0 → bit (imageSide i + m) j ≡ bit m j + one-if (eqb i (suc j))
+pub added-bit : (m i j : ℕ) → 1 ≤ i → bit m (i - 1) ≡ 0 → bit (imageSide i + m) j ≡ bit m j + one-if (eqb i (suc j))
 added-bit m zero j l b = absurd (omega arith)
 added-bit m (suc k) j l b =
     let q : suc k - 1 ≡ k = omega arith in
@@ -73,7 +69,8 @@ unfolding marked occ
 marked-bit m none h o j = omega arith
 marked-bit m (image i c r) h o j =
     let z = unnamed m i c r (h .0) o in
-    omega (arith, marked-bit (mark m i) r (h .2) (behind-new m i c r (h .0) (h .1) o) j, ap (λ (x : ℕ). bit x j) (mark-new m i (h .1) z), added-bit m i j (h .0) z)
+    let ih = marked-bit (mark m i) r (h .2) (behind-new m i c r (h .0) (h .1) o) j in
+    omega (arith, ih, ap (λ (x : ℕ). bit x j) (mark-new m i (h .1) z), added-bit m i j (h .0) z)
 marked-bit m (bracket g c r) h o j =
     let a = marked-bit m g (h .0) (inner-new m c g r o) in
     omega (arith, a j, marked-bit (marked m g) r (h .1) (λ k. omega (arith, a k, o k)) j)
@@ -103,49 +100,6 @@ noted-rows m (bracket g c r) h o =
     let e : marked m g - m ≡ side g = omega (arith, marked-side m g (h .0) (n .0)) in
     ap₂ _++_ (noted-rows m g (h .0) (n .0)) (ap₂ (λ (x : ℕ) (l : List Row). (x, c) ∷ l) e (noted-rows (marked m g) r (h .1) (n .1)))
 
--- ## Whatever the names: which images of the first 64 are named
-
-one-of-them : (x y z : Bool) → ((x || y) || z) ≡ (x || (y || z))
-one-of-them true y z = refl
-one-of-them false y z = refl
-
-or-none : (x : Bool) → x ≡ (x || false)
-or-none true = refl
-or-none false = refl
-
-or-there : (x y : Bool) → (y ≡ true → x ≡ true) → x ≡ (x || y)
-or-there true y h = refl
-or-there false true h = h refl
-or-there false false h = refl
-
-mark-holds : (m i j : ℕ) → 1 ≤ i → j < 64 → holds (mark m i) j ≡ (holds m j || eqb (suc j) i)
-mark-holds m i j l h =
-    cases (ltb 64 i)
-    (λ t. rw t (or-there (holds m j) (eqb (suc j) i) (λ e. absurd (omega (arith, ltb-true 64 i t, eqb-true (suc j) i e)))))
-    (λ t. rw t (cases (holds m (i - 1))
-    (λ u. rw u (or-there (holds m j) (eqb (suc j) i) (λ e. let z : i - 1 ≡ j = omega (arith, eqb-true (suc j) i e) in rw z at u)))
-    (λ u. rw u (rw (added-bit m i j l (omega (arith, bit-lt m (i - 1), eqb-false (bit m (i - 1)) 1 u)), eqb-turn (suc j) i) (fresh u)))))
-  where
-    fresh : holds m (i - 1) ≡ false → eqb (bit m j + one-if (eqb i (suc j))) 1 ≡ (eqb (bit m j) 1 || eqb i (suc j))
-    fresh u =
-        cases (eqb i (suc j))
-        (λ e.
-        let z : i - 1 ≡ j = omega (arith, eqb-true i (suc j) e) in
-        let b : bit m j ≡ 0 = omega (arith, bit-lt m j, eqb-false (bit m j) 1 (rw z at u)) in
-        rw (e, b) refl)
-        (λ e. let q : bit m j + 0 ≡ bit m j = omega arith in rw (e, q) (or-none (eqb (bit m j) 1)))
-
-pub marked-names : (d m : ℕ) (f : Siblings) → Formed d f → (j : ℕ) → j < 64 → holds (marked m f) j ≡ (holds m j || isIn (suc j) (names f))
-unfolding marked names
-marked-names d m none h j l = or-none (holds m j)
-marked-names d m (image i c r) h j l =
-    marked-names d (mark m i) r (h .2) j l ∙ ap (λ (x : Bool). x || isIn (suc j) (names r)) (mark-holds m i j (h .0 .0) l)
-    ∙ one-of-them (holds m j) (eqb (suc j) i) (isIn (suc j) (names r))
-marked-names d m (bracket g c r) h j l =
-    marked-names d (marked m g) r (h .4) j l ∙ ap (λ (x : Bool). x || isIn (suc j) (names r)) (marked-names (suc d) m g (h .2) j l)
-    ∙ one-of-them (holds m j) (isIn (suc j) (names g)) (isIn (suc j) (names r))
-    ∙ ap (λ (x : Bool). holds m j || x) (sym (is-in-append (suc j) (names g) (names r)))
-
 -- ## How many rows
 
 pub noted-few : (d m : ℕ) (f : Siblings) → Formed d f → length (noted m f) + size f ≤ 2 * length (names f)
@@ -153,5 +107,11 @@ unfolding noted names
 noted-few d m none h = omega arith
 noted-few d m (image i c r) h = omega (arith, noted-few d (mark m i) r (h .2))
 noted-few d m (bracket g c r) h =
-    omega (arith, h .1, noted-few (suc d) m g (h .2), noted-few d (marked m g) r (h .4), length-append (names g) (names r),
-    length-append (noted m g) ((marked m g - m, c) ∷ noted (marked m g) r))
+    omega (
+      arith,
+      h .1,
+      noted-few (suc d) m g (h .2),
+      noted-few d (marked m g) r (h .4),
+      length-append (names g) (names r),
+      length-append (noted m g) ((marked m g - m, c) ∷ noted (marked m g) r),
+    )

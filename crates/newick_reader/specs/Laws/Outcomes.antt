@@ -1,7 +1,7 @@
 -- How code that stops at the first refusal meets the outcome, and what the names have shown once they passed. Assumes nothing.
 use mathlib.Core.Bool.{true}
 use mathlib.Core.List.{List}
-use mathlib.Core.Path.{ap, refl, sym, _∙_, _≡_}
+use mathlib.Core.Path.{ap, refl, _≡_}
 use Prim.Native.Nat.{ℕ, _*_, _-_, _<_, _≤_}
 use native.Mathlib.Omega.{arith}
 use lib.Dec.{ltb}
@@ -29,7 +29,8 @@ module _ (n : ℕ) (T : List Row) (f v : List ℕ) where
   pub rows-stop : {x : Check} {r : Refusal} (y : Check) → x ≡ Refused r → x ≡ y → LeftRows (rowsIf y n T f v) (newick.Refused r) f v
   rows-stop y e q = rw (← q, e) (record { answered = refl; far-sides = refl; doubled = refl })
 
-  pub rows-go : {x : Check} (y : Check) (N : ℕ) (f′ v′ : List ℕ) → x ≡ Passed → x ≡ y → RowsWritten T N f v f′ v′ → LeftRows (rowsIf y n T f v) (Table n N) f′ v′
+  pub rows-go : {x : Check} (y : Check) (N : ℕ) (f′ v′ : List ℕ) → x ≡ Passed → x ≡ y → RowsWritten T N f v f′ v′
+      → LeftRows (rowsIf y n T f v) (Table n N) f′ v′
   rows-go y N f′ v′ e q w = rw (← q, e) (record { answered = ap (Table n) (w .counted); far-sides = w .far-front; doubled = w .cost-front })
 
   -- the first check of two

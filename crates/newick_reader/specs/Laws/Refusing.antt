@@ -2,7 +2,7 @@
 use mathlib.Core.Bool.{Bool, not}
 use mathlib.Core.List.{List}
 use mathlib.Core.Logic.{inl, inr, _⊎_}
-use mathlib.Core.Path.{ap, sym, _∙_, _≡_}
+use mathlib.Core.Path.{sym, _∙_, _≡_}
 use Prim.Native.Nat.{suc, ℕ, _*_, _+_, _-_}
 use native.Mathlib.Omega.{arith}
 use lib.Dec.{eqb, ltb}
@@ -13,7 +13,7 @@ use Rattle.ground.specs.Laws.InOrder.{first-own, refuseIf-only}
 use Rattle.ground.specs.Laws.Steps.{first-decided, passes-decided, passes-or-refuses}
 use Rattle.ground.specs.Members.{isIn}
 use Rattle.ground.specs.Refusals.{outside, refusal, refuseIf, roomCheck, _then_}
-use Rattle.ground.specs.Steps.{FirstRefused, Passes, Refuses, Step, decided}
+use Rattle.ground.specs.Steps.{FirstRefused, Passes, Refuses, Step}
 use Rattle.ground.specs.declared.Check.{Check}
 use Rattle.ground.specs.declared.Check.the-variants.{Passed, Refused}
 use Rattle.ground.specs.declared.Refusal.{Refusal}
