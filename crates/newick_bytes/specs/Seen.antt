@@ -1,12 +1,10 @@
 -- Reading Newick text with numbers alone: what is kept of what was read, and what the next byte makes of it. Assumes nothing.
 use mathlib.Core.Bool.{Bool, cond, false, not, true, _&&_, _||_}
-use mathlib.Core.List.{List, [], _∷_}
-use Prim.Native.Nat.{suc, zero, ℕ, _*_, _+_, _-_, _<_, _≤_}
+use mathlib.Core.List.{List}
+use Prim.Native.Nat.{ℕ, _*_, _+_, _-_, _<_, _≤_}
 use lib.Dec.{eqb, leb, ltb}
-use lib.ListN.{getD, length, set}
-use Rattle.newick_text.specs.Bytes.{isDigit, isDone, lived, run, start}
-use Rattle.newick_bytes.specs.declared.Judged.{Judged}
-use Rattle.newick_bytes.specs.declared.Judged.the-variants.{Stopped, Whole}
+use lib.ListN.{getD, set}
+use Rattle.newick_text.specs.Bytes.{isDigit}
 use Rattle.newick_bytes.specs.declared.Seen.{Seen}
 use Rattle.newick_bytes.specs.declared.Seen.the-variants.{Blank, Closed, Cost, Dead, Done, Ended, Image, Start, Vertex}
 
@@ -121,11 +119,3 @@ isDoneSeen (Cost x d k) = false
 isDoneSeen Ended = false
 isDoneSeen Done = true
 isDoneSeen Dead = false
-
--- what is said of a text: whole where it is of the profile, else how many bytes of it begin one
-abbrev pub wholeIf : Bool → ℕ → Judged
-wholeIf true k = Whole
-wholeIf false k = Stopped k
-
-abbrev pub judgedText : List ℕ → Judged
-judgedText t = wholeIf (isDone (run start t)) (lived start t)

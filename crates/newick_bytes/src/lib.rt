@@ -1,10 +1,10 @@
-// Reading Newick text byte by byte. Of what was read only numbers are kept: how many brackets are open, how many vertices the innermost
-// holds, 3 for more, and the same of those around it, in places that the caller lends.
+// What the next byte of Newick text makes of what was read. Of that only numbers are kept: how many brackets are open, how many vertices the
+// innermost holds, 3 for more, and the same of those around it, in places that the caller lends. The loop over the bytes is in `newick_scan`.
 ghost use mathlib.Core.Path.{_≡_};
 ghost use Prim.Native.Nat.{_<_, _≤_};
 ghost use lib.ListN.{length};
 ghost use Rattle.newick_text.specs.Bytes.{isDigit};
-ghost use Rattle.newick_bytes.specs.Seen.{Bounded, begun, blankNext, closed, costNext, digitNext, endedNext, firstPlace, grown, headNext, imageBegun, imageNext, isDeadSeen, isDoneSeen, judgedText, more, nextOuter, nextSeen, opened, startNext, vertexNext, vertexOuter};
+ghost use Rattle.newick_bytes.specs.Seen.{Bounded, begun, blankNext, closed, costNext, digitNext, endedNext, firstPlace, grown, headNext, imageBegun, imageNext, isDeadSeen, isDoneSeen, more, nextOuter, nextSeen, opened, startNext, vertexNext, vertexOuter};
 
 // What was read: x is the number so far.
 pub enum Seen {
@@ -34,19 +34,6 @@ pub enum Seen {
     Ended,
     Done,
     Dead,
-}
-
-// A text of the profile, or how many bytes of it begin one.
-pub enum Judged {
-    Whole,
-    Stopped(usize),
-}
-
-// The same number in 64 bits.
-fn wide(b: u8) -> usize
-    ensures { λ r. ⌜ r ≡ b ⌝ }
-{
-    b as usize
 }
 
 fn is_digit(b: usize) -> bool
@@ -269,7 +256,7 @@ fn after_ended(b: usize) -> Seen
 }
 
 // What the next byte makes of what was read.
-fn step(s: Seen, b: usize, outer: &mut [usize]) -> Seen
+pub fn step(s: Seen, b: usize, outer: &mut [usize]) -> Seen
     requires { ⌜ Bounded s × (length (now outer) ≡ 64) ⌝ }
     ensures { λ r. ⌜ (r ≡ nextSeen s b (now (outer .entry))) × (now (outer .exit) ≡ nextOuter s b (now (outer .entry))) ⌝ }
 {
@@ -286,7 +273,8 @@ fn step(s: Seen, b: usize, outer: &mut [usize]) -> Seen
     }
 }
 
-fn is_dead(s: Seen) -> bool
+// Whether no text of the profile begins so.
+pub fn is_dead(s: Seen) -> bool
     ensures { λ r. ⌜ r ≡ isDeadSeen s ⌝ }
 {
     match s {
@@ -310,7 +298,8 @@ fn is_dead(s: Seen) -> bool
     }
 }
 
-fn is_done(s: Seen) -> bool
+// Whether a text of the profile was read.
+pub fn is_done(s: Seen) -> bool
     ensures { λ r. ⌜ r ≡ isDoneSeen s ⌝ }
 {
     match s {
@@ -332,25 +321,4 @@ fn is_done(s: Seen) -> bool
         Seen::Done => true,
         Seen::Dead => false,
     }
-}
-
-// Whether the text is of the profile; else how many bytes of it begin one. The byte behind them is the first that no text of the profile
-// could have there.
-pub fn judge(text: &[u8]) -> Judged
-    ensures { λ r. ⌜ r ≡ judgedText (now (text .entry)) ⌝ }
-{
-    let mut outer = [0usize; 64];
-    let mut s = Seen::Start;
-    let mut i = 0;
-    while i < text.len() {
-        s = step(s, wide(text[i]), &mut outer);
-        if is_dead(s) {
-            return Judged::Stopped(i);
-        }
-        i += 1;
-    }
-    if is_done(s) {
-        return Judged::Whole;
-    }
-    Judged::Stopped(i)
 }

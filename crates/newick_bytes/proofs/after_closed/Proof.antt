@@ -1,5 +1,4 @@
 -- `newick_bytes::after_closed` meets its contract: each return rewrites with the tests that led there. Assumes nothing.
-use borrow.Author.Needs.{needs}
 use borrow.Author.Tests.{eq-eqb, ne-eqb}
 use Rattle.newick_bytes.proofs.after_closed.Statement.{statement}
 use Rattle.newick_bytes.proofs.after_closed.Tie as tie

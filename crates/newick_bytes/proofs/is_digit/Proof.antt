@@ -1,5 +1,4 @@
 -- `newick_bytes::is_digit` meets its contract: each return rewrites with the tests that led there. Assumes nothing.
-use borrow.Author.Needs.{needs}
 use borrow.Author.Tests.{le-leb, lt-leb}
 use Rattle.newick_bytes.proofs.is_digit.Statement.{statement}
 use Rattle.newick_bytes.proofs.is_digit.Tie as tie

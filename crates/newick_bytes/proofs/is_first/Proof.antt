@@ -1,5 +1,4 @@
 -- `newick_bytes::is_first` meets its contract: each return rewrites with the tests that led there. Assumes nothing.
-use borrow.Author.Needs.{needs}
 use borrow.Author.Tests.{eq-eqb, ne-eqb}
 use Rattle.newick_bytes.proofs.is_first.Statement.{statement}
 use Rattle.newick_bytes.proofs.is_first.Tie as tie

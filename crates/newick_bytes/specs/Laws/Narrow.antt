@@ -1,5 +1,5 @@
 -- What the tests say of a byte. Assumes nothing.
-use mathlib.Core.Bool.{Bool, not, true, _&&_, _||_}
+use mathlib.Core.Bool.{not, true, _&&_, _||_}
 use mathlib.Core.List.{List}
 use mathlib.Core.Path.{ap, subst, sym, _∙_, _≡_}
 use Prim.Native.Nat.{ℕ, _≤_}

@@ -1,0 +1,11 @@
+pub mod Lower
+pub mod Adding
+pub mod Opening
+pub mod Storing
+pub mod Telling
+pub mod Stepping
+pub mod Byte
+pub mod Turning
+pub mod Able
+pub mod Few
+pub mod Scans
