@@ -13,3 +13,4 @@ pub mod Table
 pub mod Answer
 pub mod Left
 pub mod Refusing
+pub mod Reading
