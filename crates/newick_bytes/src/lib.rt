@@ -4,7 +4,11 @@ ghost use mathlib.Core.Path.{_≡_};
 ghost use Prim.Native.Nat.{_<_, _≤_};
 ghost use lib.ListN.{length};
 ghost use Rattle.newick_text.specs.Bytes.{isDigit};
-ghost use Rattle.newick_bytes.specs.Seen.{Bounded, begun, blankNext, closed, costNext, digitNext, endedNext, firstPlace, grown, headNext, imageBegun, imageNext, isDeadSeen, isDoneSeen, more, nextOuter, nextSeen, opened, startNext, vertexNext, vertexOuter};
+ghost use Rattle.newick_bytes.specs.Seen.{Bounded, isDeadSeen, isDoneSeen};
+ghost use Rattle.newick_bytes.specs.Tests.{begun, firstPlace, grown, more, opened};
+ghost use Rattle.newick_bytes.specs.Next.{blankNext, closed, costNext, digitNext, endedNext, headNext};
+ghost use Rattle.newick_bytes.specs.Next.{imageBegun, imageNext, nextSeen, startNext, vertexNext};
+ghost use Rattle.newick_bytes.specs.Outer.{nextOuter, vertexOuter};
 
 // What was read: x is the number so far.
 pub enum Seen {

@@ -1,4 +1,4 @@
--- What the next byte makes of all that was noted, and what the numbers must be for it. Assumes nothing.
+-- What the next byte makes of all that was noted. Assumes nothing.
 use mathlib.Core.Bool.{Bool, false, true}
 use mathlib.Core.List.{List}
 use mathlib.Core.Path.{_≡_}
@@ -20,24 +20,25 @@ pub record Kept : Type 0 where
 abbrev pub kept : Noted → Stacks → List ℕ → List ℕ → Kept
 kept w a f v = record { noted = w; stacks = a; fars = f; costs = v }
 
--- x before the byte b and y after it, behind the cost c
+-- a vertex with the cost c is complete: x before, y after
 pub record Completes (c : ℕ) (x y : Kept) : Type 0 where
   pub complete : Completed c (x .noted) (x .fars) (x .costs) (y .noted) (y .fars) (y .costs)
   pub stacks : y .stacks ≡ x .stacks
 
+-- and with it the innermost of d brackets closes
 pub record Closes (c d : ℕ) (x y : Kept) : Type 0 where
   pub inner : Noted
   pub complete : Completed c (x .noted) (x .fars) (x .costs) inner (y .fars) (y .costs)
   pub told : y .noted ≡ closed d (x .stacks) inner
   pub stacks : y .stacks ≡ x .stacks
 
--- by a comma, by a closed bracket, by neither
+-- the byte behind a digit of the cost c is a comma, a closed bracket, or neither
 abbrev pub EndsBy : Bool → Bool → ℕ → ℕ → Kept → Kept → Type 0
 EndsBy true u c d x y = Completes c x y
 EndsBy false true c d x y = Closes c d x y
 EndsBy false false c d x y = y ≡ x
 
--- where s is kept of what was read before the byte b at place p
+-- the byte b stands at place p, behind what was read and s is kept of
 abbrev pub Noting : Seen → ℕ → ℕ → Kept → Kept → Type 0
 Noting Start b p x y = y ≡ x
 Noting (Vertex d k) b p x y = Begun d b p (x .noted) (x .stacks) (y .noted) (y .stacks) × (y .fars ≡ x .fars) × (y .costs ≡ x .costs)

@@ -11,15 +11,17 @@ use Rattle.newick_text.specs.Noting.{imageBit, lowerPlace, mark}
 use Rattle.newick_scan.specs.declared.Noted.{Noted}
 use Rattle.newick_scan.specs.Stacks.{Stacks, pushed}
 
+-- the fields, in their order
 abbrev pub noted : ℕ → ℕ → ℕ → ℕ → ℕ → ℕ → ℕ → Noted
 noted n m r p S q l = record { names = n; marked = m; rows = r; fallen = p; far = S; place = q; last = l }
 
--- a vertex begins at place p with the byte b: with 40 it is a bracket, and d are open before it
+-- a vertex begins at place p with the byte b: with 40 it is a bracket in which no sibling stands yet
 abbrev pub begun : ℕ → ℕ → Noted → Noted
 begun b p w =
     cond (eqb b 40) (noted (w .names) (w .marked) (w .rows) (w .fallen) (w .far) (w .place) 0)
     (noted (w .names) (w .marked) (w .rows) (w .fallen) (w .far) p (w .last))
 
+-- d brackets are open before it
 pub record Begun (d b p : ℕ) (w : Noted) (a : Stacks) (r : Noted) (e : Stacks) : Type 0 where
   pub told : r ≡ begun b p w
   pub masks : e .masks ≡ pushed b d (w .marked) (a .masks)

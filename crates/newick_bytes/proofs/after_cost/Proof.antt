@@ -14,7 +14,9 @@ close-bracket-requires : tie.Need-close-bracket-requires
 close-bracket-requires c κs = search needs
 
 returns-2 : tie.Need-returns-2
-returns-2 c = rw (ne-eqb _ _ (c .before .before .if1 .left), eq-eqb _ _ (c .before .if2 .taken), ← c .before .before .before .one-more .ensures) (c .close-bracket .ensures)
+returns-2 c =
+    rw (ne-eqb _ _ (c .before .before .if1 .left), eq-eqb _ _ (c .before .if2 .taken), ← c .before .before .before .one-more .ensures)
+    (c .close-bracket .ensures)
 
 grow-cost-requires : tie.Need-grow-cost-requires
 grow-cost-requires c κs = search needs

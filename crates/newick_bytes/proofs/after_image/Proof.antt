@@ -23,16 +23,28 @@ mul-t8 : tie.Need-mul-t8
 mul-t8 c = search needs
 
 sub-t9 : tie.Need-sub-t9
-sub-t9 c = let h = digit-low (c .before .before .before .before .before .args .b) (sym (c .before .before .before .is-digit .ensures) ∙ not-false (c .before .before .before .is-digit .result) (c .before .before .if2 .left)) in omega arith
+sub-t9 c =
+    let k = c .before .before .before in
+    let h = digit-low (k .before .before .args .b) (sym (k .is-digit .ensures) ∙ not-false (k .is-digit .result) (c .before .before .if2 .left)) in
+    omega arith
 
 add-t10 : tie.Need-add-t10
-add-t10 c = let h = digit-low (c .before .before .before .before .before .args .b) (sym (c .before .before .before .is-digit .ensures) ∙ not-false (c .before .before .before .is-digit .result) (c .before .before .if2 .left)) in omega arith
+add-t10 c =
+    let k = c .before .before .before in
+    let h = digit-low (k .before .before .args .b) (sym (k .is-digit .ensures) ∙ not-false (k .is-digit .result) (c .before .before .if2 .left)) in
+    omega arith
 
 returns-3 : tie.Need-returns-3
-returns-3 c = rw (ne-eqb _ _ (c .before .before .before .before .if1 .left), ← c .before .before .before .is-digit .ensures, not-false (c .before .before .before .is-digit .result) (c .before .before .if2 .left), ← c .before .may-grow .ensures, c .if3 .taken)
+returns-3 c =
+    let k = c .before .before .before in
+    let d = not-false (k .is-digit .result) (c .before .before .if2 .left) in
+    rw (ne-eqb _ _ (k .before .if1 .left), ← k .is-digit .ensures, d, ← c .before .may-grow .ensures, c .if3 .taken)
 
 returns-4 : tie.Need-returns-4
-returns-4 c = rw (ne-eqb _ _ (c .before .before .before .before .if1 .left), ← c .before .before .before .is-digit .ensures, not-false (c .before .before .before .is-digit .result) (c .before .before .if2 .left), ← c .before .may-grow .ensures, c .if3 .left)
+returns-4 c =
+    let k = c .before .before .before in
+    let d = not-false (k .is-digit .result) (c .before .before .if2 .left) in
+    rw (ne-eqb _ _ (k .before .if1 .left), ← k .is-digit .ensures, d, ← c .before .may-grow .ensures, c .if3 .left)
 
 pub after-image-spec : {M : Type 1} → statement M
 after-image-spec =

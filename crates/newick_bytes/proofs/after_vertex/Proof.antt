@@ -30,10 +30,16 @@ same-length : tie.Need-same-length
 same-length c = search needs
 
 returns-2 : tie.Need-returns-2
-returns-2 c = (rw (eq-eqb _ _ (c .before .before .if1 .left), ← c .before .may-open .ensures, c .if2 .taken) refl, rw (eq-eqb _ _ (c .before .before .if1 .left), ← c .before .may-open .ensures, c .if2 .taken) refl)
+returns-2 c =
+    let e = eq-eqb _ _ (c .before .before .if1 .left) in
+    let m = c .before .may-open .ensures in
+    (rw (e, ← m, c .if2 .taken) refl, rw (e, ← m, c .if2 .taken) refl)
 
 returns-3 : tie.Need-returns-3
-returns-3 c = (rw (eq-eqb _ _ (c .before .before .if1 .left), ← c .before .may-open .ensures, c .if2 .left) refl, rw (eq-eqb _ _ (c .before .before .if1 .left), ← c .before .may-open .ensures, c .if2 .left) refl)
+returns-3 c =
+    let e = eq-eqb _ _ (c .before .before .if1 .left) in
+    let m = c .before .may-open .ensures in
+    (rw (e, ← m, c .if2 .left) refl, rw (e, ← m, c .if2 .left) refl)
 
 pub after-vertex-spec : {M : Type 1} → statement M
 after-vertex-spec =

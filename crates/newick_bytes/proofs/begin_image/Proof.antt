@@ -10,7 +10,10 @@ may-begin-requires : tie.Need-may-begin-requires
 may-begin-requires c κs = search needs
 
 sub-t5 : tie.Need-sub-t5
-sub-t5 c = let a = c .before .before .args in let h = begun-low (a .depth) (a .count) (a .b) (sym (c .before .may-begin .ensures) ∙ c .if1 .taken) in omega arith
+sub-t5 c =
+    let a = c .before .before .args in
+    let h = begun-low (a .depth) (a .count) (a .b) (sym (c .before .may-begin .ensures) ∙ c .if1 .taken) in
+    omega arith
 
 returns : tie.Need-returns
 returns c = rw (← c .before .may-begin .ensures, c .if1 .taken)

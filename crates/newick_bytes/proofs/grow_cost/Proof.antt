@@ -20,16 +20,26 @@ mul-t7 : tie.Need-mul-t7
 mul-t7 c = search needs
 
 sub-t8 : tie.Need-sub-t8
-sub-t8 c = let h = digit-low (c .before .before .before .before .args .b) (sym (c .before .before .before .is-digit .ensures) ∙ not-false (c .before .before .before .is-digit .result) (c .before .before .if1 .left)) in omega arith
+sub-t8 c =
+    let k = c .before .before .before in
+    let h = digit-low (k .before .args .b) (sym (k .is-digit .ensures) ∙ not-false (k .is-digit .result) (c .before .before .if1 .left)) in
+    omega arith
 
 add-t9 : tie.Need-add-t9
-add-t9 c = let h = digit-low (c .before .before .before .before .args .b) (sym (c .before .before .before .is-digit .ensures) ∙ not-false (c .before .before .before .is-digit .result) (c .before .before .if1 .left)) in omega arith
+add-t9 c =
+    let k = c .before .before .before in
+    let h = digit-low (k .before .args .b) (sym (k .is-digit .ensures) ∙ not-false (k .is-digit .result) (c .before .before .if1 .left)) in
+    omega arith
 
 returns-3 : tie.Need-returns-3
-returns-3 c = rw (← c .before .before .before .is-digit .ensures, not-false (c .before .before .before .is-digit .result) (c .before .before .if1 .left), le-leb _ _ (c .before .if2 .left), lt-ltb _ _ (c .if3 .taken))
+returns-3 c =
+    let k = c .before .before .before .is-digit in
+    rw (← k .ensures, not-false (k .result) (c .before .before .if1 .left), le-leb _ _ (c .before .if2 .left), lt-ltb _ _ (c .if3 .taken))
 
 returns-4 : tie.Need-returns-4
-returns-4 c = rw (← c .before .before .before .is-digit .ensures, not-false (c .before .before .before .is-digit .result) (c .before .before .if1 .left), le-leb _ _ (c .before .if2 .left), le-ltb _ _ (c .if3 .left))
+returns-4 c =
+    let k = c .before .before .before .is-digit in
+    rw (← k .ensures, not-false (k .result) (c .before .before .if1 .left), le-leb _ _ (c .before .if2 .left), le-ltb _ _ (c .if3 .left))
 
 pub grow-cost-spec : {M : Type 1} → statement M
 grow-cost-spec =

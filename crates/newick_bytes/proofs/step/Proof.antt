@@ -15,7 +15,10 @@ enum-known-s : tie.Need-enum-known-s
 enum-known-s c = search needs
 
 after-vertex-requires : tie.Need-after-vertex-requires
-after-vertex-requires c κs = let w = bounded-at (c .before .before .s .given .1) (c .before .before .before .before .before .pre .0) in (w .0, w .1, c .before .before .before .before .before .pre .1)
+after-vertex-requires c κs =
+    let p = c .before .before .before .before .before .pre in
+    let w = bounded-at (c .before .before .s .given .1) (p .0) in
+    (w .0, w .1, p .1)
 
 enum-known-s-2 : tie.Need-enum-known-s-2
 enum-known-s-2 c = search needs
@@ -39,7 +42,10 @@ enum-known-s-5 : tie.Need-enum-known-s-5
 enum-known-s-5 c = search needs
 
 after-cost-requires : tie.Need-after-cost-requires
-after-cost-requires c κs = let w = bounded-at (c .before .before .s5 .given .1) (c .before .before .before .before .before .pre .0) in (w .1, w .2, c .before .before .before .before .before .pre .1)
+after-cost-requires c κs =
+    let p = c .before .before .before .before .before .pre in
+    let w = bounded-at (c .before .before .s5 .given .1) (p .0) in
+    (w .1, w .2, p .1)
 
 enum-told-2 : tie.Need-enum-told-2
 enum-told-2 c = search needs
@@ -60,7 +66,10 @@ same-length : tie.Need-same-length
 same-length c = search needs
 
 returns-2 : tie.Need-returns-2
-returns-2 c = let e = c .before .before .before .before .before .s .given .1 in (next-at _ _ e (c .before .before .after-vertex .ensures .0), outer-at _ _ e (c .before .before .after-vertex .ensures .1))
+returns-2 c =
+    let e = c .before .before .before .before .before .s .given .1 in
+    let k = c .before .before .after-vertex .ensures in
+    (next-at _ _ e (k .0), outer-at _ _ e (k .1))
 
 returns-3 : tie.Need-returns-3
 returns-3 c = (next-at _ _ (c .before .before .s2 .given .1) (c .after-image .ensures), outer-at _ _ (c .before .before .s2 .given .1) refl)

@@ -11,10 +11,13 @@ use borrow.Author.Tests.{ltb-true}
 use borrow.Table.Steps.{cases}
 use Rattle.newick_text.specs.Trees.{Head, none, size}
 use Rattle.newick_text.specs.Trees as trees
-use Rattle.newick_text.specs.Bytes.{Open, State, addTo, atOne, begins, blank, close, costing, dead, depth, digitOf, done, ended, grows, head, isDigit, onlyIf, opens, outermost, second, start, step, value, vertex, within}
+use Rattle.newick_text.specs.Bytes.{Open, State, blank, costing, dead, done, ended, head, outermost, start, value, vertex, within}
+use Rattle.newick_text.specs.Bytes.{addTo, atOne, begins, close, depth, digitOf, grows, isDigit, onlyIf, opens, second, step}
 use Rattle.ground.specs.Laws.Tests.{and-r}
-use Rattle.newick_bytes.specs.Seen.{nextOuter, opened, vertexOuter}
-use Rattle.newick_bytes.specs.Laws.Shows.{Stacked, first-is, narrow, outers, outers-add, outers-length, stack, top}
+use Rattle.newick_bytes.specs.Tests.{opened}
+use Rattle.newick_bytes.specs.Outer.{nextOuter, vertexOuter}
+use Rattle.newick_bytes.specs.Kept.{Stacked, narrow, outers, stack, top}
+use Rattle.newick_bytes.specs.Laws.Shows.{first-is, outers-add, outers-length}
 use Rattle.newick_bytes.specs.declared.Seen.{Seen}
 use Rattle.newick_bytes.specs.declared.Seen.the-variants.{Blank, Closed, Cost, Dead, Done, Ended, Image, Start, Vertex}
 

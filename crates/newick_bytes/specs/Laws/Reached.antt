@@ -11,9 +11,13 @@ use Rattle.newick_text.specs.Bytes.{isDead, isDone, lived, run, start, step}
 use Rattle.newick_text.specs.Laws.Fine.{run-fine}
 use Rattle.newick_text.specs.Laws.Place.{dead-not-done, lived-is}
 use Rattle.newick_text.specs.Laws.Steps.{run-append}
-use Rattle.newick_bytes.specs.Seen.{Bounded, isDeadSeen, isDoneSeen, nextOuter, nextSeen}
+use Rattle.newick_bytes.specs.Seen.{Bounded, isDeadSeen, isDoneSeen}
+use Rattle.newick_bytes.specs.Next.{nextSeen}
+use Rattle.newick_bytes.specs.Outer.{nextOuter}
+use Rattle.newick_bytes.specs.Kept.{Stacked, narrow, stack}
 use Rattle.newick_bytes.specs.Laws.Counts.{length-next, stacked-step}
-use Rattle.newick_bytes.specs.Laws.Shows.{Stacked, fine-bounded, narrow, narrow-dead, narrow-done, narrow-step, stack}
+use Rattle.newick_bytes.specs.Laws.Shows.{narrow-step}
+use Rattle.newick_bytes.specs.Laws.Small.{fine-bounded, narrow-dead, narrow-done}
 use Rattle.newick_bytes.specs.declared.Seen.{Seen}
 use Rattle.newick_bytes.specs.declared.Seen.the-variants.{Start}
 
@@ -37,9 +41,12 @@ unfolding run
 run-more t i h = rw (add-one i, take-suc t i 0 h) (run-append start (take i t) (getD t i 0 ∷ []))
 
 -- one byte more
-module _ (t : List ℕ) (i : ℕ) (s : Seen) (a : List ℕ) (r : Reached t i s a) (l : i < length t) (s′ : Seen) (a′ : List ℕ) (p : s′ ≡ nextSeen s (getD t i 0) a) (q : a′ ≡ nextOuter s (getD t i 0) a) where
+module _ (t : List ℕ) (i : ℕ) (s : Seen) (a : List ℕ) (r : Reached t i s a) (l : i < length t)
+    (s′ : Seen) (a′ : List ℕ) (p : s′ ≡ nextSeen s (getD t i 0) a) (q : a′ ≡ nextOuter s (getD t i 0) a) where
   kept-more : s′ ≡ narrow (run start (take (i + 1) t))
-  kept-more = p ∙ ap (λ (x : Seen). nextSeen x (getD t i 0) a) (r .kept) ∙ sym (narrow-step (getD t i 0) a (run start (take i t)) (r .held)) ∙ ap narrow (sym (run-more t i l))
+  kept-more =
+      p ∙ ap (λ (x : Seen). nextSeen x (getD t i 0) a) (r .kept)
+      ∙ sym (narrow-step (getD t i 0) a (run start (take i t)) (r .held)) ∙ ap narrow (sym (run-more t i l))
 
   pub dead-here : isDeadSeen s′ ≡ isDead (run start (take (i + 1) t))
   dead-here = ap isDeadSeen kept-more ∙ narrow-dead (run start (take (i + 1) t))
@@ -59,11 +66,13 @@ done-kept : {t : List ℕ} {i : ℕ} {s : Seen} {a : List ℕ} {x : Bool} → Re
 done-kept {t} {i} r d = sym (ap isDoneSeen (r .kept) ∙ narrow-done (run start (take i t))) ∙ d
 
 -- the text stops with the byte behind the first i
-pub stopped-here : (t : List ℕ) (i : ℕ) → i < length t → isDead (run start (take i t)) ≡ false → isDead (run start (take (i + 1) t)) ≡ true → (isDone (run start t) ≡ false) × (i ≡ lived start t)
+pub stopped-here : (t : List ℕ) (i : ℕ) → i < length t → isDead (run start (take i t)) ≡ false → isDead (run start (take (i + 1) t)) ≡ true
+    → (isDone (run start t) ≡ false) × (i ≡ lived start t)
 stopped-here t i l e d = (dead-not-done t (i + 1) d, sym (lived-is start t i (omega arith) e (λ h. rw (add-one i) at d)))
 
 -- it was read to its end and is no whole one
-pub stopped-end : {t : List ℕ} {i : ℕ} {s : Seen} {a : List ℕ} → Reached t i s a → length t ≤ i → isDoneSeen s ≡ false → (isDone (run start t) ≡ false) × (i ≡ lived start t)
+pub stopped-end : {t : List ℕ} {i : ℕ} {s : Seen} {a : List ℕ} → Reached t i s a → length t ≤ i → isDoneSeen s ≡ false
+    → (isDone (run start t) ≡ false) × (i ≡ lived start t)
 stopped-end {t} {i} r h d =
     (rw (take-all i t h) at (done-kept r d), sym (lived-is start t i (r .inside) (r .live) (λ q. absurd (omega arith))))
 

@@ -1,6 +1,6 @@
 -- The numbers that are kept are those of what was read: each byte makes of both the same. Assumes nothing.
-use mathlib.Core.Bool.{Bool, cond, false, true, _&&_}
-use mathlib.Core.List.{List, [], _∷_}
+use mathlib.Core.Bool.{Bool, false, true, _&&_}
+use mathlib.Core.List.{List}
 use mathlib.Core.Path.{ap, refl, sym, _∙_, _≡_}
 use Prim.Native.Nat.{suc, ℕ, _*_, _+_, _-_, _≤_}
 use native.Mathlib.Omega.{arith}
@@ -10,52 +10,14 @@ use borrow.Author.Tests.{le-leb, le-ltb, lt-ltb, ltb-false, ltb-true, ne-eqb}
 use borrow.Table.Steps.{cases}
 use Rattle.newick_text.specs.Trees.{Head, none, size}
 use Rattle.newick_text.specs.Trees as trees
-use Rattle.newick_text.specs.Bytes.{Open, State, addTo, atOne, begins, blank, close, costing, dead, depth, digitOf, done, ended, grows, head, isDead, isDigit, isDone, onlyIf, opens, outermost, second, start, step, value, vertex, within}
+use Rattle.newick_text.specs.Bytes.{Open, State, blank, costing, dead, done, ended, head, outermost, start, value, vertex, within}
+use Rattle.newick_text.specs.Bytes.{addTo, atOne, begins, close, depth, digitOf, grows, isDigit, onlyIf, opens, second, step}
 use Rattle.newick_text.specs.Laws.Adding.{size-add}
-use Rattle.newick_text.specs.Laws.Fine.{Fine, FineOpen}
-use Rattle.newick_bytes.specs.Seen.{Bounded, closed, costNext, firstPlace, isDeadSeen, isDoneSeen, more, nextSeen, pick, vertexNext}
+use Rattle.newick_bytes.specs.Tests.{firstPlace, more, pick}
+use Rattle.newick_bytes.specs.Next.{closed, costNext, nextSeen, vertexNext}
+use Rattle.newick_bytes.specs.Kept.{Stacked, capped, narrow, outers, stack, top}
 use Rattle.newick_bytes.specs.declared.Seen.{Seen}
-use Rattle.newick_bytes.specs.declared.Seen.the-variants.{Blank, Closed, Cost, Dead, Done, Ended, Image, Start, Vertex}
-
--- how many vertices, 3 for more
-abbrev capped : ℕ → ℕ
-capped k = cond (ltb k 3) k 3
-
--- those of the innermost bracket
-abbrev pub top : Open → ℕ
-top (outermost f) = capped (size f)
-top (within f o) = capped (size f)
-
--- those of the outer ones
-abbrev pub outers : Open → List ℕ
-outers (outermost f) = []
-outers (within f o) = top o ∷ outers o
-
--- what is kept
-abbrev pub narrow : State → Seen
-narrow start = Start
-narrow (vertex o) = Vertex (depth o) (top o)
-narrow (head o (trees.named i)) = Image i (depth o) (top o)
-narrow (head o (trees.closed g)) = Closed (depth o) (top o)
-narrow (costing o v blank) = Blank (depth o) (top o)
-narrow (costing o v (value x)) = Cost x (depth o) (top o)
-narrow (ended f) = Ended
-narrow (done f) = Done
-narrow dead = Dead
-
-abbrev pub stack : State → List ℕ
-stack start = []
-stack (vertex o) = outers o
-stack (head o v) = outers o
-stack (costing o v x) = outers o
-stack (ended f) = []
-stack (done f) = []
-stack dead = []
-
--- a holds the counts l, the innermost last
-abbrev pub Stacked : List ℕ → List ℕ → Type 0
-Stacked a [] = Unit {0}
-Stacked a (k ∷ l) = (getD a (length l) 0 ≡ k) × Stacked a l
+use Rattle.newick_bytes.specs.declared.Seen.the-variants.{Closed, Dead, Ended, Vertex}
 
 -- ## Numbers
 
@@ -63,7 +25,8 @@ capped-more : (k : ℕ) → more (capped k) ≡ capped (suc k)
 capped-more k =
     cases (ltb k 2)
     (λ e. let l = ltb-true k 2 e in rw (lt-ltb k 3 (omega arith), lt-ltb k 3 (omega arith), lt-ltb (suc k) 3 (omega arith)) (omega arith))
-    (λ e. let l = ltb-false k 2 e in cases (ltb k 3) (λ t. rw (t, t, le-ltb (suc k) 3 (omega arith)) (omega (arith, ltb-true k 3 t))) (λ t. rw (t, le-ltb (suc k) 3 (omega arith)) refl))
+    (λ e. let l = ltb-false k 2 e in
+    cases (ltb k 3) (λ t. rw (t, t, le-ltb (suc k) 3 (omega arith)) (omega (arith, ltb-true k 3 t))) (λ t. rw (t, le-ltb (suc k) 3 (omega arith)) refl))
 
 capped-least : (j k : ℕ) → j ≤ 3 → leb j (capped k) ≡ leb j k
 capped-least j k h =
@@ -105,10 +68,6 @@ only-narrow : (t : Bool) (s : State) → narrow (onlyIf t s) ≡ pick t (narrow 
 only-narrow true s = refl
 only-narrow false s = refl
 
-narrow-if : (t : Bool) (x y : State) → narrow (cond t x y) ≡ pick t (narrow x) (narrow y)
-narrow-if true x y = refl
-narrow-if false x y = refl
-
 module _ (b : ℕ) (a : List ℕ) where
   vertex-narrow : (o : Open) → narrow (step (vertex o) b) ≡ vertexNext (depth o) (top o) b
   unfolding step
@@ -123,7 +82,8 @@ module _ (b : ℕ) (a : List ℕ) where
   head-narrow o (trees.named i) =
       rw (first-is o)
       (cases (eqb b 58) (λ e. rw e refl)
-      (λ e. rw e (only-narrow (isDigit b) (second o (trees.named i) b) ∙ ap (λ (s : Seen). pick (isDigit b) s Dead) (only-narrow (grows o i) (head o (trees.named (10 * i + (b - 48))))))))
+      (λ e. rw e (only-narrow (isDigit b) (second o (trees.named i) b)
+      ∙ ap (λ (s : Seen). pick (isDigit b) s Dead) (only-narrow (grows o i) (head o (trees.named (10 * i + (b - 48))))))))
   head-narrow o (trees.closed g) = cases (eqb b 58) (λ e. rw e refl) (λ e. rw e (cases (isDigit b) (λ t. rw t refl) (λ t. rw t refl)))
 
   close-narrow : (o : Open) → Stacked a (outers o) → narrow (close o) ≡ closed (depth o) (top o) a
@@ -131,7 +91,8 @@ module _ (b : ℕ) (a : List ℕ) where
   close-narrow (within f o) h =
       let d : getD a (suc (depth o) - 2) 0 ≡ top o = ap (λ (i : ℕ). getD a i 0) (omega (arith, outers-length o)) ∙ h .0 in
       only-narrow (leb 2 (size f)) (head o (trees.closed f))
-      ∙ rw (ne-eqb (suc (depth o)) 1 (λ e. omega (arith, depth-some o)), capped-least 2 (size f) (omega arith), d) (ap (λ (x : ℕ). pick (leb 2 (size f)) (Closed x (top o)) Dead) (omega arith))
+      ∙ rw (ne-eqb (suc (depth o)) 1 (λ e. omega (arith, depth-some o)), capped-least 2 (size f) (omega arith), d)
+      (ap (λ (x : ℕ). pick (leb 2 (size f)) (Closed x (top o)) Dead) (omega arith))
 
   value-narrow : (o : Open) (v : Head) (x : ℕ) → Stacked a (outers o) → narrow (step (costing o v (value x)) b) ≡ costNext x (depth o) (top o) b a
   unfolding step
@@ -140,8 +101,10 @@ module _ (b : ℕ) (a : List ℕ) where
       cases (eqb b 44)
       (λ e. rw e (ap (λ (d : ℕ). Vertex d (top o′)) (depth-add o v x) ∙ ap (Vertex (depth o)) (top-add o v x)))
       (λ e. rw e (cases (eqb b 41)
-      (λ u. rw u (close-narrow o′ (rw (outers-add o v x) h) ∙ ap (λ (d : ℕ). closed d (top o′) a) (depth-add o v x) ∙ ap (λ (k : ℕ). closed (depth o) k a) (top-add o v x)))
-      (λ u. rw u (only-narrow (isDigit b) (digitOf o v x b) ∙ ap (λ (s : Seen). pick (isDigit b) s Dead) (only-narrow (leb 1 x && ltb x 10000000) (costing o v (value (10 * x + (b - 48)))))))))
+      (λ u. rw u (close-narrow o′ (rw (outers-add o v x) h)
+      ∙ ap (λ (d : ℕ). closed d (top o′) a) (depth-add o v x) ∙ ap (λ (k : ℕ). closed (depth o) k a) (top-add o v x)))
+      (λ u. rw u (only-narrow (isDigit b) (digitOf o v x b)
+      ∙ ap (λ (s : Seen). pick (isDigit b) s Dead) (only-narrow (leb 1 x && ltb x 10000000) (costing o v (value (10 * x + (b - 48)))))))))
 
   -- the numbers after the next byte
   pub narrow-step : (s : State) → Stacked a (stack s) → narrow (step s b) ≡ nextSeen (narrow s) b a
@@ -154,42 +117,3 @@ module _ (b : ℕ) (a : List ℕ) where
   narrow-step (ended f) h = only-narrow (eqb b 59) (done f)
   narrow-step (done f) h = refl
   narrow-step dead h = refl
-
--- ## Small numbers
-
-open-most : (o : Open) → FineOpen o → (1 ≤ depth o) × (depth o ≤ 62)
-open-most (outermost f) h = (omega arith, omega arith)
-open-most (within f o) h = (omega arith, h .0)
-
-pub fine-bounded : (s : State) → Fine s → Bounded (narrow s)
-fine-bounded start h = tt
-fine-bounded (vertex o) h = open-most o h
-fine-bounded (head o (trees.named i)) h = let m = open-most o (h .around) in (h .formed .1, m .0, m .1)
-fine-bounded (head o (trees.closed g)) h = open-most o (h .around)
-fine-bounded (costing o v blank) h = open-most o (h .0 .around)
-fine-bounded (costing o v (value x)) h = let m = open-most o (h .0 .around) in (h .1, m .0, m .1)
-fine-bounded (ended f) h = tt
-fine-bounded (done f) h = tt
-fine-bounded dead h = tt
-
-pub narrow-dead : (s : State) → isDeadSeen (narrow s) ≡ isDead s
-narrow-dead start = refl
-narrow-dead (vertex o) = refl
-narrow-dead (head o (trees.named i)) = refl
-narrow-dead (head o (trees.closed g)) = refl
-narrow-dead (costing o v blank) = refl
-narrow-dead (costing o v (value x)) = refl
-narrow-dead (ended f) = refl
-narrow-dead (done f) = refl
-narrow-dead dead = refl
-
-pub narrow-done : (s : State) → isDoneSeen (narrow s) ≡ isDone s
-narrow-done start = refl
-narrow-done (vertex o) = refl
-narrow-done (head o (trees.named i)) = refl
-narrow-done (head o (trees.closed g)) = refl
-narrow-done (costing o v blank) = refl
-narrow-done (costing o v (value x)) = refl
-narrow-done (ended f) = refl
-narrow-done (done f) = refl
-narrow-done dead = refl

@@ -11,7 +11,8 @@ use Rattle.newick_text.specs.Trees as trees
 use Rattle.newick_text.specs.Bytes.{Open, State, blank, costing, dead, depth, done, ended, head, outermost, start, value, vertex, within}
 use Rattle.newick_text.specs.Laws.Fine.{Fine}
 use Rattle.newick_text.specs.Laws.Steps.{Live, dead-not}
-use Rattle.newick_bytes.specs.Laws.Shows.{fine-bounded, narrow}
+use Rattle.newick_bytes.specs.Kept.{narrow}
+use Rattle.newick_bytes.specs.Laws.Small.{fine-bounded}
 use Rattle.newick_bytes.specs.declared.Seen.{Seen}
 use Rattle.newick_bytes.specs.declared.Seen.the-variants.{Blank, Closed, Cost, Dead, Done, Ended, Image, Start, Vertex}
 use Rattle.newick_scan.specs.Stacks.{Sized, pushed}

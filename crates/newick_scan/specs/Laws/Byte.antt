@@ -13,7 +13,8 @@ use Rattle.newick_text.specs.Trees as trees
 use Rattle.newick_text.specs.Bytes.{Open, State, blank, costing, dead, done, ended, head, outermost, start, value, vertex, within}
 use Rattle.newick_text.specs.Bytes.{addTo, atOne, begins, close, depth, digitOf, grows, isDigit, opens, second, spelled, step}
 use Rattle.newick_text.specs.Laws.Steps.{Live, dead-not, only}
-use Rattle.newick_bytes.specs.Laws.Shows.{depth-add, narrow}
+use Rattle.newick_bytes.specs.Kept.{narrow}
+use Rattle.newick_bytes.specs.Laws.Shows.{depth-add}
 use Rattle.newick_scan.specs.Stacks.{Sized}
 use Rattle.newick_scan.specs.Noting.{Closes, Completes, Kept, Noting, kept}
 use Rattle.newick_scan.specs.Notes.{placeOpen}

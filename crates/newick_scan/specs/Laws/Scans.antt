@@ -12,7 +12,9 @@ use Rattle.newick_text.specs.Bytes.{State, costing, dead, done, ended, head, is
 use Rattle.newick_text.specs.Noting.{fallen, lastFar, marked, noted}
 use Rattle.newick_text.specs.Laws.Fine.{run-fine}
 use Rattle.newick_text.specs.Laws.Steps.{run-spelled}
-use Rattle.newick_bytes.specs.Seen.{isDeadSeen, isDoneSeen, nextOuter, nextSeen}
+use Rattle.newick_bytes.specs.Seen.{isDeadSeen, isDoneSeen}
+use Rattle.newick_bytes.specs.Next.{nextSeen}
+use Rattle.newick_bytes.specs.Outer.{nextOuter}
 use Rattle.newick_bytes.specs.declared.Seen.{Seen}
 use Rattle.newick_bytes.specs.declared.Seen.the-variants.{Start}
 use Rattle.newick_bytes.specs.Laws.Reached.{Reached, dead-here, reached-more, reached-none, run-more, stopped-end, stopped-here, whole-end}

@@ -15,7 +15,8 @@ use Rattle.newick_text.specs.Tables.{names}
 use Rattle.newick_text.specs.Bytes.{Digits, Open, addTo, blank, close, costing, depth, ended, head, outermost, vertex, within}
 use Rattle.newick_text.specs.Noting.{fallen, lastFar, lowerPlace, mark, marked, notedFar}
 use Rattle.newick_text.specs.Laws.Steps.{Live, only}
-use Rattle.newick_bytes.specs.Laws.Shows.{depth-some, narrow}
+use Rattle.newick_bytes.specs.Kept.{narrow}
+use Rattle.newick_bytes.specs.Laws.Shows.{depth-some}
 use Rattle.newick_scan.specs.declared.Noted.{Noted}
 use Rattle.newick_scan.specs.Stacks.{Sized}
 use Rattle.newick_scan.specs.Turns as turns
