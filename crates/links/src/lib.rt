@@ -42,7 +42,7 @@ fn is_bad_side(n: usize, before: u64, s: u64) -> bool
 }
 
 // Whether c is no doubled cost of the far side s: above twice the limit, or 0 in an inner row. Twice a limit may need more than 32 bits.
-fn is_bad_cost(most: u32, n: usize, s: u64, c: u32) -> bool
+pub fn is_bad_cost(most: u32, n: usize, s: u64, c: u32) -> bool
     ensures { λ r. ⌜ r ≡ badCost most n s c ⌝ }
 {
     if 2 * (most as u64) < (c as u64) {

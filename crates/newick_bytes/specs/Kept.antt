@@ -7,7 +7,7 @@ use lib.Dec.{ltb}
 use lib.ListN.{getD, length}
 use Rattle.newick_text.specs.Trees.{size}
 use Rattle.newick_text.specs.Trees as trees
-use Rattle.newick_text.specs.Bytes.{Open, State, blank, costing, dead, depth, done, ended, head, outermost, start, value, vertex, within}
+use Rattle.newick_text.specs.States.{Open, State, blank, costing, dead, depth, done, ended, head, outermost, start, value, vertex, within}
 use Rattle.newick_bytes.specs.declared.Seen.{Seen}
 use Rattle.newick_bytes.specs.declared.Seen.the-variants.{Blank, Closed, Cost, Dead, Done, Ended, Image, Start, Vertex}
 

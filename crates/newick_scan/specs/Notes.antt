@@ -5,7 +5,8 @@ use lib.ListN.{length}
 use Rattle.theory.specs.LinkTables.{Row}
 use Rattle.newick_text.specs.Trees.{Head, Siblings, closed, named, none}
 use Rattle.newick_text.specs.Tables.{names}
-use Rattle.newick_text.specs.Bytes.{Open, openText, outermost, within}
+use Rattle.newick_text.specs.States.{Open, outermost, within}
+use Rattle.newick_text.specs.Spelled.{openText}
 use Rattle.newick_text.specs.Noting.{fallen, lastFar, lowerPlace, mark, marked, noted}
 
 -- ## A vertex without its cost

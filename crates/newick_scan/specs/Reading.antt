@@ -4,7 +4,7 @@ use mathlib.Core.Path.{_≡_}
 use Prim.Native.Nat.{ℕ, _+_, _-_}
 use lib.ListN.{getD}
 use Rattle.newick_text.specs.Trees.{Head, closed, named, none}
-use Rattle.newick_text.specs.Bytes.{Open, State, costing, dead, depth, done, ended, head, outermost, start, vertex, within}
+use Rattle.newick_text.specs.States.{Open, State, costing, dead, depth, done, ended, head, outermost, start, vertex, within}
 use Rattle.newick_text.specs.Noting.{notedFar}
 use Rattle.newick_scan.specs.declared.Noted.{Noted}
 use Rattle.newick_scan.specs.Stacks.{Stacks}

@@ -8,7 +8,9 @@ use Rattle.theory.specs.LinkTables.{Row}
 use Rattle.tree.specs.LocalRows.{rowsIn}
 use Rattle.newick_text.specs.Trees.{Siblings}
 use Rattle.newick_text.specs.Tables.{names}
-use Rattle.newick_text.specs.Bytes.{isDone, lived, run, start}
+use Rattle.newick_text.specs.Bytes.{run}
+use Rattle.newick_text.specs.States.{start}
+use Rattle.newick_text.specs.Ends.{isDone, lived}
 use Rattle.newick_text.specs.Noting.{fallen, marked, noted}
 use Rattle.newick_text.specs.Reading.{treeIn}
 use Rattle.newick_scan.specs.declared.Noted.{Noted}

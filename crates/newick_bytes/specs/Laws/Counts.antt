@@ -11,8 +11,8 @@ use borrow.Author.Tests.{ltb-true}
 use borrow.Table.Steps.{cases}
 use Rattle.newick_text.specs.Trees.{Head, none, size}
 use Rattle.newick_text.specs.Trees as trees
-use Rattle.newick_text.specs.Bytes.{Open, State, blank, costing, dead, done, ended, head, outermost, start, value, vertex, within}
-use Rattle.newick_text.specs.Bytes.{addTo, atOne, begins, close, depth, digitOf, grows, isDigit, onlyIf, opens, second, step}
+use Rattle.newick_text.specs.States.{Open, State, addTo, atOne, blank, costing, dead, depth, done, ended, head, outermost, start, value, vertex, within}
+use Rattle.newick_text.specs.Bytes.{begins, close, digitOf, grows, isDigit, onlyIf, opens, second, step}
 use Rattle.ground.specs.Laws.Tests.{and-r}
 use Rattle.newick_bytes.specs.Tests.{opened}
 use Rattle.newick_bytes.specs.Outer.{nextOuter, vertexOuter}

@@ -7,10 +7,12 @@ use native.Mathlib.Omega.{arith}
 use native.Mathlib.Numerals.{add-one}
 use lib.ListN.{getD, length, take}
 use lib.Seq.{take-all, take-suc}
-use Rattle.newick_text.specs.Bytes.{isDead, isDone, lived, run, start, step}
+use Rattle.newick_text.specs.Bytes.{run, step}
+use Rattle.newick_text.specs.States.{start}
+use Rattle.newick_text.specs.Ends.{isDead, isDone, lived}
 use Rattle.newick_text.specs.Laws.Fine.{run-fine}
 use Rattle.newick_text.specs.Laws.Place.{dead-not-done, lived-is}
-use Rattle.newick_text.specs.Laws.Steps.{run-append}
+use Rattle.newick_text.specs.Laws.Live.{run-append}
 use Rattle.newick_bytes.specs.Seen.{Bounded, isDeadSeen, isDoneSeen}
 use Rattle.newick_bytes.specs.Next.{nextSeen}
 use Rattle.newick_bytes.specs.Outer.{nextOuter}

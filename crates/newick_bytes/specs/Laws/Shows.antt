@@ -10,8 +10,8 @@ use borrow.Author.Tests.{le-leb, le-ltb, lt-ltb, ltb-false, ltb-true, ne-eqb}
 use borrow.Table.Steps.{cases}
 use Rattle.newick_text.specs.Trees.{Head, none, size}
 use Rattle.newick_text.specs.Trees as trees
-use Rattle.newick_text.specs.Bytes.{Open, State, blank, costing, dead, done, ended, head, outermost, start, value, vertex, within}
-use Rattle.newick_text.specs.Bytes.{addTo, atOne, begins, close, depth, digitOf, grows, isDigit, onlyIf, opens, second, step}
+use Rattle.newick_text.specs.States.{Open, State, addTo, atOne, blank, costing, dead, depth, done, ended, head, outermost, start, value, vertex, within}
+use Rattle.newick_text.specs.Bytes.{begins, close, digitOf, grows, isDigit, onlyIf, opens, second, step}
 use Rattle.newick_text.specs.Laws.Adding.{size-add}
 use Rattle.newick_bytes.specs.Tests.{firstPlace, more, pick}
 use Rattle.newick_bytes.specs.Next.{closed, costNext, nextSeen, vertexNext}

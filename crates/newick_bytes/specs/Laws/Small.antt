@@ -3,7 +3,8 @@ use mathlib.Core.Path.{refl, _≡_}
 use Prim.Native.Nat.{_≤_}
 use native.Mathlib.Omega.{arith}
 use Rattle.newick_text.specs.Trees as trees
-use Rattle.newick_text.specs.Bytes.{Open, State, blank, costing, dead, depth, done, ended, head, isDead, isDone, outermost, start, value, vertex, within}
+use Rattle.newick_text.specs.States.{Open, State, blank, costing, dead, depth, done, ended, head, outermost, start, value, vertex, within}
+use Rattle.newick_text.specs.Ends.{isDead, isDone}
 use Rattle.newick_text.specs.Laws.Fine.{Fine, FineOpen}
 use Rattle.newick_bytes.specs.Seen.{Bounded, isDeadSeen, isDoneSeen}
 use Rattle.newick_bytes.specs.Kept.{narrow}

@@ -8,9 +8,9 @@ use lib.Dec.{eqb}
 use lib.ListN.{getD, length, length-set}
 use borrow.Table.Steps.{cases}
 use Rattle.newick_text.specs.Trees as trees
-use Rattle.newick_text.specs.Bytes.{Open, State, blank, costing, dead, depth, done, ended, head, outermost, start, value, vertex, within}
+use Rattle.newick_text.specs.States.{Open, State, blank, costing, dead, depth, done, ended, head, outermost, start, value, vertex, within}
 use Rattle.newick_text.specs.Laws.Fine.{Fine}
-use Rattle.newick_text.specs.Laws.Steps.{Live, dead-not}
+use Rattle.newick_text.specs.Laws.Live.{Live, dead-not}
 use Rattle.newick_bytes.specs.Kept.{narrow}
 use Rattle.newick_bytes.specs.Laws.Small.{fine-bounded}
 use Rattle.newick_bytes.specs.declared.Seen.{Seen}

@@ -10,9 +10,10 @@ use borrow.Table.Steps.{cases}
 use Rattle.ground.specs.Laws.Tests.{and-r}
 use Rattle.newick_text.specs.Trees.{Head, none}
 use Rattle.newick_text.specs.Trees as trees
-use Rattle.newick_text.specs.Bytes.{Open, State, blank, costing, dead, done, ended, head, outermost, start, value, vertex, within}
-use Rattle.newick_text.specs.Bytes.{addTo, atOne, begins, close, depth, digitOf, grows, isDigit, opens, second, spelled, step}
-use Rattle.newick_text.specs.Laws.Steps.{Live, dead-not, only}
+use Rattle.newick_text.specs.States.{Open, State, addTo, atOne, blank, costing, dead, depth, done, ended, head, outermost, start, value, vertex, within}
+use Rattle.newick_text.specs.Bytes.{begins, close, digitOf, grows, isDigit, opens, second, step}
+use Rattle.newick_text.specs.Spelled.{spelled}
+use Rattle.newick_text.specs.Laws.Live.{Live, dead-not, only}
 use Rattle.newick_bytes.specs.Kept.{narrow}
 use Rattle.newick_bytes.specs.Laws.Shows.{depth-add}
 use Rattle.newick_scan.specs.Stacks.{Sized}

@@ -9,7 +9,8 @@ use lib.Seq.{getD-set-other, getD-set-same}
 use Rattle.ground.specs.Sums.{when}
 use Rattle.theory.specs.LinkTables.{Row}
 use Rattle.newick_text.specs.Trees.{Head, Siblings, listed}
-use Rattle.newick_text.specs.Bytes.{Open, addTo, depth, openText, outermost, within}
+use Rattle.newick_text.specs.States.{Open, addTo, depth, outermost, within}
+use Rattle.newick_text.specs.Spelled.{openText}
 use Rattle.newick_text.specs.Noting.{fallen, lastFar, lowerPlace, marked, noted, notedFar}
 use Rattle.newick_bytes.specs.Laws.Shows.{depth-some}
 use Rattle.newick_scan.specs.Notes.{called, fallenOpen, headed, inside, lastOpen, markedOpen, namesOpen, notedOpen, placeOpen}

@@ -8,7 +8,10 @@ use lib.ListN.{getD, length, take}
 use lib.Seq.{length-take-le, take-all}
 use Rattle.tree.specs.Laws.LocalRows.{rowsIn-none}
 use Rattle.newick_text.specs.Tables.{names}
-use Rattle.newick_text.specs.Bytes.{State, costing, dead, done, ended, head, isDone, run, spelled, start, step, treeOf, vertex}
+use Rattle.newick_text.specs.Bytes.{run, step}
+use Rattle.newick_text.specs.States.{State, costing, dead, done, ended, head, start, vertex}
+use Rattle.newick_text.specs.Ends.{isDone, treeOf}
+use Rattle.newick_text.specs.Spelled.{spelled}
 use Rattle.newick_text.specs.Noting.{fallen, lastFar, marked, noted}
 use Rattle.newick_text.specs.Laws.Fine.{run-fine}
 use Rattle.newick_text.specs.Laws.Steps.{run-spelled}

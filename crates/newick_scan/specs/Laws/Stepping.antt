@@ -12,9 +12,10 @@ use Rattle.tree.specs.LocalRows.{rowsIn}
 use Rattle.newick_text.specs.Trees.{Head, none, size}
 use Rattle.newick_text.specs.Trees as trees
 use Rattle.newick_text.specs.Tables.{names}
-use Rattle.newick_text.specs.Bytes.{Digits, Open, addTo, blank, close, costing, depth, ended, head, outermost, vertex, within}
+use Rattle.newick_text.specs.Bytes.{close}
+use Rattle.newick_text.specs.States.{Digits, Open, addTo, blank, costing, depth, ended, head, outermost, vertex, within}
 use Rattle.newick_text.specs.Noting.{fallen, lastFar, lowerPlace, mark, marked, notedFar}
-use Rattle.newick_text.specs.Laws.Steps.{Live, only}
+use Rattle.newick_text.specs.Laws.Live.{Live, only}
 use Rattle.newick_bytes.specs.Kept.{narrow}
 use Rattle.newick_bytes.specs.Laws.Shows.{depth-some}
 use Rattle.newick_scan.specs.declared.Noted.{Noted}

@@ -8,7 +8,7 @@ use Rattle.theory.specs.LinkTables.{Row}
 use Rattle.tree.specs.Laws.LocalRows.{rowsIn-length}
 use Rattle.newick_text.specs.Trees.{none}
 use Rattle.newick_text.specs.Tables.{names}
-use Rattle.newick_text.specs.Bytes.{Open, within}
+use Rattle.newick_text.specs.States.{Open, within}
 use Rattle.newick_text.specs.Noting.{fallen, marked, noted}
 use Rattle.newick_scan.specs.declared.Noted.{Noted}
 use Rattle.newick_scan.specs.Noting.{Kept}
