@@ -13,16 +13,15 @@ ghost use Rattle.listing_text.specs.Listing.{Within};
 ghost use Rattle.newick_line.specs.Line.{Printed, lineOf, newickLine, tableLine};
 ghost use Rattle.text.specs.Putting.{Put};
 
-// The Newick text of a link table, and a newline.
+// The Newick text of a link table, and a newline. It is never refused: there is room for every text.
 fn write_links(out: &mut [u8], n: usize, fars: &[u64], costs: &[u32]) -> usize
     requires { ⌜ Links limit n (length (now fars)) (now fars) (now costs) × (room ≤ length (now out)) ⌝ }
     ensures { λ r. ⌜ Put (lineOf (rowsOf (now (fars .entry)) (now (costs .entry)))) 0 (now (out .entry)) r (now (out .exit)) ⌝ }
 {
-    let end = match newick_writer::write_newick(n, fars.len(), fars, costs, out) {
+    match newick_writer::write_newick(n, fars.len(), fars, costs, out) {
         Written::Refused(_) => 0,
-        Written::Places(used) => used,
-    };
-    text::put_byte(out, end, 10)
+        Written::Places(used) => text::put_byte(out, used, 10),
+    }
 }
 
 // The line of a cost table: its exact reading, by the engine that grafts, or refusal 7.
@@ -46,7 +45,10 @@ fn write_stored(out: &mut [u8], bytes: &[u8]) -> usize
     let mut t = [0u32; 4096];
     match stored_costs::read_costs(bytes, 0, &mut t) {
         StoredCosts::Refused(q) => listing_lines::put_refusal(out, 0, q),
-        StoredCosts::Table { n, used: _ } => write_table(out, n, &t[..n * n]),
+        StoredCosts::Table { n, used: _ } => {
+            let table = &t[..n * n];
+            write_table(out, n, table)
+        }
     }
 }
 

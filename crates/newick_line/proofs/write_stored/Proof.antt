@@ -68,8 +68,8 @@ within c = omega (arith, square-le (table-is c .few), c .before .before .before 
 array-share-prefix-t : tie.Need-array-share-prefix-t
 array-share-prefix-t c = within (c .before)
 
-slice-aggregate-write-table : tie.Need-slice-aggregate-write-table
-slice-aggregate-write-table c = sym (length-take-le _ _ (within (c .before .before)))
+slice-aggregate-table : tie.Need-slice-aggregate-table
+slice-aggregate-table c = sym (length-take-le _ _ (within (c .before .before)))
 
 write-table-requires : tie.Need-write-table-requires
 write-table-requires c κs = let d = c .before .before .before in (table-is d .table, start d .pre)
@@ -99,7 +99,7 @@ write-stored-spec =
     enum-known-n
     mul-t
     array-share-prefix-t
-    slice-aggregate-write-table
+    slice-aggregate-table
     write-table-requires
     same-length
     returns

@@ -34,10 +34,10 @@ abbrev start : tie.After-exact → tie.Start
 start c = c .before .before .before .before .before
 
 abbrev far-places : tie.After-exact → List ℕ
-far-places c = c .exact .last .1 .1 .1 .0
+far-places c = c .exact .last .1 .1 .0
 
 abbrev cost-places : tie.After-exact → List ℕ
-cost-places c = c .exact .last .1 .1 .1 .1 .0
+cost-places c = c .exact .last .1 .1 .1 .0
 
 -- refused with 7
 refused-is : (c : tie.After-q) → let a = start (reading-q c) .args in tableLine (a .n) (a .t .now) ≡ refusedLine (c .q .given .0 .0)
@@ -46,7 +46,7 @@ refused-is c =
     let s = start (reading-q c) in
     let z = length-replicate {A = ℕ} 128 0 in
     line-refused (s .args .n) (s .args .t .now) _
-    (table-refused (s .args .n) (s .args .t .now) (replicate 128 0) (replicate 128 0) (e .last .1 .1 .1 .0) (e .last .1 .1 .1 .1 .0) _
+    (table-refused (s .args .n) (s .args .t .now) (replicate 128 0) (replicate 128 0) (e .last .1 .1 .0) (e .last .1 .1 .1 .0) _
     (s .pre .0) (omega (arith, z)) (omega (arith, z)) (rw (c .q .given .1) at (e .ensures)))
 
 -- accepted
@@ -56,7 +56,7 @@ read-is c =
     let e = c .before .before .before .before .exact in
     let s = start (reading c) in
     let z = length-replicate {A = ℕ} 128 0 in
-    table-read (s .args .n) (s .args .t .now) (replicate 128 0) (replicate 128 0) (e .last .1 .1 .1 .0) (e .last .1 .1 .1 .1 .0) _
+    table-read (s .args .n) (s .args .t .now) (replicate 128 0) (replicate 128 0) (e .last .1 .1 .0) (e .last .1 .1 .1 .0) _
     (s .pre .0) (omega (arith, z)) (omega (arith, z)) (rw (c .count .given .1) at (e .ensures))
 
 enum-known-q : tie.Need-enum-known-q
@@ -71,13 +71,13 @@ enum-known-count : tie.Need-enum-known-count
 enum-known-count c = search needs
 
 array-share-prefix-fars : tie.Need-array-share-prefix-fars
-array-share-prefix-fars c = let d = c .before .before in omega (arith, read-is d .few, reading d .exact .kept .1 .1 .1 .0)
+array-share-prefix-fars c = let d = c .before .before in omega (arith, read-is d .few, reading d .exact .kept .1 .1 .0)
 
 slice-aggregate-write-links : tie.Need-slice-aggregate-write-links
 slice-aggregate-write-links c = sym (read-is (c .before .before .before) .far-length)
 
 array-share-prefix-costs : tie.Need-array-share-prefix-costs
-array-share-prefix-costs c = let d = c .before .before .before in omega (arith, read-is d .few, reading d .exact .kept .1 .1 .1 .1 .0)
+array-share-prefix-costs c = let d = c .before .before .before in omega (arith, read-is d .few, reading d .exact .kept .1 .1 .1 .0)
 
 slice-aggregate-write-links-2 : tie.Need-slice-aggregate-write-links-2
 slice-aggregate-write-links-2 c = sym (read-is (c .before .before .before .before) .cost-length)
