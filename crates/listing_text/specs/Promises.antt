@@ -26,7 +26,7 @@ use Rattle.stored_costs.specs.Laws.Enough.{table-said, table-stored}
 use Rattle.listing_text.specs.LastImage.{lastImage}
 use Rattle.listing_text.specs.Laws.Behind.{textBy, textIn}
 use Rattle.listing_lines.specs.Lines.{refusedLine, room}
-use Rattle.listing_text.specs.Listing.{Listed, imagesSaid, listingText, storedChecks, tableSaid, textWith}
+use Rattle.listing_text.specs.Listing.{Listed, imagesSaid, listingText, storedChecks, storedText, tableSaid, textWith}
 use Rattle.listing_text.specs.TableText.{linksText, textIf}
 use Rattle.listing_text.specs.declared.Last.{Last}
 
@@ -48,7 +48,8 @@ pub record ExactListed (which : Last) (s : List ℕ) (n : ℕ) (t : List ℕ) (T
   pub only : (U : List Row) → Exact limit (cost t n) n U → U ≡ T
   pub shown : listingText which s ≡ linksText n T (images n t 1 (lastImage which n t))
 
-text-then : (c d : Check) (m : List ℕ) → textIf c (textIf d m) ≡ textIf (c then d) m
+-- two checks one after the other
+pub text-then : (c d : Check) (m : List ℕ) → textIf c (textIf d m) ≡ textIf (c then d) m
 text-then Passed d m = refl
 text-then (Refused q) d m = refl
 
@@ -102,17 +103,22 @@ module _ (which : Last) (s : List ℕ) where
   pub listed-once : {a b : ℕ} {t u : List ℕ} → Listed which s a t → Listed which s b u → (a ≡ b) × (t ≡ u)
   listed-once p q = (p .sized ∙ sym (q .sized), p .listed ∙ sym (q .listed))
 
--- the listing of a table as it is stored in either form, whatever follows it, is that of the table
+-- what is said of a table as it is stored in either form, whatever follows it, is said of the table
+pub stored-said : (said : ℕ → List ℕ → List ℕ) (e : Edition) (n : ℕ) (t b : List ℕ) → CostTable (costForm e .limit) n t
+    → storedText said (costBytes (costForm e) n (cost t n) ++ b) ≡ said n t
+stored-said said e n t b c =
+    let s = costBytes (costForm e) n (cost t n) ++ b in
+    let k = table-stored e n t b c in
+    ap (λ (x : Edition). textIn said (costForm x) s) (k .told)
+    ∙ ap (λ (x : Check). textBy said (costForm e) x s) (k .passed)
+    ∙ ap (λ (m : ℕ). said m (storedTable (costForm e) m s)) (k .images)
+    ∙ ap (said n) (k .table)
+
+-- the listing, for one
 pub listing-stored : (which : Last) (e : Edition) (n : ℕ) (t b : List ℕ) → CostTable (costForm e .limit) n t
     → listingText which (costBytes (costForm e) n (cost t n) ++ b) ≡ textWith which n t
 unfolding listingText
-listing-stored which e n t b c =
-    let s = costBytes (costForm e) n (cost t n) ++ b in
-    let k = table-stored e n t b c in
-    ap (λ (x : Edition). textIn (textWith which) (costForm x) s) (k .told)
-    ∙ ap (λ (x : Check). textBy (textWith which) (costForm e) x s) (k .passed)
-    ∙ ap (λ (m : ℕ). textWith which m (storedTable (costForm e) m s)) (k .images)
-    ∙ ap (textWith which n) (k .table)
+listing-stored which = stored-said (textWith which)
 
 -- the new form holds what the old one does
 table-wide : (n : ℕ) (t : List ℕ) → CostTable oldLimit n t → CostTable limit n t

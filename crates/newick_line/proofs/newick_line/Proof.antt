@@ -18,7 +18,7 @@ returns : tie.Need-returns
 returns c =
     let p = put-front (c .before .write-stored .ensures) in
     let l : Printed _ _ _ = record { sized = p .0; printed = p .1 } in
-    let h = printed-within l in
+    let h = printed-within _ l in
     (l, (h, sym (length-take-le _ _ h)))
 
 pub newick-line-spec : {M : Type 1} → statement M
