@@ -31,8 +31,8 @@ write-newick n N f v out out′ r p =
 
 -- the shorter of the two lent buffers is the room
 pub read-newick : (t f v f′ v′ : List ℕ) (r : KemotuikiTree) → LeftRows (crossedRows ofTree (readOutcome t f v)) r f′ v′
-    → Refusals (ofTable 0 (18 ∷ 1 ∷ 3 ∷ 13 ∷ 12 ∷ 22 ∷ [])) (readSteps t (min (length f) (length v))) (r .head) (f ∷ v ∷ []) (f′ ∷ v′ ∷ [])
+    → Refusals (ofTable 0 (18 ∷ 1 ∷ 3 ∷ 13 ∷ 12 ∷ 22 ∷ [])) (readSteps limit t (min (length f) (length v))) (r .head) (f ∷ v ∷ []) (f′ ∷ v′ ∷ [])
 read-newick t f v f′ v′ r p =
     let c = readChecks limit t (min (length f) (length v)) in
     by-rows (λ (x : KemotuikiTree). x .head) ofTree tree.Refused (λ q. refl) c _ (readOutcome t f v) f v refl refl
-    (read-order t (min (length f) (length v))) refl (λ q e. (sym (front-stops c _ f e), sym (front-stops c _ v e))) p
+    (read-order limit t (min (length f) (length v))) refl (λ q e. (sym (front-stops c _ f e), sym (front-stops c _ v e))) p
