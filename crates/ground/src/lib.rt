@@ -89,6 +89,13 @@ pub fn lower(x: u32, y: u32) -> u32
     if y < x { y } else { x }
 }
 
+// The lesser of two lengths.
+pub fn lesser(x: usize, y: usize) -> usize
+    ensures { λ r. ⌜ r ≡ min x y ⌝ }
+{
+    if y < x { y } else { x }
+}
+
 // The signed difference of two numbers.
 pub fn gap(x: u32, y: u32) -> i64
     ensures { λ r. ⌜ r ≡ pos x -ℤ pos y ⌝ }

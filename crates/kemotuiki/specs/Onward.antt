@@ -1,7 +1,7 @@
--- What the two readings and the consensus leave goes on as it stands: path costs, upper rows, routes and storage take the rows from the front
--- of the two slices, f′ and v′ after f and v. Assumes nothing.
+-- What the two readings and the consensus leave goes on as it stands: path costs, upper rows, routes, storage and Newick text take the rows from
+-- the front of the two slices, f′ and v′ after f and v. Assumes nothing.
 use mathlib.Core.List.{List}
-use mathlib.Core.Path.{ap, subst, sym, _∙_, _≡_}
+use mathlib.Core.Path.{ap, refl, subst, sym, _∙_, _≡_}
 use Prim.Native.Nat.{ℕ, _*_, _-_, _≤_}
 use native.Mathlib.Omega.{arith}
 use lib.ListN.{length, length-take, take}
@@ -9,10 +9,11 @@ use Rattle.ground.specs.declared.Check.{Check}
 use Rattle.ground.specs.declared.Check.the-variants.{Passed, Refused}
 use Rattle.ground.specs.declared.Written.the-variants.{Places}
 use Rattle.theory.specs.Laws.JoinedRows.{rowsOf-most}
-use Rattle.theory.specs.LinkTables.{LinkTable, Row}
+use Rattle.theory.specs.LinkTables.{LinkTable, Row, rowsOf}
 use Rattle.theory.specs.Outcomes.{LeftRows}
 use Rattle.theory.specs.Tables.{limit}
 use Rattle.bits.specs.declared.Edition.the-variants.{New}
+use Rattle.links.specs.Laws.LinkChecks.{rows-length}
 use Rattle.links.specs.Links.{Links}
 use Rattle.routes.specs.Orders.{pathChecks, routeChecks, upperChecks}
 use Rattle.routes.specs.Promises.{path-accepted, route-accepted, upper-accepted}
@@ -24,10 +25,22 @@ use Rattle.link_writer.specs.RoundTrips.{reading-undoes-writing}
 use Rattle.link_writer.specs.Writing.{writeChecks, writeOutcome}
 use Rattle.tree.specs.Promises.{exact-answer, measured-answer}
 use Rattle.tree.specs.Readings.{exactCheck, exactOutcome, measuredCheck, measuredOutcome, outcome}
-use Rattle.tree.specs.Writing.{rowsLeft}
+use Rattle.tree.specs.Writing.{RowsStand, rowsLeft}
 use Rattle.consensus.specs.Call.{consensusOutcome}
 use Rattle.consensus.specs.Promises.{consensus-answer}
 use Rattle.consensus.specs.declared.Shared.the-variants.{Rows}
+use Rattle.newick_text.specs.LinkTrees.{newick}
+use Rattle.newick_reader.specs.Outcomes.{readOutcome}
+use Rattle.newick_reader.specs.declared.NewickTree.the-variants.{Table}
+use Rattle.newick_reader.specs.Promises as newick-read
+use Rattle.newick_writer.specs.Promises as newick-written
+use Rattle.newick_writer.specs.Writing as newick-writing
+
+-- the Newick text of the rows T is read as r rows over n images, which are T
+abbrev pub TextRead : ℕ → ℕ → List Row → List ℕ → List ℕ → Type 0
+TextRead n r T f u =
+    let o = readOutcome (newick T) f u in
+    (o .answer ≡ Table n r) × RowsStand T r f u (o .far-list) (o .cost-list)
 
 -- the r rows l and v over n images pass every check of the calls over link tables, where these name images and have room
 pub record GoesOn (n r : ℕ) (l v : List ℕ) : Type 0 where
@@ -39,6 +52,9 @@ pub record GoesOn (n r : ℕ) (l v : List ℕ) : Type 0 where
   -- and what is stored is read back as the same rows
   pub read-back : (out f u : List ℕ) → linkUsed newLinks n r ≤ length out → 2 * n - 3 ≤ length f → 2 * n - 3 ≤ length u
       → readEither (writeOutcome newLinks n r l v out .places) 0 f u ≡ readInto n r (linkUsed newLinks n r) l v f u
+  -- as Newick text, which is read back as the same rows
+  pub as-newick : (room : ℕ) → length (newick (rowsOf l v)) ≤ room → newick-writing.writeChecks n r l v room ≡ Passed
+  pub newick-back : (f u : List ℕ) → 2 * n - 3 ≤ length f → 2 * n - 3 ≤ length u → TextRead n r (rowsOf l v) f u
 
 links-go-on : (n r : ℕ) (l v : List ℕ) → Links limit n r l v → GoesOn n r l v
 links-go-on n r l v t = record {
@@ -47,6 +63,12 @@ links-go-on n r l v t = record {
   route = λ i room a b h. route-accepted limit n r l v i room .1 (record { uppers = record { table = t; spare = h }; low = a; high = b });
   stored = λ room h. passed-write newLinks n r l v room (omega arith) t (subst (λ x. linkUsed newLinks n x ≤ room) (sym (t .counted)) h);
   read-back = λ out f u a b c. reading-undoes-writing New n r l v out f u t a b c .1;
+  as-newick = λ room h. newick-written.write-accepted n r l v room .1 (t, h);
+  newick-back = λ f u a b.
+      let T = rowsOf l v in
+      let e : length T ≡ r = rows-length l v (t .counted ∙ sym (t .costed)) ∙ t .counted in
+      subst (λ (m : ℕ). TextRead n m T f u) e
+      (newick-read.reading-undoes-writing n T f u (t .table) (t .some) (t .few) a b _ _ _ (record { answered = refl; far-sides = refl; doubled = refl }));
 }
 
 rows-go-on : (n r : ℕ) (f′ v′ : List ℕ) → 3 ≤ n → n ≤ 64 → LinkTable limit n (rowsLeft r f′ v′) → r ≡ length (rowsLeft r f′ v′)

@@ -7,6 +7,7 @@ use lib.ListN.{replicate}
 use Rattle.ground.specs.First.{first}
 use Rattle.ground.specs.Refusals.{refusal}
 use Rattle.text.specs.Decimal.{decimal, digits}
+use Rattle.text.specs.Words.{bytesOf}
 use Rattle.newick_text.specs.Bytes.{run, step}
 use Rattle.newick_text.specs.Ends.{lived}
 use Rattle.newick_text.specs.Examples.{textG}
@@ -21,34 +22,33 @@ use Rattle.newick_reader.specs.declared.NewickTree.the-variants.{Refused
 abbrev answerIn : ℕ → List ℕ → NewickTree
 answerIn k t = readOutcome t (replicate k 0) (replicate k 0) .answer
 
--- example G, (1:2,2:2,3:2,4:2);, is read as its rows; 2n - 3 places are asked
+-- example G is read as its rows; 2n - 3 places are asked
 pub example-G : (readOutcome textG (replicate 5 0) (replicate 5 7)
     ≡ record { answer = Table 4 4; far-list = 2 ∷ 4 ∷ 8 ∷ 14 ∷ 0 ∷ []; cost-list = 2 ∷ 2 ∷ 2 ∷ 2 ∷ 7 ∷ [] })
     × (answerIn 4 textG ≡ Refused (refusal 3 0 0 0 0))
-unfolding decimal digits fallFrom first insert lived listed names ones onesIn rows run side sorted step textG
+unfolding bytesOf decimal digits fallFrom first insert lived listed names ones onesIn rows run side sorted step textG
 example-G = (refl, refl)
 
--- "(1:2,": the text ends too early; 18 comes before 3
-pub example-18 : (answerIn 0 (40 ∷ 49 ∷ 58 ∷ 50 ∷ 44 ∷ []) ≡ Refused (refusal 18 6 0 0 0))
-unfolding decimal digits fallFrom first insert lived listed names ones onesIn rows run side sorted step
+-- the text ends too early, and 18 comes before 3
+pub example-18 : (answerIn 0 (bytesOf "(1:2,") ≡ Refused (refusal 18 6 0 0 0))
+unfolding bytesOf decimal digits fallFrom first insert lived listed names ones onesIn rows run side sorted step
 example-18 = refl
 
--- (1:0,2:0,1:0); and (1:0,2:0,4:0);, a second 1 and an image above n, get 13 for image 3, also where a cost is bad
-pub example-13 : (answerIn 3 (40 ∷ 49 ∷ 58 ∷ 48 ∷ 44 ∷ 50 ∷ 58 ∷ 48 ∷ 44 ∷ 49 ∷ 58 ∷ 48 ∷ 41 ∷ 59 ∷ []) ≡ Refused (refusal 13 3 0 0 0))
-    × (answerIn 3 (40 ∷ 49 ∷ 58 ∷ 48 ∷ 44 ∷ 50 ∷ 58 ∷ 48 ∷ 44 ∷ 52 ∷ 58 ∷ 48 ∷ 41 ∷ 59 ∷ []) ≡ Refused (refusal 13 3 0 0 0))
-    × (answerIn 3 (40 ∷ 49 ∷ 58 ∷ 48 ∷ 44 ∷ 50 ∷ 58 ∷ 57 ∷ 57 ∷ 57 ∷ 57 ∷ 57 ∷ 57 ∷ 57 ∷ 57 ∷ 44 ∷ 52 ∷ 58 ∷ 48 ∷ 41 ∷ 59 ∷ []) ≡ Refused (refusal 13 3 0 0 0))
-unfolding decimal digits fallFrom first insert lived listed names ones onesIn rows run side sorted step
+-- a second 1 and an image above n leave image 3 unnamed, which is refused before a bad cost
+pub example-13 : (answerIn 3 (bytesOf "(1:0,2:0,1:0);") ≡ Refused (refusal 13 3 0 0 0))
+    × (answerIn 3 (bytesOf "(1:0,2:0,4:0);") ≡ Refused (refusal 13 3 0 0 0))
+    × (answerIn 3 (bytesOf "(1:0,2:99999999,4:0);") ≡ Refused (refusal 13 3 0 0 0))
+unfolding bytesOf decimal digits fallFrom first insert lived listed names ones onesIn rows run side sorted step
 example-13 = (refl, refl, refl)
 
--- (1:0,2:0,3:16000001); has its bad cost in row 2; (1:0,3:0,2:99999999); in row 1 of the table, and 12 comes before 22
-pub example-12 : (answerIn 3 (40 ∷ 49 ∷ 58 ∷ 48 ∷ 44 ∷ 50 ∷ 58 ∷ 48 ∷ 44 ∷ 51 ∷ 58 ∷ 49 ∷ 54 ∷ 48 ∷ 48 ∷ 48 ∷ 48 ∷ 48 ∷ 49 ∷ 41 ∷ 59 ∷ [])
+-- the row is that of the table, and 12 comes before 22
+pub example-12 : (answerIn 3 (bytesOf "(1:0,2:0,3:16000001);")
     ≡ Refused (refusal 12 2 0 0 0))
-    × (answerIn 3 (40 ∷ 49 ∷ 58 ∷ 48 ∷ 44 ∷ 51 ∷ 58 ∷ 48 ∷ 44 ∷ 50 ∷ 58 ∷ 57 ∷ 57 ∷ 57 ∷ 57 ∷ 57 ∷ 57 ∷ 57 ∷ 57 ∷ 41 ∷ 59 ∷ []) ≡ Refused (refusal 12 1 0 0 0))
-unfolding decimal digits fallFrom first insert lived listed names ones onesIn rows run side sorted step
+    × (answerIn 3 (bytesOf "(1:0,3:0,2:99999999);") ≡ Refused (refusal 12 1 0 0 0))
+unfolding bytesOf decimal digits fallFrom first insert lived listed names ones onesIn rows run side sorted step
 example-12 = (refl, refl)
 
--- (1:0,6:0,((5:0,4:0):1,3:0):1,2:0); gets the place of the bracket and not of the 4 in it
-pub example-22 : (answerIn 9 (40 ∷ 49 ∷ 58 ∷ 48 ∷ 44 ∷ 54 ∷ 58 ∷ 48 ∷ 44 ∷ 40 ∷ 40 ∷ 53 ∷ 58 ∷ 48 ∷ 44 ∷ 52 ∷ 58 ∷ 48 ∷ 41 ∷ 58 ∷ 49 ∷ 44
-    ∷ 51 ∷ 58 ∷ 48 ∷ 41 ∷ 58 ∷ 49 ∷ 44 ∷ 50 ∷ 58 ∷ 48 ∷ 41 ∷ 59 ∷ []) ≡ Refused (refusal 22 10 0 0 0))
-unfolding decimal digits fallFrom first insert lived listed names ones onesIn rows run side sorted step
+-- the place of the bracket, which begins first, and not of the 4 in it
+pub example-22 : (answerIn 9 (bytesOf "(1:0,6:0,((5:0,4:0):1,3:0):1,2:0);") ≡ Refused (refusal 22 10 0 0 0))
+unfolding bytesOf decimal digits fallFrom first insert lived listed names ones onesIn rows run side sorted step
 example-22 = refl

@@ -11,25 +11,22 @@ use Rattle.ground.specs.declared.Written.{Written}
 use Rattle.ground.specs.declared.Written.the-variants.{Places, Refused}
 use Rattle.links.specs.BadRows.{badRow, missing}
 use Rattle.text.specs.Decimal.{decimal, digits}
+use Rattle.text.specs.Words.{bytesOf}
 use Rattle.newick_text.specs.Examples.{textG}
 use Rattle.newick_text.specs.Tables.{side}
 use Rattle.newick_text.specs.LinkTrees.{grown, newick, part}
 use Rattle.newick_text.specs.Trees.{listed}
 use Rattle.newick_writer.specs.Writing.{writeOutcome}
 
--- (1:1,2:1,3:1);
 pub example-A : newick ((2, 1) ∷ (4, 1) ∷ (6, 1) ∷ [])
-    ≡ 40 ∷ 49 ∷ 58 ∷ 49 ∷ 44 ∷ 50 ∷ 58 ∷ 49 ∷ 44 ∷ 51 ∷ 58 ∷ 49 ∷ 41 ∷ 59 ∷ []
-unfolding grown part side listed decimal digits first
+    ≡ bytesOf "(1:1,2:1,3:1);"
+unfolding bytesOf grown part side listed decimal digits first
 example-A = refl
 
--- (1:8,3:2,(2:36,((4:2,5:14):42,(6:48,7:12):18):32):12);
 pub example-H : newick
     ((2, 36) ∷ (4, 2) ∷ (8, 2) ∷ (16, 14) ∷ (24, 42) ∷ (32, 48) ∷ (64, 12) ∷ (96, 18) ∷ (120, 32) ∷ (122, 12) ∷ (126, 8) ∷ [])
-    ≡ 40 ∷ 49 ∷ 58 ∷ 56 ∷ 44 ∷ 51 ∷ 58 ∷ 50 ∷ 44 ∷ 40 ∷ 50 ∷ 58 ∷ 51 ∷ 54 ∷ 44 ∷ 40 ∷ 40 ∷ 52 ∷ 58 ∷ 50 ∷ 44 ∷ 53 ∷ 58 ∷ 49 ∷ 52 ∷ 41 ∷
-    58 ∷ 52 ∷ 50 ∷ 44 ∷ 40 ∷ 54 ∷ 58 ∷ 52 ∷ 56 ∷ 44 ∷ 55 ∷ 58 ∷ 49 ∷ 50 ∷ 41 ∷ 58 ∷ 49 ∷ 56 ∷ 41 ∷ 58 ∷ 51 ∷ 50 ∷ 41 ∷ 58 ∷ 49 ∷ 50 ∷
-    41 ∷ 59 ∷ []
-unfolding grown part side listed decimal digits first
+    ≡ bytesOf "(1:8,3:2,(2:36,((4:2,5:14):42,(6:48,7:12):18):32):12);"
+unfolding bytesOf grown part side listed decimal digits first
 example-H = refl
 
 -- example G with the far side x in its third row and the cost c in its last, into bytes that are all 7
@@ -39,7 +36,7 @@ callG x c room = writeOutcome 4 4 (2 ∷ 4 ∷ x ∷ 14 ∷ []) (2 ∷ 2 ∷ 2 �
 -- 18 bytes are enough, and of 20 the last two are left as they were
 pub written-G : (callG 8 2 18 ≡ record { answer = Places 18; places = textG })
     × (callG 8 2 20 ≡ record { answer = Places 18; places = textG ++ (7 ∷ 7 ∷ []) })
-unfolding textG grown part side listed decimal digits first badRow missing ones onesIn
+unfolding bytesOf textG grown part side listed decimal digits first badRow missing ones onesIn
 written-G = (refl, refl)
 
 -- 17 are not, and none is altered

@@ -219,20 +219,18 @@ pub fn judge_links(bytes: &[u8], position: usize, room: usize) -> StoredLinks
     judge(form_at(bytes, position), bytes, position, room)
 }
 
-// The lesser of two lengths.
-fn lesser(x: usize, y: usize) -> usize
-    ensures { λ r. ⌜ r ≡ min x y ⌝ }
-{
-    if y < x { y } else { x }
-}
-
 // The link table at the position, in either form, into the lent places: everything is judged before the first store.
 pub fn read_links(bytes: &[u8], position: usize, fars: &mut [u64], costs: &mut [u32]) -> StoredLinks
     ensures { λ r. ⌜ LeftRows (readEither (now (bytes .entry)) position (now (fars .entry)) (now (costs .entry))) r (now (fars .exit))
         (now (costs .exit)) ⌝ }
 {
     let form = form_at(bytes, position);
-    match judge(form, bytes, position, lesser(fars.len(), costs.len())) {
+    match judge(
+        form,
+        bytes,
+        position,
+        ground::lesser(fars.len(), costs.len()),
+    ) {
         StoredLinks::Refused(r) => StoredLinks::Refused(r),
         StoredLinks::Table { n, count, used } => {
             fill(form, n, count, &bytes[position / 8..], fars, costs);
