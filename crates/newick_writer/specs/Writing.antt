@@ -14,6 +14,7 @@ use Rattle.links.specs.Checks.{rowChecks, sizeChecks}
 use Rattle.newick_text.specs.LinkTrees.{newick}
 use Rattle.newick_writer.specs.Below.{Sized, treeText}
 use Rattle.newick_writer.specs.Bytes.{textBytes}
+use Rattle.newick_writer.specs.Chains.{Upward}
 
 -- 1, 10, 2, 12, 13
 abbrev pub tableChecks : ℕ → ℕ → List ℕ → List ℕ → Check
@@ -32,6 +33,7 @@ writeOutcome n N l v out = writtenIf (writeChecks n N l v (length out)) (newick 
 pub record Known (u l v : List ℕ) : Type 0 where
   pub some : 1 ≤ length l
   pub sized : Sized u l v
+  pub upward : Upward u
   pub bytes : length (treeText u l v) ≡ textBytes (rowsOf l v)
 
 -- the text by upper rows, where there is room for it

@@ -34,14 +34,14 @@ enum-known-r c = search needs
 enum-told : tie.Need-enum-told
 enum-told c = search needs
 
-put-tree-requires : tie.Need-put-tree-requires
-put-tree-requires c κs =
+put-rows-requires : tie.Need-put-rows-requires
+put-rows-requires c κs =
     let d = c .before in
     let k = d .before .before in
     let p = begun k .pre in
     let a = begun k .args in
     let m = treeText (a .above .now) (a .fars .now) (a .costs .now) in
-    (p .some, p .sized, room-fits m (a .out .now) (sym (checked k) ∙ d .enum-told .given .1))
+    (p .some, p .sized, p .upward, room-fits m (a .out .now) (sym (checked k) ∙ d .enum-told .given .1))
 
 returns : tie.Need-returns
 returns c = written-stops _ _ _ (c .before .r .given .1) (checked (c .before .before .before))
@@ -53,7 +53,7 @@ returns-2 : tie.Need-returns-2
 returns-2 c =
     let p = c .before .before in
     let d = p .before .before in
-    let f = put-front (p .put-tree .ensures) in
+    let f = put-front (p .put-rows .ensures) in
     written-goes _ _ _ (d .enum-told .given .1) (checked (d .before .before)) (f .0) (f .1)
 
 pub write-rows-spec : {M : Type 1} → statement M
@@ -64,7 +64,7 @@ write-rows-spec =
     refuse-if-requires
     enum-known-r
     enum-told
-    put-tree-requires
+    put-rows-requires
     returns
     same-length
     returns-2)

@@ -24,7 +24,7 @@ use Rattle.links.specs.Checks.{sizeChecks}
 use Rattle.links.specs.Laws.LinkChecks.{link-checks, rows-length, sizes-passed}
 use Rattle.links.specs.Links.{Links}
 use Rattle.routes.specs.Laws.Accepted.{few-rows}
-use Rattle.routes.specs.Laws.UpperRows.{uppers-length}
+use Rattle.routes.specs.Laws.UpperRows.{upper-later, upper-most, uppers-length}
 use Rattle.routes.specs.Orders.{upperChecks}
 use Rattle.routes.specs.Outcomes.{upperOutcome}
 use Rattle.text.specs.Putting.{Fits}
@@ -96,6 +96,10 @@ module _ (n N : ℕ) (l v : List ℕ) where
         rw e (record {
           some = f .0;
           sized = record { few = f .1; costed = sym (f .2); ruled = uppers-length 1 l };
+          upward = record {
+            most = λ i h. omega (arith, uppers-length 1 l, upper-most l i (omega (arith, uppers-length 1 l)));
+            later = λ i h g. upper-later l i (omega (arith, uppers-length 1 l)) g;
+          };
           bytes = ap length (sym newick-is) ∙ text-bytes limit n (t .few) (rowsOf l v) (t .table) (t .some);
         })
 
