@@ -1,4 +1,5 @@
--- Bytes that cannot matter to a listing, or to whatever is said of a stored cost table: those behind the stored table, and so behind the longest one of either form. Assumes nothing.
+-- Bytes that cannot matter to a listing, or to whatever is said of a stored cost table: those behind the stored table, and so behind the longest
+-- one of either form. Assumes nothing.
 use mathlib.Core.List.{List, _++_}
 use mathlib.Core.Path.{refl, _≡_}
 use Prim.Native.Nat.{ℕ, _≤_}

@@ -3,7 +3,6 @@
 ghost use mathlib.Core.Path.{_≡_};
 ghost use Prim.Native.Nat.{_<_, _≤_};
 ghost use lib.ListN.{length};
-ghost use Rattle.newick_text.specs.Bytes.{isDigit};
 ghost use Rattle.newick_bytes.specs.Seen.{Bounded, isDeadSeen, isDoneSeen};
 ghost use Rattle.newick_bytes.specs.Tests.{begun, firstPlace, grown, more, opened};
 ghost use Rattle.newick_bytes.specs.Next.{blankNext, closed, costNext, digitNext, endedNext, headNext};
@@ -38,15 +37,6 @@ pub enum Seen {
     Ended,
     Done,
     Dead,
-}
-
-fn is_digit(b: usize) -> bool
-    ensures { λ r. ⌜ r ≡ isDigit b ⌝ }
-{
-    if 48 <= b {
-        return b <= 57;
-    }
-    false
 }
 
 // Whether image 1 must follow.
@@ -157,7 +147,7 @@ fn after_image(x: usize, depth: usize, count: usize, b: usize) -> Seen
     if b == 58 {
         return Seen::Blank { depth, count };
     }
-    if !is_digit(b) {
+    if !newick_text::is_digit(b) {
         return Seen::Dead;
     }
     if may_grow(x, depth, count) {
@@ -184,7 +174,7 @@ fn after_closed(depth: usize, count: usize, b: usize) -> Seen
 fn after_blank(depth: usize, count: usize, b: usize) -> Seen
     ensures { λ r. ⌜ r ≡ blankNext depth count b ⌝ }
 {
-    if is_digit(b) {
+    if newick_text::is_digit(b) {
         return Seen::Cost {
             x: b - 48,
             depth,
@@ -218,7 +208,7 @@ fn close_bracket(depth: usize, count: usize, outer: &[usize]) -> Seen
 fn grow_cost(x: usize, depth: usize, count: usize, b: usize) -> Seen
     ensures { λ r. ⌜ r ≡ digitNext x depth count b ⌝ }
 {
-    if !is_digit(b) {
+    if !newick_text::is_digit(b) {
         return Seen::Dead;
     }
     if x < 1 {

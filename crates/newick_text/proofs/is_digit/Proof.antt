@@ -1,7 +1,7 @@
--- `newick_bytes::is_digit` meets its contract: each return rewrites with the tests that led there. Assumes nothing.
+-- `newick_text::is_digit` meets its contract: each return rewrites with the tests that led there. Assumes nothing.
 use borrow.Author.Tests.{le-leb, lt-leb}
-use Rattle.newick_bytes.proofs.is_digit.Statement.{statement}
-use Rattle.newick_bytes.proofs.is_digit.Tie as tie
+use Rattle.newick_text.proofs.is_digit.Statement.{statement}
+use Rattle.newick_text.proofs.is_digit.Tie as tie
 
 returns : tie.Need-returns
 returns c = rw (le-leb _ _ (c .if1 .taken))
