@@ -93,7 +93,7 @@ pub fn lower(x: u32, y: u32) -> u32
 pub fn lesser(x: usize, y: usize) -> usize
     ensures { λ r. ⌜ r ≡ min x y ⌝ }
 {
-    if y < x { y } else { x }
+    if x < y { x } else { y }
 }
 
 // The signed difference of two numbers.

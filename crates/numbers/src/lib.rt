@@ -332,10 +332,10 @@ pub fn of_tree(x: NewickTree) -> KemotuikiTree
     ensures { λ r. ⌜ r ≡ ofTree x ⌝ }
 {
     match x {
-        NewickTree::Table { n, count } => KemotuikiTree {
+        NewickTree::Table { n, count: rows } => KemotuikiTree {
             head: accept(),
             n,
-            rows: count,
+            rows,
         },
         NewickTree::Refused(r) => KemotuikiTree {
             head: refuse(0, r),
