@@ -7,6 +7,7 @@ pub mod ImageOne
 pub mod Nested
 pub mod FarSides
 pub mod OwnLinks
+pub mod OwnParts
 pub mod Divisions
 pub mod Index
 pub mod Attained
