@@ -1,31 +1,27 @@
+-- `leaving::rows_left` meets its contract: rows that are an exact reading can be mended. Assumes nothing.
+use mathlib.Core.Path.{refl}
 use borrow.Author.Needs.{needs}
+use Rattle.leaving.specs.Laws.Sound.{sound-mendable}
 use Rattle.leaving.proofs.rows_left.Statement.{statement}
 use Rattle.leaving.proofs.rows_left.Tie as tie
-use Rattle.leaving.proofs.rows_left.Reads as reads
-use Rattle.leaving.proofs.rows_left.Lts as lts
-use Rattle.mending.proofs.mend.Reads as mend-reads
 
--- src/lib.rt:54:37
 slice-aggregate-mend : tie.Need-slice-aggregate-mend
 slice-aggregate-mend c = search needs
 
--- src/lib.rt:54:41
 slice-aggregate-mend-2 : tie.Need-slice-aggregate-mend-2
 slice-aggregate-mend-2 c = search needs
 
--- src/lib.rt:54:57
 slice-aggregate-mend-3 : tie.Need-slice-aggregate-mend-3
 slice-aggregate-mend-3 c = search needs
 
--- src/lib.rt:54:68
 slice-aggregate-mend-4 : tie.Need-slice-aggregate-mend-4
 slice-aggregate-mend-4 c = search needs
 
--- src/lib.rt:54:9
 mend-requires : tie.Need-mend-requires
-mend-requires c κs = search needs
+mend-requires c κs =
+    let p = c .before .before .before .before .before .before .pre in
+    (p .1, p .0, sound-mendable _ _ _ _ (p .2), refl, refl)
 
--- src/lib.rt:46:1
 returns : tie.Need-returns
 returns c = search needs
 
