@@ -5,3 +5,7 @@ pub mod Outcome
 pub mod Standing
 -- What is true of it.
 pub mod Laws
+-- In what order it refuses.
+pub mod InOrder
+-- What the promise is worth.
+pub mod Promises
