@@ -1,7 +1,7 @@
 -- The checks of the replay by their numbers, each with the number of the event that it is about: 0 for the start. Assumes nothing.
 use mathlib.Core.List.{List, [], _++_, _∷_}
 use mathlib.Core.Path.{ap, refl, _∙_, _≡_}
-use Prim.Native.Nat.{suc, ℕ, _-_}
+use Prim.Native.Nat.{suc, ℕ, _-_, _≤_}
 use native.Mathlib.Omega.{arith}
 use lib.ListN.{length}
 use Rattle.ground.specs.InOrder.{Decides, InOrder, Own}
@@ -75,6 +75,31 @@ replay-decides L n t es f v =
     go : (c : Check) → (outcome c p f v .answer .event, outcome c p f v .answer .stop) ≡ ifPassed (stopAt 0) c (p .event, p .stop)
     go Passed = refl
     go (Refused r) = refl
+
+-- ## A refused start, which alone has event 0, leaves the lent slices as they were
+
+numbered-on : (k n : ℕ) (T : List Row) (es : List ℕ) (q : Refusal) → replay k n T es .stop ≡ Refused q → k ≤ replay k n T es .event
+numbered-on k n T [] q e = absurd (let w = rw (replay-none k n T) at e in let y : _≡_ {A = ℕ} 0 1 = cc in omega arith)
+numbered-on k n T (i ∷ es) q e = go (eventCheck n i) refl (numbered-on (suc k) (n - 1) (mend (n - 1) (i - 1) T) es q)
+  where
+    next : Standing
+    next = replay (suc k) (n - 1) (mend (n - 1) (i - 1) T) es
+
+    go : (c : Check) → eventCheck n i ≡ c → (next .stop ≡ Refused q → suc k ≤ next .event) → k ≤ replay k n T (i ∷ es) .event
+    go Passed s ih = rw (replay-goes k n T i es s) (omega (arith, ih (rw (replay-goes k n T i es s) at e)))
+    go (Refused r) s ih = rw (replay-stops k n T i es r s) (omega arith)
+
+pub start-unaltered : (L n : ℕ) (t es f v : List ℕ) (q : Refusal) → let o = replayOutcome L n t es f v in
+    o .answer .stop ≡ Refused q → o .answer .event ≡ 0 → (o .far-list ≡ f) × (o .cost-list ≡ v)
+start-unaltered L n t es f v q = go (exactCheck L n t (length f) (length v))
+  where
+    p : Standing
+    p = replay 1 n (exactRows L n t) es
+
+    go : (c : Check) → outcome c p f v .answer .stop ≡ Refused q → outcome c p f v .answer .event ≡ 0
+        → (outcome c p f v .far-list ≡ f) × (outcome c p f v .cost-list ≡ v)
+    go (Refused r) a b = (refl, refl)
+    go Passed a b = absurd (omega (arith, numbered-on 1 n (exactRows L n t) es q a))
 
 -- ## The numbers
 
