@@ -7,5 +7,7 @@ pub mod Standing
 pub mod Laws
 -- In what order it refuses.
 pub mod InOrder
+-- Trees and traces, computed.
+pub mod Examples
 -- What the promise is worth.
 pub mod Promises
