@@ -1,8 +1,8 @@
 ! Kemotuiki for Fortran: relay trees from link costs. The calls of kemotuiki.h by the same names, with arrays for its slices. What a
 ! call answers, its refusals and the room that it needs are in kemotuiki.h. Fortran 2008 and later.
 !
-! Each call answers a type of its own. Values are there only where it was accepted, and r%text() says why it was refused; a replay alone
-! has values also where an event was refused:
+! Each call answers a type of its own. Values are there only where it was accepted, of a replay also where an event was refused, and
+! r%text() says why it was refused:
 !
 !     r = kemotuiki_exact(t, fars, costs)
 !     if (r%accepted()) then
