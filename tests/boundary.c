@@ -124,7 +124,7 @@ static void show_head(size_t number, size_t table, size_t a, size_t b, size_t c,
     printf(" %zu %zu %zu %zu", a, b, c, d);
 }
 
-/* The same; 1 where the call was accepted, and the caller prints the values, and behind a refusal all words are 0. */
+/* The same, and behind a refusal all words are 0; 1 where the call was accepted, and the caller prints the values. */
 #define ANSWER(r, tables) (SHOW_HEAD(r, tables), no_values(&(r), sizeof(r) / sizeof(size_t)))
 
 static int no_values(const void *whole, size_t size) {
