@@ -11,7 +11,7 @@ use Rattle.ground.specs.declared.Written.the-variants.{Places}
 use Rattle.theory.specs.Laws.JoinedRows.{rowsOf-most}
 use Rattle.theory.specs.LinkTables.{LinkTable, Row, rowsOf}
 use Rattle.theory.specs.Outcomes.{LeftRows}
-use Rattle.theory.specs.Tables.{limit}
+use Rattle.theory.specs.Tables.{cost, limit}
 use Rattle.bits.specs.declared.Edition.the-variants.{New}
 use Rattle.links.specs.Laws.LinkChecks.{rows-length}
 use Rattle.links.specs.Links.{Links}
@@ -30,6 +30,7 @@ use Rattle.consensus.specs.Call.{consensusOutcome}
 use Rattle.consensus.specs.Promises.{consensus-answer}
 use Rattle.consensus.specs.declared.Shared.the-variants.{Rows}
 use Rattle.leaving.specs.Promises.{Replays}
+use Rattle.leaving.specs.Replay.{after, tableOf}
 use Rattle.leaving.specs.declared.Replayed.{Replayed}
 use Rattle.newick_text.specs.LinkTrees.{newick}
 use Rattle.newick_reader.specs.Outcomes.{readOutcome}
@@ -117,4 +118,5 @@ measured-goes-on n t f v r f′ v′ l =
 
 pub replay-goes-on : (n : ℕ) (t es f v : List ℕ) (r : Replayed) (f′ v′ : List ℕ) → Replays n t es f v r f′ v′
     → GoesOn (r .images) (r .rows) (take (r .rows) f′) (take (r .rows) v′)
-replay-goes-on n t es f v r f′ v′ p = exact-goes-on (r .images) _ f v (r .rows) f′ v′ (p .anew)
+replay-goes-on n t es f v r f′ v′ p =
+    exact-goes-on (r .images) (tableOf (r .images) (after (cost t n) (p .taken))) f v (r .rows) f′ v′ (p .anew)

@@ -2,12 +2,12 @@
 use mathlib.Core.List.{List}
 use mathlib.Core.Path.{_≡_}
 use Prim.Native.Nat.{ℕ, _≤_}
-use Rattle.ground.specs.declared.Check.{Check}
 use Rattle.theory.specs.LinkTables.{Row}
 use Rattle.theory.specs.Readings.{Exact}
 use Rattle.theory.specs.Tables.{WellFormed}
 use Rattle.tree.specs.LocalRows.{rowsIn}
 use Rattle.mending.specs.Mending.{Kept}
+use Rattle.leaving.specs.declared.Replayed.{Replayed}
 use Rattle.leaving.specs.Replay.{Standing}
 
 -- T is the exact reading of some well-formed cost table of 3 to 64 images
@@ -23,9 +23,9 @@ pub record SoundRows (L n : ℕ) (f v : List ℕ) (count : ℕ) : Type 0 where
   pub sound : Sound L n (rowsIn f v count)
   pub kept : Kept (rowsIn f v count) f v count
 
--- the code stands where p says
-pub record Stands (p : Standing) (images event : ℕ) (stop : Check) (f v : List ℕ) (count : ℕ) : Type 0 where
-  pub left : images ≡ p .images
-  pub number : event ≡ p .event
-  pub refusal : stop ≡ p .stop
-  pub kept : Kept (p .rows) f v count
+-- the answer r says where p stands, and its rows stand in f and v
+pub record Stands (p : Standing) (r : Replayed) (f v : List ℕ) : Type 0 where
+  pub left : r .images ≡ p .images
+  pub number : r .event ≡ p .event
+  pub refusal : r .stop ≡ p .stop
+  pub kept : Kept (p .rows) f v (r .rows)

@@ -3,7 +3,7 @@
 use ground::Check;
 use ground::Written;
 ghost use mathlib.Core.Path.{_≡_};
-ghost use Prim.Native.Nat.{suc, _-_, _*_, _<_, _≤_};
+ghost use Prim.Native.Nat.{_-_, _*_, _≤_};
 ghost use lib.ListN.{length};
 ghost use Rattle.ground.specs.Refusals.{_then_};
 ghost use Rattle.ground.specs.declared.Check.the-variants.{Passed};
@@ -12,8 +12,6 @@ ghost use Rattle.theory.specs.Tables.{limit};
 ghost use Rattle.tables.specs.Checks.{sizeCheck};
 ghost use Rattle.tree.specs.LocalRows.{rowsIn};
 ghost use Rattle.tree.specs.Readings.{outputsRoomCheck};
-ghost use Rattle.mending.specs.Leaving.{mend};
-ghost use Rattle.mending.specs.Mending.{Kept};
 ghost use Rattle.leaving.specs.Outcome.{outcome, replayOutcome};
 ghost use Rattle.leaving.specs.Replay.{eventCheck, replay};
 ghost use Rattle.leaving.specs.Standing.{SoundRows, Stands};
@@ -25,34 +23,6 @@ pub struct Replayed {
     pub rows: usize,
     pub event: usize,
     pub stop: Check,
-}
-
-// Rows, ascending, in the first `count` places.
-struct Rows {
-    count: usize,
-    fars: [u64; 128],
-    costs: [u32; 128],
-}
-
-// Where the replay stands.
-struct Standing {
-    images: usize,
-    event: usize,
-    stop: Check,
-    rows: Rows,
-}
-
-// The rows over m images, from those over m + 1, once image x has left.
-fn rows_left(m: usize, x: usize, rows: Rows) -> Rows
-    requires { ⌜ (x ≤ m) × (m < 64) × SoundRows limit (suc m) (rows .fars) (rows .costs) (rows .count) ⌝ }
-    ensures { λ r. ⌜ Kept (mend m x (rowsIn (rows .fars) (rows .costs) (rows .count))) (r .fars) (r .costs) (r .count) ⌝ }
-{
-    let f = rows.fars;
-    let v = rows.costs;
-    let mut fars = [0u64; 128];
-    let mut costs = [0u32; 128];
-    let count = mending::mend(m, x, &f, &v, rows.count, &mut fars, &mut costs);
-    Rows { count, fars, costs }
 }
 
 // Refusal 8 for an unknown image, then 1 if two would be left.
@@ -67,57 +37,56 @@ fn check_event(n: usize, e: usize) -> Check
     theory::check_images(n - 1)
 }
 
-// The events one after another, over n images with these rows; a refusal ends it.
-fn run(n: usize, rows: Rows, events: &[u8]) -> Standing
-    requires { ⌜ SoundRows limit n (rows .fars) (rows .costs) (rows .count) ⌝ }
-    ensures { λ r. ⌜ Stands (replay 1 n (rowsIn (rows .fars) (rows .costs) (rows .count)) (now (events .entry))) (r .images) (r .event) (r .stop)
-        (r .rows .fars) (r .rows .costs) (r .rows .count) ⌝ }
+// The events one after another, over n images whose rows stand in the first `count` places; a refusal ends it. The rows that are left stand
+// in the same places.
+fn run(n: usize, fars: &mut [u64], costs: &mut [u32], count: usize, events: &[u8]) -> Replayed
+    requires { ⌜ SoundRows limit n (now fars) (now costs) count ⌝ }
+    ensures { λ r. ⌜ Stands (replay 1 n (rowsIn (now (fars .entry)) (now (costs .entry)) count) (now (events .entry))) r
+        (now (fars .exit)) (now (costs .exit)) ⌝ }
 {
     let mut images = n;
-    let mut left = rows;
+    let mut rows = count;
     let mut i = 0;
     while i < events.len() {
         let e = ground::wide(events[i]);
         let c = check_event(images, e);
         let Check::Passed = c else {
-            return Standing {
+            return Replayed {
                 images,
+                rows,
                 event: i + 1,
                 stop: c,
-                rows: left,
             };
         };
-        left = rows_left(images - 1, e - 1, left);
+        rows = mending::mend(images - 1, e - 1, fars, costs, rows);
         images -= 1;
         i += 1;
     }
-    Standing {
+    Replayed {
         images,
+        rows,
         event: 0,
         stop: Check::Passed,
-        rows: left,
     }
 }
 
 // The events, and the rows that are left written into slices that have room for those of n images.
-fn finish(n: usize, rows: Rows, events: &[u8], fars: &mut [u64], costs: &mut [u32]) -> Replayed
-    requires { ⌜ SoundRows limit n (rows .fars) (rows .costs) (rows .count) × (2 * n - 3 ≤ length (now fars)) × (2 * n - 3 ≤ length (now costs)) ⌝ }
-    ensures { λ r. ⌜ LeftRows (outcome Passed (replay 1 n (rowsIn (rows .fars) (rows .costs) (rows .count)) (now (events .entry)))
+fn finish(
+    n: usize,
+    f: &mut [u64],
+    v: &mut [u32],
+    count: usize,
+    events: &[u8],
+    fars: &mut [u64],
+    costs: &mut [u32],
+) -> Replayed
+    requires { ⌜ SoundRows limit n (now f) (now v) count × (2 * n - 3 ≤ length (now fars)) × (2 * n - 3 ≤ length (now costs)) ⌝ }
+    ensures { λ r. ⌜ LeftRows (outcome Passed (replay 1 n (rowsIn (now (f .entry)) (now (v .entry)) count) (now (events .entry)))
         (now (fars .entry)) (now (costs .entry))) r (now (fars .exit)) (now (costs .exit)) ⌝ }
 {
-    let s = run(n, rows, events);
-    let left = s.rows;
-    let f = left.fars;
-    let v = left.costs;
-    let count = left.count;
-    tree::write_rows(&f, &v, count, fars, costs);
-    let stop = s.stop;
-    Replayed {
-        images: s.images,
-        rows: count,
-        event: s.event,
-        stop,
-    }
+    let r = run(n, f, v, count, events);
+    tree::write_rows(f, v, r.rows, fars, costs);
+    r
 }
 
 // The start's refusals that come before a look at the entries: 1, 2, 3.
@@ -157,13 +126,6 @@ pub fn replay(n: usize, t: &[u32], events: &[u8], fars: &mut [u64], costs: &mut 
             event: 0,
             stop: Check::Refused(r),
         },
-        Written::Places(count) => {
-            let rows = Rows {
-                count,
-                fars: f,
-                costs: v,
-            };
-            finish(n, rows, events, fars, costs)
-        }
+        Written::Places(count) => finish(n, &mut f, &mut v, count, events, fars, costs),
     }
 }

@@ -1,7 +1,6 @@
 // The link table once an image has left, mended from its own rows. Images are counted from 0.
 ghost use mathlib.Core.Path.{_≡_};
 ghost use Prim.Native.Nat.{suc, _<_, _^_, _≤_};
-ghost use lib.ListN.{length};
 ghost use Rattle.tree.specs.LocalRows.{rowsIn};
 ghost use Rattle.rows.specs.Putting.{PutRoom};
 ghost use Rattle.mending.specs.Leaving.{mend, named, renamed, takeOut};
@@ -46,23 +45,18 @@ fn keep_row(fars: &mut [u64], costs: &mut [u32], count: usize, s: u64, c: u32) -
     rows::put_row(fars, costs, count, s, c)
 }
 
-// The first `count` rows of f and v, over m + 1 images, once image x has left; how many rows there are then.
-pub fn mend(
-    m: usize,
-    x: usize,
-    f: &[u64],
-    v: &[u32],
-    count: usize,
-    fars: &mut [u64],
-    costs: &mut [u32],
-) -> usize
-    requires { ⌜ (m < 64) × (x ≤ m) × Mendable m (now f) (now v) count × (length (now fars) ≡ 128) × (length (now costs) ≡ 128) ⌝ }
-    ensures { λ r. ⌜ Kept (mend m x (rowsIn (now (f .entry)) (now (v .entry)) count)) (now (fars .exit)) (now (costs .exit)) r ⌝ }
+// The first `count` rows, over m + 1 images, once image x has left; how many rows there are then. They are mended in place: what has been
+// mended never reaches beyond the row that was looked at last.
+pub fn mend(m: usize, x: usize, fars: &mut [u64], costs: &mut [u32], count: usize) -> usize
+    requires { ⌜ (m < 64) × (x ≤ m) × Mendable m (now fars) (now costs) count ⌝ }
+    ensures { λ r. ⌜ Kept (mend m x (rowsIn (now (fars .entry)) (now (costs .entry)) count)) (now (fars .exit)) (now (costs .exit)) r ⌝ }
 {
     let mut all = 0;
     let mut i = 0;
     while i < count {
-        all = keep_row(fars, costs, all, rename(m, x, f[i]), v[i]);
+        let s = rename(m, x, fars[i]);
+        let c = costs[i];
+        all = keep_row(fars, costs, all, s, c);
         i += 1;
     }
     all

@@ -1,11 +1,22 @@
--- `leaving::replay` meets its contract: the start is checked and read before the first store, and what is left is written once. Assumes nothing.
+-- `leaving::replay` meets its contract: the start is checked and read before the first store, and what is left is written once.
+-- Assumes nothing.
 use mathlib.Core.Path.{refl}
 use lib.ListN.{length, replicate}
 use borrow.Author.Needs.{needs}
 use Rattle.leaving.specs.Laws.Outcome.{left-exact, left-replayed, left-start}
-use Rattle.leaving.specs.Laws.Start.{began}
+use Rattle.leaving.specs.Laws.Start.{Began, began}
 use Rattle.leaving.proofs.replay.Statement.{statement}
 use Rattle.leaving.proofs.replay.Tie as tie
+
+-- the start was accepted, and its rows stand in the local arrays
+start : (c : tie.After-read2) → let a = c .before .before .before .before .before .before .before .before .before .before .before .before .before .before .args in
+    Began (a .n) (a .t .now) (length (a .fars .now)) (length (a .costs .now)) (c .read2 .given .0 .0) (c .before .before .before .before .exact .last .1 .1 .0)
+    (c .before .before .before .before .exact .last .1 .1 .1 .0)
+start c =
+    let x = c .before .before .before .before in
+    let p = x .before .before .before in
+    began _ _ (replicate 128 0) (replicate 128 0) _ _ refl refl _ _ _ _ _ (p .enum-told .given .1) (p .before .before .check-start .ensures)
+    (c .read2 .given .1) (x .exact .ensures) (x .exact .kept .1 .1 .0) (x .exact .kept .1 .1 .1 .0)
 
 check-start-requires : tie.Need-check-start-requires
 check-start-requires c κs = search needs
@@ -36,16 +47,22 @@ enum-known-read c = search needs
 enum-known-read-2 : tie.Need-enum-known-read-2
 enum-known-read-2 c = search needs
 
+slice-aggregate-finish : tie.Need-slice-aggregate-finish
+slice-aggregate-finish c = search needs
+
+slice-aggregate-finish-2 : tie.Need-slice-aggregate-finish-2
+slice-aggregate-finish-2 c = search needs
+
 finish-requires : tie.Need-finish-requires
-finish-requires c κs =
-    let a = c .before .before .before .before .before .before .before .before .before .before .before .before .before .before .before .before .before .args in
-    let b = began (a .n) (a .t .now) (replicate 128 0) (replicate 128 0) (length (a .fars .now)) (length (a .costs .now)) refl refl _ _ _ _ _ (c .before .before .before .before .before .before .before .before .before .before .enum-told .given .1) (c .before .before .before .before .before .before .before .before .before .before .before .before .check-start .ensures) (c .before .before .before .read2 .given .1) (c .before .before .before .before .before .before .before .exact .ensures) (c .before .before .before .before .before .before .before .exact .kept .1 .1 .0) (c .before .before .before .before .before .before .before .exact .kept .1 .1 .1 .0) in
-    (b .held, b .far-places, b .cost-places)
+finish-requires c κs = let b = start (c .before .before .before .before .before) in (b .held, b .far-places, b .cost-places)
 
 returns-2 : tie.Need-returns-2
 returns-2 c =
-    let a = c .before .before .before .before .before .before .before .before .before .before .before .before .before .before .before .args in
-    left-exact (a .n) (a .t .now) (a .events .now) (a .fars .now) (a .costs .now) (replicate 128 0) (replicate 128 0) refl refl _ _ _ _ _ (c .before .before .before .before .before .before .before .before .enum-told .given .1) (c .before .before .before .before .before .before .before .before .before .before .check-start .ensures) (c .before .read .given .1) (c .before .before .before .before .before .exact .ensures)
+    let x = c .before .before .before .before .before in
+    let p = x .before .before .before in
+    let a = p .before .before .before .before .before .before .before .args in
+    left-exact (a .n) (a .t .now) (a .events .now) (a .fars .now) (a .costs .now) (replicate 128 0) (replicate 128 0) refl refl _ _ _ _ _
+    (p .enum-told .given .1) (p .before .before .check-start .ensures) (c .before .read .given .1) (x .exact .ensures)
 
 same-length : tie.Need-same-length
 same-length c = search needs
@@ -55,9 +72,10 @@ same-length-2 c = search needs
 
 returns-3 : tie.Need-returns-3
 returns-3 c =
-    let a = c .before .before .before .before .before .before .before .before .before .before .before .before .before .before .before .before .before .before .before .before .before .before .args in
-    let b = began (a .n) (a .t .now) (replicate 128 0) (replicate 128 0) (length (a .fars .now)) (length (a .costs .now)) refl refl _ _ _ _ _ (c .before .before .before .before .before .before .before .before .before .before .before .before .before .before .before .enum-told .given .1) (c .before .before .before .before .before .before .before .before .before .before .before .before .before .before .before .before .before .check-start .ensures) (c .before .before .before .before .before .before .before .before .read2 .given .1) (c .before .before .before .before .before .before .before .before .before .before .before .before .exact .ensures) (c .before .before .before .before .before .before .before .before .before .before .before .before .exact .kept .1 .1 .0) (c .before .before .before .before .before .before .before .before .before .before .before .before .exact .kept .1 .1 .1 .0) in
-    left-replayed (a .n) (a .t .now) (a .events .now) (a .fars .now) (a .costs .now) _ _ _ b _ _ _ (c .before .before .before .before .finish .ensures)
+    let e = c .before .before .before .before .before .before in
+    let r = e .before .before .before .before .before .before in
+    let a = r .before .before .before .before .before .before .before .before .before .before .before .before .before .before .args in
+    left-replayed (a .n) (a .t .now) (a .events .now) (a .fars .now) (a .costs .now) _ _ _ (start r) _ _ _ (e .finish .ensures)
 
 pub replay-spec : {M : Type 1} → statement M
 replay-spec =
@@ -72,6 +90,8 @@ replay-spec =
     exact-requires
     enum-known-read
     enum-known-read-2
+    slice-aggregate-finish
+    slice-aggregate-finish-2
     finish-requires
     returns-2
     same-length

@@ -8,16 +8,16 @@ use borrow.Author.Needs.{needs}
 use Rattle.ground.specs.declared.Check.the-variants.{Passed}
 use Rattle.tree.specs.LocalRows.{rowsIn}
 use Rattle.leaving.specs.Laws.Events.{Running, next-rows, running-end, running-more, running-none, running-stops}
+use Rattle.leaving.specs.Laws.Sound.{sound-mendable}
 use Rattle.leaving.specs.Replay.{eventCheck}
 use Rattle.leaving.proofs.run.Statement.{statement}
 use Rattle.leaving.proofs.run.Tie as tie
 
 abbrev Inv-loop : tie.InvT-loop
-Inv-loop n events images₀ left₀ i₀ images left i =
-    Running n (rowsIn (left₀ .fars) (left₀ .costs) (left₀ .count)) events images (left .fars) (left .costs) (left .count) i
+Inv-loop n fars₀ costs₀ count events images₀ rows₀ i₀ fars costs images rows i = Running n (rowsIn fars₀ costs₀ count) events images fars costs rows i
 
 abbrev μ-loop : tie.MeasureT-loop
-μ-loop n events images₀ left₀ i₀ images left i = length events - i
+μ-loop n fars₀ costs₀ count events images₀ rows₀ i₀ fars costs images rows i = length events - i
 
 -- where an event is looked at
 abbrev at : tie.After-enum-told Inv-loop μ-loop → tie.At-loop Inv-loop μ-loop
@@ -28,7 +28,7 @@ passed : (c : tie.After-enum-told Inv-loop μ-loop) → eventCheck (at c .loop .
 passed c = sym (c .before .before .check-event .ensures) ∙ c .enum-told .given .1
 
 loop-holds : tie.Need-loop-holds Inv-loop μ-loop
-loop-holds c = running-none _ _ _ _ _ _ refl (c .before .pre)
+loop-holds c = running-none _ _ _ _ _ _ refl (c .before .before .before .pre)
 
 shared-slice-read-wide : tie.Need-shared-slice-read-wide Inv-loop μ-loop
 shared-slice-read-wide c = search needs
@@ -45,25 +45,35 @@ enum-told c = search needs
 enum-told-2 : tie.Need-enum-told-2 Inv-loop μ-loop
 enum-told-2 c = search needs
 
-add-t13 : tie.Need-add-t13 Inv-loop μ-loop
-add-t13 c = search needs
+add-t15 : tie.Need-add-t15 Inv-loop μ-loop
+add-t15 c = search needs
+
+same-length : tie.Need-same-length Inv-loop μ-loop
+same-length c = let l = c .before .before .before .before .before .before in l .loop .inv .held .kept .far-room ∙ sym (l .before .before .before .before .pre .kept .far-room)
+
+same-length-2 : tie.Need-same-length-2 Inv-loop μ-loop
+same-length-2 c = let l = c .before .before .before .before .before .before in l .loop .inv .held .kept .cost-room ∙ sym (l .before .before .before .before .pre .kept .cost-room)
 
 returns : tie.Need-returns Inv-loop μ-loop
 returns c =
-    running-stops _ _ _ _ _ _ _ _ (c .before .before .before .before .before .before .loop .inv) _ _ _ (search needs)
-    (c .before .before .before .wide .ensures) (c .enum-told2 .given .1) (c .before .before .check-event .ensures)
+    let l = c .before .before .before .before .before .before in
+    running-stops _ _ _ _ _ _ _ _ (l .loop .inv) _ _ _ (search needs) (c .before .before .before .wide .ensures) (c .enum-told2 .given .1)
+    (c .before .before .check-event .ensures)
 
-sub-rows-left : tie.Need-sub-rows-left Inv-loop μ-loop
-sub-rows-left c = omega (arith, at c .loop .inv .held .sound .some)
+sub-mend : tie.Need-sub-mend Inv-loop μ-loop
+sub-mend c = omega (arith, at c .loop .inv .held .sound .some)
 
-sub-rows-left-2 : tie.Need-sub-rows-left-2 Inv-loop μ-loop
-sub-rows-left-2 c = next-rows _ _ _ _ _ (at c .loop .inv .held) (passed c) .0
+sub-mend-2 : tie.Need-sub-mend-2 Inv-loop μ-loop
+sub-mend-2 c = next-rows _ _ _ _ _ (at c .loop .inv .held) (passed c) .0
 
-rows-left-requires : tie.Need-rows-left-requires Inv-loop μ-loop
-rows-left-requires c κs = let z = next-rows _ _ _ _ _ (at c .loop .inv .held) (passed c) in (z .2, z .3, z .4)
+mend-requires : tie.Need-mend-requires Inv-loop μ-loop
+mend-requires c κs =
+    let e = c .before .before in
+    let z = next-rows _ _ _ _ _ (at e .loop .inv .held) (passed e) in
+    (z .3, z .2, sound-mendable _ _ _ _ (z .4))
 
 sub-images : tie.Need-sub-images Inv-loop μ-loop
-sub-images c = omega (arith, at (c .before) .loop .inv .held .sound .some)
+sub-images c = omega (arith, at (c .before .before .before .before .before .before .before) .loop .inv .held .sound .some)
 
 add-i : tie.Need-add-i Inv-loop μ-loop
 add-i c = search needs
@@ -73,8 +83,15 @@ loop-less c = search needs
 
 loop-again : tie.Need-loop-again Inv-loop μ-loop
 loop-again c =
-    running-more _ _ _ _ _ _ _ _ (at (c .before) .loop .inv) _ _ _ _ (search needs) (c .before .before .before .before .wide .ensures) (passed (c .before))
-    (c .rows-left .ensures)
+    let m = c .before .before .before .before in
+    let e = m .before .before .before in
+    running-more _ _ _ _ _ _ _ _ (at e .loop .inv) _ _ _ _ (search needs) (e .before .before .before .wide .ensures) (passed e) (m .mend .ensures)
+
+same-length-3 : tie.Need-same-length-3 Inv-loop μ-loop
+same-length-3 c = c .before .loop .inv .held .kept .far-room ∙ sym (c .before .before .before .before .before .pre .kept .far-room)
+
+same-length-4 : tie.Need-same-length-4 Inv-loop μ-loop
+same-length-4 c = c .before .loop .inv .held .kept .cost-room ∙ sym (c .before .before .before .before .before .pre .kept .cost-room)
 
 returns-2 : tie.Need-returns-2 Inv-loop μ-loop
 returns-2 c = running-end _ _ _ _ _ _ _ _ (c .before .loop .inv) (search needs)
@@ -91,13 +108,17 @@ run-spec =
     check-event-requires
     enum-told
     enum-told-2
-    add-t13
+    add-t15
+    same-length
+    same-length-2
     returns
-    sub-rows-left
-    sub-rows-left-2
-    rows-left-requires
+    sub-mend
+    sub-mend-2
+    mend-requires
     sub-images
     add-i
     loop-less
     loop-again
+    same-length-3
+    same-length-4
     returns-2)

@@ -54,14 +54,14 @@ module _ (n : ℕ) (T : List Row) (es : List ℕ) where
             rw (← q, k .is, c, a) (replay-goes (suc i) images (rowsIn f v count) e (drop (suc i) es) p)
 
     pub running-stops : (e : ℕ) (y : Check) (u : Refusal) → i < length es → e ≡ getD es i 0 → y ≡ Refused u → y ≡ eventCheck images e
-        → Stands (replay 1 n T es) images (i + 1) y f v count
+        → Stands (replay 1 n T es) (record { images = images; rows = count; event = i + 1; stop = y }) f v
     running-stops e y u h q p c =
         rw (r .same ∙ ap (replay (i + 1) images (rowsIn f v count)) (drop-cons es i 0 h)
         ∙ ap (λ (z : ℕ). replay (i + 1) images (rowsIn f v count) (z ∷ drop (suc i) es)) (sym q)
         ∙ replay-stops (i + 1) images (rowsIn f v count) e (drop (suc i) es) u (sym c ∙ p))
         (record { left = refl; number = refl; refusal = p; kept = r .held .kept })
 
-    pub running-end : length es ≤ i → Stands (replay 1 n T es) images 0 Passed f v count
+    pub running-end : length es ≤ i → Stands (replay 1 n T es) (record { images = images; rows = count; event = 0; stop = Passed }) f v
     running-end h =
         rw (r .same ∙ ap (replay (i + 1) images (rowsIn f v count)) (drop-of-length-le es {i = i} h) ∙ replay-none (i + 1) images (rowsIn f v count))
         (record { left = refl; number = refl; refusal = refl; kept = r .held .kept })

@@ -28,19 +28,18 @@ use Rattle.leaving.specs.Standing.{Sound, Stands}
 -- ## The end
 
 -- no more rows than there is room for
-pub stands-few : (n : ℕ) (T : List Row) (es : List ℕ) (images event : ℕ) (stop : Check) (f v : List ℕ) (count : ℕ) → Sound limit n T
-    → Stands (replay 1 n T es) images event stop f v count → count ≤ 2 * n - 3
-stands-few n T es images event stop f v count s p =
+pub stands-few : (n : ℕ) (T : List Row) (es : List ℕ) (r : Replayed) (f v : List ℕ) → Sound limit n T → Stands (replay 1 n T es) r f v → r .rows ≤ 2 * n - 3
+stands-few n T es r f v s p =
     let k = replay-taken limit 1 n (s .table) T es (s .some) (s .formed) (s .exact) in
     let o = one-tree limit (replay 1 n T es .images) (replay 1 n T es .rows) (k .enough) (k .exact .tree) in
-    omega (arith, sym (rowsIn-length f v count) ∙ ap length (p .kept .is), o .most, k .fewer)
+    omega (arith, sym (rowsIn-length f v (r .rows)) ∙ ap length (p .kept .is), o .most, k .fewer)
 
-pub stands-left : (p : Standing) (images event : ℕ) (stop : Check) (g w : List ℕ) (count : ℕ) (f v f′ v′ : List ℕ) → Stands p images event stop g w count
-    → f′ ≡ over count g f → v′ ≡ over count w v → LeftRows (outcome Passed p f v) (record { images = images; rows = count; event = event; stop = stop }) f′ v′
-stands-left p images event stop g w count f v f′ v′ s a b =
+pub stands-left : (p : Standing) (r : Replayed) (g w f v f′ v′ : List ℕ) → Stands p r g w → f′ ≡ over (r .rows) g f → v′ ≡ over (r .rows) w v
+    → LeftRows (outcome Passed p f v) r f′ v′
+stands-left p r g w f v f′ v′ s a b =
     let k = s .kept in
-    let r = rows-over (p .rows) count g w f v f′ v′ (k .is) (omega (arith, k .few, k .far-room)) (omega (arith, k .few, k .cost-room)) a b in
-    record { answered = rw (s .left, s .number, s .refusal, ← r .counted) refl; far-sides = r .far-front; doubled = r .cost-front }
+    let q = rows-over (p .rows) (r .rows) g w f v f′ v′ (k .is) (omega (arith, k .few, k .far-room)) (omega (arith, k .few, k .cost-room)) a b in
+    record { answered = rw (← s .left, ← s .number, ← s .refusal, ← q .counted) refl; far-sides = q .far-front; doubled = q .cost-front }
 
 -- ## What the call leaves
 

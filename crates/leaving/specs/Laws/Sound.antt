@@ -33,9 +33,7 @@ sound-mendable m f v count r =
     record {
       sides = λ {i} h. row-far limit (suc m) (rowsIn f v count) t (getD f i 0, getD v i 0) (rowsIn-mem f v i count h) .fits;
       spent = omega (arith, spent (rowsIn f v count) (t .small), sound-count limit (suc m) (rowsIn f v count) (r .sound), n, r .sound .few);
-      far-places = omega (arith, r .kept .few, r .kept .far-room);
-      cost-places = omega (arith, r .kept .few, r .kept .cost-room);
-      few = r .kept .few;
+      kept = r .kept;
     }
 
 -- mended, it is the exact reading of the smaller table

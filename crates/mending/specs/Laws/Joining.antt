@@ -1,11 +1,11 @@
--- Rows renamed and joined in two arrays, one after another. Assumes nothing.
+-- Rows renamed and joined in place, one after another. Assumes nothing.
 use mathlib.Core.List.{List, [], map, _++_, _∷_}
-use mathlib.Core.Path.{ap, refl, subst, sym, _∙_, _≡_}
-use Prim.Native.Nat.{suc, zero, ℕ, _+_, _<_, _^_, _≤_}
+use mathlib.Core.Path.{ap, ap₂, refl, sym, _∙_, _≡_}
+use Prim.Native.Nat.{suc, ℕ, _+_, _<_, _^_, _≤_}
 use native.Mathlib.Omega.{arith}
 use lib.Dec.{ltb}
 use lib.ListN.{getD, length, length-map}
-use borrow.Author.Tests.{le-ltb, lt-ltb}
+use borrow.Author.Tests.{lt-ltb}
 use borrow.Table.Steps.{cases}
 use Rattle.ground.specs.Laws.Filters.{filter-append}
 use Rattle.ground.specs.Laws.Maps.{map-append}
@@ -18,18 +18,24 @@ use Rattle.rows.specs.Laws.PutAll.{putAll-append, putAll-length, putAll-total}
 use Rattle.rows.specs.Putting.{Ascends, PutRoom, PutRow}
 use Rattle.rows.specs.Rows.{putAll}
 use Rattle.mending.specs.Leaving.{grouped, joined, mend, renameRow, renamed}
-use Rattle.mending.specs.Mending.{Joined, KeepRow, Kept, Mendable}
+use Rattle.mending.specs.Mending.{Joining, KeepRow, Kept, Mendable}
 
 -- ## One row
 
 pub keep-none : (f v : List ℕ) (count S c : ℕ) → Ascends f count → S ≡ 0 → KeepRow f v count S c count f v
 unfolding putAll
-keep-none f v count S c a e = record { rows = rw e refl; ascends = a; far-size = refl; cost-size = refl }
+keep-none f v count S c a e = record {
+  rows = rw e refl;
+  ascends = a;
+  behind = record { far-same = λ {j} l. refl; cost-same = λ {j} l. refl };
+  far-size = refl;
+  cost-size = refl;
+}
 
 pub keep-some : (f v : List ℕ) (count S c r : ℕ) (f′ v′ : List ℕ) → 0 < S → PutRow f v count S c r f′ v′ → KeepRow f v count S c r f′ v′
 unfolding putAll
 keep-some f v count S c r f′ v′ h p =
-    record { rows = rw (lt-ltb 0 S h) (p .rows); ascends = p .ascends; far-size = p .far-size; cost-size = p .cost-size }
+    record { rows = rw (lt-ltb 0 S h) (p .rows); ascends = p .ascends; behind = p .behind; far-size = p .far-size; cost-size = p .cost-size }
 
 -- ## All of them
 
@@ -54,61 +60,74 @@ joined-few R =
     let g = grouped-few R in
     (omega (arith, putAll-length (grouped R) [], g .0), omega (arith, putAll-total (grouped R) [], g .1))
 
-joined-count : (R : List Row) (r : ℕ) (f v : List ℕ) → Joined R r f v → r ≤ length R
-joined-count R r f v j = omega (arith, sym (rowsIn-length f v r) ∙ ap length (j .rows), joined-few R .0)
-
 module _ (m x : ℕ) (g w : List ℕ) where
-  -- the first k rows of g and w, renamed
-  abbrev pub renamedRows : ℕ → List Row
-  renamedRows k = map (renameRow m x) (rowsIn g w k)
-
-  renamed-more : (k : ℕ) → renamedRows (k + 1) ≡ renamedRows k ++ ((renamed m x (getD g k 0), getD w k 0) ∷ [])
+  renamed-more : (k : ℕ) → map (renameRow m x) (rowsIn g w (k + 1)) ≡ map (renameRow m x) (rowsIn g w k) ++ ((renamed m x (getD g k 0), getD w k 0) ∷ [])
   renamed-more k = ap (map (renameRow m x)) (rowsIn-more g w k) ∙ map-append (renameRow m x) (rowsIn g w k) ((getD g k 0, getD w k 0) ∷ [])
 
-  pub join-start : (f v : List ℕ) → length f ≡ 128 → length v ≡ 128 → Joined (renamedRows 0) 0 f v
-  join-start f v a b = record {
-    rows = rowsIn-none f v ∙ sym (ap (λ R. joined (map (renameRow m x) R)) (rowsIn-none g w) ∙ joined-none);
+  -- no more rows than there were, at no more cost
+  mend-few : (k : ℕ) → (length (mend m x (rowsIn g w k)) ≤ k) × (allCosts (mend m x (rowsIn g w k)) ≤ allCosts (rowsIn g w k))
+  mend-few k =
+      let j = joined-few (map (renameRow m x) (rowsIn g w k)) in (
+        omega (arith, j .0, length-map (rowsIn g w k) (renameRow m x) ∙ rowsIn-length g w k),
+        omega (arith, j .1, sum-map (renameRow m x) (λ q. q .1) (rowsIn g w k)),
+      )
+
+  pub join-start : length g ≡ 128 → length w ≡ 128 → Joining m x g w 0 0 g w
+  join-start a b = record {
+    rows = rowsIn-none g w ∙ sym (ap (mend m x) (rowsIn-none g w) ∙ joined-none);
     ascends = record { up = λ h l. absurd (omega arith) };
+    far-left = λ {j} h. refl;
+    cost-left = λ {j} h. refl;
     far-room = a;
     cost-room = b;
   }
 
-  module _ (count k r : ℕ) (f v : List ℕ) (j : Joined (renamedRows k) r f v) where
-    pub join-room : Mendable m g w count → k < count → PutRoom f v r (getD w k 0)
-    join-room a h =
-        let n = joined-count (renamedRows k) r f v j in
-        let l = length-map (rowsIn g w k) (renameRow m x) ∙ rowsIn-length g w k in
-        record {
-          ascends = j .ascends;
-          for-far = omega (arith, n, l, a .few, j .far-room);
-          for-cost = omega (arith, n, l, a .few, j .cost-room);
-          spent = omega (
-            arith,
-            ap allCosts (j .rows),
-            joined-few (renamedRows k) .1,
-            sum-map (renameRow m x) (λ q. q .1) (rowsIn g w k),
-            ap allCosts (in-at g w k count h) ∙ sum-append (λ q. q .1) (rowsIn g w k) _,
-            a .spent,
-          );
-        }
+  module _ (k r : ℕ) (f v : List ℕ) (j : Joining m x g w k r f v) where
+    join-count : r ≤ k
+    join-count = omega (arith, sym (rowsIn-length f v r) ∙ ap length (j .rows), mend-few k .0)
 
-    pub join-more : (S r′ : ℕ) (f′ v′ : List ℕ) → S ≡ renamed m x (getD g k 0) → KeepRow f v r S (getD w k 0) r′ f′ v′ → Joined (renamedRows (k + 1)) r′ f′ v′
-    join-more S r′ f′ v′ e p = record {
-      rows =
-          p .rows ∙ ap (λ (T : List Row). putAll (grouped ((S, getD w k 0) ∷ [])) T) (j .rows)
-          ∙ ap (λ (z : ℕ). putAll (grouped ((z, getD w k 0) ∷ [])) (joined (renamedRows k))) e
-          ∙ sym (ap joined (renamed-more k) ∙ joined-more (renamedRows k) (renamed m x (getD g k 0), getD w k 0));
-      ascends = p .ascends;
-      far-room = p .far-size ∙ j .far-room;
-      cost-room = p .cost-size ∙ j .cost-room;
+    -- the row that comes next is the old one
+    pub join-next : (count : ℕ) → Mendable m g w count → k < count → getD f k 0 < 2 ^ suc m
+    join-next count a h = rw (j .far-left {j = k} (omega arith)) (a .sides {i = k} h)
+
+    pub join-room : (count : ℕ) → Mendable m g w count → k < count → PutRoom f v r (getD v k 0)
+    join-room count a h = record {
+      ascends = j .ascends;
+      for-far = omega (arith, join-count, a .kept .few, j .far-room);
+      for-cost = omega (arith, join-count, a .kept .few, j .cost-room);
+      spent = omega (
+        arith,
+        ap allCosts (j .rows),
+        mend-few k .1,
+        j .cost-left {j = k} (omega arith),
+        ap allCosts (in-at g w k count h) ∙ sum-append (λ q. q .1) (rowsIn g w k) _,
+        a .spent,
+      );
     }
 
-  pub join-end : (count k r : ℕ) (f v : List ℕ) → k ≤ count → count ≤ k → count ≤ 128 → Joined (renamedRows k) r f v → Kept (mend m x (rowsIn g w count)) f v r
-  join-end count k r f v a b few j =
-      let e : k ≡ count = omega arith in
-      record {
-        is = j .rows ∙ ap (λ (i : ℕ). joined (renamedRows i)) e;
-        far-room = j .far-room;
-        cost-room = j .cost-room;
-        few = omega (arith, joined-count (renamedRows k) r f v j, length-map (rowsIn g w k) (renameRow m x) ∙ rowsIn-length g w k);
-      }
+    pub join-more : (S r′ : ℕ) (f′ v′ : List ℕ) → S ≡ renamed m x (getD f k 0) → KeepRow f v r S (getD v k 0) r′ f′ v′ → Joining m x g w (k + 1) r′ f′ v′
+    join-more S r′ f′ v′ e p =
+        let q : S ≡ renamed m x (getD g k 0) = e ∙ ap (renamed m x) (j .far-left {j = k} (omega arith)) in
+        let c = j .cost-left {j = k} (omega arith) in
+        let few = join-count in
+        record {
+          rows =
+              p .rows ∙ ap₂ (λ (y : ℕ) (T : List Row). putAll (grouped ((S, y) ∷ [])) T) c (j .rows)
+              ∙ ap (λ (z : ℕ). putAll (grouped ((z, getD w k 0) ∷ [])) (mend m x (rowsIn g w k))) q
+              ∙ sym (ap joined (renamed-more k) ∙ joined-more (map (renameRow m x) (rowsIn g w k)) (renamed m x (getD g k 0), getD w k 0));
+          ascends = p .ascends;
+          far-left = λ {j = i} h. p .behind .far-same {j = i} (omega arith) ∙ j .far-left {j = i} (omega arith);
+          cost-left = λ {j = i} h. p .behind .cost-same {j = i} (omega arith) ∙ j .cost-left {j = i} (omega arith);
+          far-room = p .far-size ∙ j .far-room;
+          cost-room = p .cost-size ∙ j .cost-room;
+        }
+
+    pub join-end : (count : ℕ) → Mendable m g w count → k ≤ count → count ≤ k → Kept (mend m x (rowsIn g w count)) f v r
+    join-end count a h l =
+        let e : k ≡ count = omega arith in
+        record {
+          is = j .rows ∙ ap (λ (i : ℕ). mend m x (rowsIn g w i)) e;
+          far-room = j .far-room;
+          cost-room = j .cost-room;
+          few = omega (arith, join-count, a .kept .few);
+        }
