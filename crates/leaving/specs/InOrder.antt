@@ -1,7 +1,7 @@
 -- The checks of the replay by their numbers, each with the number of the event that it is about: 0 for the start. Assumes nothing.
 use mathlib.Core.List.{List, [], _++_, _∷_}
 use mathlib.Core.Path.{ap, refl, _∙_, _≡_}
-use Prim.Native.Nat.{suc, ℕ, _-_, _≤_}
+use Prim.Native.Nat.{suc, ℕ, _-_}
 use native.Mathlib.Omega.{arith}
 use lib.ListN.{length}
 use Rattle.ground.specs.InOrder.{Decides, InOrder, Own}
@@ -20,7 +20,7 @@ use Rattle.tree.specs.Exact.{exactRows}
 use Rattle.tree.specs.InOrder.{exact-order, exactSteps}
 use Rattle.tree.specs.Readings.{exactCheck}
 use Rattle.mending.specs.Leaving.{mend}
-use Rattle.leaving.specs.Laws.Replay.{replay-goes, replay-none, replay-stops}
+use Rattle.leaving.specs.Laws.Replay.{numbered-on, replay-goes, replay-none, replay-stops}
 use Rattle.leaving.specs.Outcome.{outcome, replayOutcome}
 use Rattle.leaving.specs.Replay.{Standing, eventCheck, replay}
 
@@ -59,7 +59,8 @@ from-decides k n T (e ∷ es) =
     next : Standing
     next = replay (suc k) (n - 1) (mend (n - 1) (e - 1) T) es
 
-    go : (c : Check) → eventCheck n e ≡ c → (replay k n T (e ∷ es) .event, replay k n T (e ∷ es) .stop) ≡ ifPassed (stopAt k) (eventCheck n e) (next .event, next .stop)
+    go : (c : Check) → eventCheck n e ≡ c
+        → (replay k n T (e ∷ es) .event, replay k n T (e ∷ es) .stop) ≡ ifPassed (stopAt k) (eventCheck n e) (next .event, next .stop)
     go Passed q = rw (replay-goes k n T e es q, q) refl
     go (Refused r) q = rw (replay-stops k n T e es r q, q) refl
 
@@ -77,17 +78,6 @@ replay-decides L n t es f v =
     go (Refused r) = refl
 
 -- ## A refused start, which alone has event 0, leaves the lent slices as they were
-
-numbered-on : (k n : ℕ) (T : List Row) (es : List ℕ) (q : Refusal) → replay k n T es .stop ≡ Refused q → k ≤ replay k n T es .event
-numbered-on k n T [] q e = absurd (let w = rw (replay-none k n T) at e in let y : _≡_ {A = ℕ} 0 1 = cc in omega arith)
-numbered-on k n T (i ∷ es) q e = go (eventCheck n i) refl (numbered-on (suc k) (n - 1) (mend (n - 1) (i - 1) T) es q)
-  where
-    next : Standing
-    next = replay (suc k) (n - 1) (mend (n - 1) (i - 1) T) es
-
-    go : (c : Check) → eventCheck n i ≡ c → (next .stop ≡ Refused q → suc k ≤ next .event) → k ≤ replay k n T (i ∷ es) .event
-    go Passed s ih = rw (replay-goes k n T i es s) (omega (arith, ih (rw (replay-goes k n T i es s) at e)))
-    go (Refused r) s ih = rw (replay-stops k n T i es r s) (omega arith)
 
 pub start-unaltered : (L n : ℕ) (t es f v : List ℕ) (q : Refusal) → let o = replayOutcome L n t es f v in
     o .answer .stop ≡ Refused q → o .answer .event ≡ 0 → (o .far-list ≡ f) × (o .cost-list ≡ v)

@@ -1,6 +1,7 @@
 -- The replay of a trace, in document 02's words, and as a call.
 pub mod Replay
 pub mod Outcome
+pub mod Taken
 -- Where the code stands.
 pub mod Standing
 -- What is true of it.
@@ -11,3 +12,4 @@ pub mod InOrder
 pub mod Examples
 -- What the promise is worth.
 pub mod Promises
+pub mod Prefixes

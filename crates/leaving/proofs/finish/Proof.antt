@@ -32,7 +32,8 @@ same-length-4 c = search needs
 returns : tie.Need-returns
 returns c =
     let w = c .before .before .before .before in
-    stands-left _ _ _ _ _ _ _ _ (w .before .before .before .before .before .before .before .before .before .run .ensures) (w .write-rows .ensures .0) (w .write-rows .ensures .1)
+    let r = w .before .before .before .before .before .before .before .before .before in
+    stands-left _ _ _ _ _ _ _ _ (r .run .ensures) (w .write-rows .ensures .0) (w .write-rows .ensures .1)
 
 pub finish-spec : {M : Type 1} → statement M
 finish-spec =

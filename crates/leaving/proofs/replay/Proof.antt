@@ -9,7 +9,8 @@ use Rattle.leaving.proofs.replay.Statement.{statement}
 use Rattle.leaving.proofs.replay.Tie as tie
 
 -- the start was accepted, and its rows stand in the local arrays
-start : (c : tie.After-read2) → let a = c .before .before .before .before .before .before .before .before .before .before .before .before .before .before .args in
+start : (c : tie.After-read2)
+    → let a = c .before .before .before .before .before .before .before .before .before .before .before .before .before .before .args in
     Began (a .n) (a .t .now) (length (a .fars .now)) (length (a .costs .now)) (c .read2 .given .0 .0) (c .before .before .before .before .exact .last .1 .1 .0)
     (c .before .before .before .before .exact .last .1 .1 .1 .0)
 start c =

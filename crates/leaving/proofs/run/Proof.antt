@@ -49,10 +49,14 @@ add-t15 : tie.Need-add-t15 Inv-loop μ-loop
 add-t15 c = search needs
 
 same-length : tie.Need-same-length Inv-loop μ-loop
-same-length c = let l = c .before .before .before .before .before .before in l .loop .inv .held .kept .far-room ∙ sym (l .before .before .before .before .pre .kept .far-room)
+same-length c =
+    let l = c .before .before .before .before .before .before in
+    l .loop .inv .held .kept .far-room ∙ sym (l .before .before .before .before .pre .kept .far-room)
 
 same-length-2 : tie.Need-same-length-2 Inv-loop μ-loop
-same-length-2 c = let l = c .before .before .before .before .before .before in l .loop .inv .held .kept .cost-room ∙ sym (l .before .before .before .before .pre .kept .cost-room)
+same-length-2 c =
+    let l = c .before .before .before .before .before .before in
+    l .loop .inv .held .kept .cost-room ∙ sym (l .before .before .before .before .pre .kept .cost-room)
 
 returns : tie.Need-returns Inv-loop μ-loop
 returns c =

@@ -47,7 +47,8 @@ module _ (n : ℕ) (T : List Row) (es : List ℕ) where
           same = r .same ∙ ap (replay (i + 1) images (rowsIn f v count)) (drop-cons es i 0 h) ∙ step;
         }
       where
-        step : replay (i + 1) images (rowsIn f v count) (getD es i 0 ∷ drop (suc i) es) ≡ replay (i + 1 + 1) (images - 1) (rowsIn f′ v′ count′) (drop (i + 1) es)
+        step : replay (i + 1) images (rowsIn f v count) (getD es i 0 ∷ drop (suc i) es)
+            ≡ replay (i + 1 + 1) (images - 1) (rowsIn f′ v′ count′) (drop (i + 1) es)
         step =
             let a : i + 1 ≡ suc i = omega arith in
             let c : i + 1 + 1 ≡ suc (suc i) = omega arith in

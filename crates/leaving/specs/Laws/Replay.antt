@@ -16,6 +16,7 @@ use Rattle.mending.specs.Leaving.{leave, mend}
 use Rattle.theory.specs.LinkTables.{Row}
 use Rattle.theory.specs.Readings.{Exact}
 use Rattle.leaving.specs.Replay.{Standing, after, eventCheck, replay}
+use Rattle.leaving.specs.Taken.{Ended, Taken, all, at}
 use Rattle.theory.specs.Tables.{WellFormed}
 
 -- an event that passes: an image of 1..n, and three or more are left
@@ -37,24 +38,6 @@ mend-any L (suc (suc (suc k))) x d T h l c t =
     rw e (leave-formed L d (suc (suc k)) x c, mended-exact L k x l T (t .tree) d c (t .meets))
 
 -- ## All events
-
--- how a replay ended: with all events, or at the one that was refused
-pub data Ended (k : ℕ) (taken left : List ℕ) (p : Standing) : Type 0 where
-  all : left ≡ [] → p .stop ≡ Passed → p .event ≡ 0 → Ended k taken left p
-  at : (e : ℕ) (es : List ℕ) (r : Refusal) → left ≡ e ∷ es → eventCheck (p .images) e ≡ Refused r → p .stop ≡ Refused r → p .event ≡ k + length taken → Ended k taken left p
-
--- a replay of es, numbered on from k, over n images from the table d
-pub record Taken (L : ℕ) (d : ℕ → ℕ → ℕ) (k n : ℕ) (es : List ℕ) (p : Standing) : Type 0 where
-  -- the events that were taken
-  pub taken : List ℕ
-  pub left : List ℕ
-  pub is : es ≡ taken ++ left
-  pub fewer : p .images + length taken ≡ n
-  pub enough : 3 ≤ p .images
-  -- the rows are the exact reading of the cost table after them
-  pub formed : WellFormed L (after d taken) (p .images)
-  pub exact : Exact L (after d taken) (p .images) (p .rows)
-  pub ended : Ended k taken left p
 
 module _ (L k n : ℕ) (d : ℕ → ℕ → ℕ) (T : List Row) where
   taken-none : (es : List ℕ) (p : Standing) → p .images ≡ n → p .rows ≡ T → 3 ≤ n → WellFormed L d n → Exact L d n T → Ended k [] es p → Taken L d k n es p
@@ -87,6 +70,10 @@ module _ (L k n : ℕ) (d : ℕ → ℕ → ℕ) (T : List Row) where
       go (all a b c) = all a b c
       go (at f fs r a b c z) = at f fs r a b c (omega (arith, z))
 
+-- the replay behind an event that passed
+abbrev onward : ℕ → ℕ → List Row → ℕ → List ℕ → Standing
+onward k n T e es = replay (suc k) (n - 1) (mend (n - 1) (e - 1) T) es
+
 pub replay-none : (k n : ℕ) (T : List Row) → replay k n T [] ≡ record { images = n; rows = T; event = 0; stop = Passed }
 unfolding replay
 replay-none k n T = refl
@@ -96,7 +83,7 @@ pub replay-stops : (k n : ℕ) (T : List Row) (e : ℕ) (es : List ℕ) (r : Ref
 unfolding replay
 replay-stops k n T e es r q = rw q
 
-pub replay-goes : (k n : ℕ) (T : List Row) (e : ℕ) (es : List ℕ) → eventCheck n e ≡ Passed → replay k n T (e ∷ es) ≡ replay (suc k) (n - 1) (mend (n - 1) (e - 1) T) es
+pub replay-goes : (k n : ℕ) (T : List Row) (e : ℕ) (es : List ℕ) → eventCheck n e ≡ Passed → replay k n T (e ∷ es) ≡ onward k n T e es
 unfolding replay
 replay-goes k n T e es q = rw q
 
@@ -108,10 +95,19 @@ replay-taken L k n d T (e ∷ es) h c t =
     let m = mend-any L n (e - 1) d T (p .2) (omega (arith, p .0, p .1)) c t in
     replay-taken L (suc k) (n - 1) (leave (e - 1) d) (mend (n - 1) (e - 1) T) es (p .2) (m .0) (m .1))
   where
-    go : (y : Check) → eventCheck n e ≡ y → (eventCheck n e ≡ Passed → Taken L (leave (e - 1) d) (suc k) (n - 1) es (replay (suc k) (n - 1) (mend (n - 1) (e - 1) T) es))
+    go : (y : Check) → eventCheck n e ≡ y → (eventCheck n e ≡ Passed → Taken L (leave (e - 1) d) (suc k) (n - 1) es (onward k n T e es))
         → Taken L d k n (e ∷ es) (replay k n T (e ∷ es))
     go Passed q ih = rw (replay-goes k n T e es q) (taken-more L k n d T e es _ (event-passed n e q .2) (ih q))
     go (Refused r) q ih = rw (replay-stops k n T e es r q) (taken-none L k n d T (e ∷ es) _ refl refl h c t (at e es r refl q refl (omega arith)))
+
+-- a refusal has the number of an event, from k on
+pub numbered-on : (k n : ℕ) (T : List Row) (es : List ℕ) (q : Refusal) → replay k n T es .stop ≡ Refused q → k ≤ replay k n T es .event
+numbered-on k n T [] q e = absurd (let w = rw (replay-none k n T) at e in let y : _≡_ {A = ℕ} 0 1 = cc in omega arith)
+numbered-on k n T (i ∷ es) q e = go (eventCheck n i) refl (numbered-on (suc k) (n - 1) (mend (n - 1) (i - 1) T) es q)
+  where
+    go : (c : Check) → eventCheck n i ≡ c → (onward k n T i es .stop ≡ Refused q → suc k ≤ onward k n T i es .event) → k ≤ replay k n T (i ∷ es) .event
+    go Passed s ih = rw (replay-goes k n T i es s) (omega (arith, ih (rw (replay-goes k n T i es s) at e)))
+    go (Refused r) s ih = rw (replay-stops k n T i es r s) (omega arith)
 
 -- ## Every prefix
 
@@ -122,8 +118,8 @@ replay-on k n T [] fs q = rw (replay-none k n T) (let z : k + 0 ≡ k = omega ar
 replay-on k n T (e ∷ es) fs q = go (eventCheck n e) refl (replay-on (suc k) (n - 1) (mend (n - 1) (e - 1) T) es fs)
   where
     go : (y : Check) → eventCheck n e ≡ y
-        → (replay (suc k) (n - 1) (mend (n - 1) (e - 1) T) es .stop ≡ Passed → replay (suc k) (n - 1) (mend (n - 1) (e - 1) T) (es ++ fs)
-        ≡ replay (suc k + length es) (replay (suc k) (n - 1) (mend (n - 1) (e - 1) T) es .images) (replay (suc k) (n - 1) (mend (n - 1) (e - 1) T) es .rows) fs)
+        → (onward k n T e es .stop ≡ Passed → onward k n T e (es ++ fs)
+        ≡ replay (suc k + length es) (onward k n T e es .images) (onward k n T e es .rows) fs)
         → replay k n T (e ∷ (es ++ fs)) ≡ replay (k + suc (length es)) (replay k n T (e ∷ es) .images) (replay k n T (e ∷ es) .rows) fs
     go Passed s ih =
         let z : k + suc (length es) ≡ suc k + length es = omega arith in
@@ -135,7 +131,7 @@ replay-ended k n T [] fs r q = absurd (let w = rw (replay-none k n T) at q in le
 replay-ended k n T (e ∷ es) fs r q = go (eventCheck n e) refl (replay-ended (suc k) (n - 1) (mend (n - 1) (e - 1) T) es fs r)
   where
     go : (y : Check) → eventCheck n e ≡ y
-        → (replay (suc k) (n - 1) (mend (n - 1) (e - 1) T) es .stop ≡ Refused r → replay (suc k) (n - 1) (mend (n - 1) (e - 1) T) (es ++ fs) ≡ replay (suc k) (n - 1) (mend (n - 1) (e - 1) T) es)
+        → (onward k n T e es .stop ≡ Refused r → onward k n T e (es ++ fs) ≡ onward k n T e es)
         → replay k n T (e ∷ (es ++ fs)) ≡ replay k n T (e ∷ es)
     go Passed s ih = rw (replay-goes k n T e (es ++ fs) s, replay-goes k n T e es s) (ih (rw (replay-goes k n T e es s) at q))
     go (Refused u) s ih = replay-stops k n T e (es ++ fs) u s ∙ sym (replay-stops k n T e es u s)

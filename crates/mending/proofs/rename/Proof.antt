@@ -11,7 +11,10 @@ take-out-requires : tie.Need-take-out-requires
 take-out-requires c κs = search needs
 
 name-requires : tie.Need-name-requires
-name-requires c κs = let a = c .before .args in let p = c .before .pre in (p .0, rw (c .take-out .ensures) (takeOut-lt (a .m) (a .x) (a .s) (omega (arith, p .1)) (p .2)))
+name-requires c κs =
+    let a = c .before .args in
+    let p = c .before .pre in
+    (p .0, rw (c .take-out .ensures) (takeOut-lt (a .m) (a .x) (a .s) (omega (arith, p .1)) (p .2)))
 
 returns : tie.Need-returns
 returns c = c .name .ensures ∙ ap (named (c .before .before .args .m)) (c .before .take-out .ensures)

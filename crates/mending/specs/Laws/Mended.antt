@@ -77,7 +77,8 @@ module _ (L k x : ℕ) (hx : x < suc (suc (suc k))) (T : List Row) (t : LinkTabl
           (λ z. true≢false (sym e ∙ ap (inner m) (q ∙ ap (λ (y : ℕ). renamed m x (own (suc m) y)) (sym (eqb-true x i z)) ∙ own-gone k x hx) ∙ inner-none m))
           (λ z.
           let j = had-all m x i hx h (eqb-false x i z) in
-          true≢false (sym e ∙ ap (inner m) (q ∙ ap (λ (y : ℕ). renamed m x (own (suc m) y)) (j .2) ∙ own-left k x hx (j .0) (j .1)) ∙ own-not-inner k (j .0) (j .1)))
+          let o = q ∙ ap (λ (y : ℕ). renamed m x (own (suc m) y)) (j .2) ∙ own-left k x hx (j .0) (j .1) in
+          true≢false (sym e ∙ ap (inner m) o ∙ own-not-inner k (j .0) (j .1)))
 
   -- two that do not cross do not cross afterwards
   uncrossed : (S R : ℕ) → S < 2 ^ suc m → R < 2 ^ suc m → Uncrossed (suc m) S R → Uncrossed m (renamed m x S) (renamed m x R)
@@ -134,7 +135,8 @@ module _ (L k x : ℕ) (hx : x < suc (suc (suc k))) (T : List Row) (t : LinkTabl
           nested = λ q s p y.
               let f = from q s in let g = from p y in
               rw (f .is, g .is) (uncrossed-nested m (renamed m x (f .row .0)) (renamed m x (g .row .0))
-              (uncrossed (f .row .0) (g .row .0) (fits (f .row) (f .there)) (fits (g .row) (g .there)) (nested-uncrossed (suc m) (f .row .0) (g .row .0) (t .nested (f .row) (f .there) (g .row) (g .there)))));
+              (uncrossed (f .row .0) (g .row .0) (fits (f .row) (f .there)) (fits (g .row) (g .there))
+              (nested-uncrossed (suc m) (f .row .0) (g .row .0) (t .nested (f .row) (f .there) (g .row) (g .there)))));
           drawn = mend-costs m x (inner m) T (λ r s i. t .drawn r s (inner-from r s i));
           small = small;
         }

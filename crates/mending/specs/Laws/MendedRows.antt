@@ -62,8 +62,8 @@ module _ (m x : ℕ) where
   pub mend-has : (T : List Row) → Each T (λ r. 0 < renamed m x (r .0) → List·Memᴰ (renamed m x (r .0)) (fars (mend m x T)))
   unfolding joined
   mend-has T r s p =
-      putAll-keeps (renamed m x (r .0)) (grouped (map (renameRow m x) T)) []
-      (inl (mem-map far (mem-filter (λ q. ltb 0 (q .0)) (renameRow m x r) (lt-ltb 0 (renamed m x (r .0)) p) (map (renameRow m x) T) (mem-map (renameRow m x) s))))
+      let t = mem-filter (λ q. ltb 0 (q .0)) (renameRow m x r) (lt-ltb 0 (renamed m x (r .0)) p) (map (renameRow m x) T) (mem-map (renameRow m x) s) in
+      putAll-keeps (renamed m x (r .0)) (grouped (map (renameRow m x) T)) [] (inl (mem-map far t))
 
   module _ (hx : x < suc m) where
     pub mend-between : (T : List Row) → Each T (λ r. r .0 < 2 ^ suc m) → Between 1 (fars (mend m x T)) (2 ^ m)
