@@ -716,6 +716,27 @@ def places_out_of_order(n, vertices):
     return found
 
 
+# Images that leave
+
+def table_without(n, t, image):
+    """The smaller cost table, over the other images: numbers above this one drop by one."""
+    left = [i for i in range(1, n + 1) if i != image]
+    return [t[(i - 1) * n + j - 1] for i in left for j in left]
+
+
+def mended(n, rows, image):
+    """The mending of document 02, word for word: the image is taken out of both groups of a row, and
+    numbers above it drop by one; the row is named again by the group without the new image 1; one
+    with an empty group is dropped, and those that became equal are joined with their costs added."""
+    joined = {}
+    for far, cost in rows:
+        sides = [[i - 1 if i > image else i for i in side if i != image] for side in groups(n, far)]
+        if all(sides):
+            named = sum(2 ** (i - 1) for side in sides if 1 not in side for i in side)
+            joined[named] = joined.get(named, 0) + cost
+    return sorted(joined.items())
+
+
 # The public calls
 
 @call
@@ -864,12 +885,6 @@ def check_event(n, image):
     """8, then 1 if two images would be left."""
     check_image(n, image)
     check_n(n - 1)
-
-
-def table_without(n, t, image):
-    """The smaller cost table, over the other images: numbers above this one drop by one."""
-    left = [i for i in range(1, n + 1) if i != image]
-    return [t[(i - 1) * n + j - 1] for i in left for j in left]
 
 
 def replay(n, t, events, fars, costs):
@@ -2348,19 +2363,6 @@ def replayed(n, t, events):
         for short, shorter in ((needed - 1, needed), (needed, needed - 1)):
             assert replay(n, t, events, [0] * short, [0] * shorter) == (3, 0, 0, 0, 0, 0, 0, 0)
     return answer, rows
-
-
-def mended(n, rows, image):
-    """The mending of document 02, word for word: the image is taken out of both groups of a row, and
-    numbers above it drop by one; the row is named again by the group without the new image 1; one
-    with an empty group is dropped, and those that became equal are joined with their costs added."""
-    joined = {}
-    for far, cost in rows:
-        sides = [[i - 1 if i > image else i for i in side if i != image] for side in groups(n, far)]
-        if all(sides):
-            named = sum(2 ** (i - 1) for side in sides if 1 not in side for i in side)
-            joined[named] = joined.get(named, 0) + cost
-    return sorted(joined.items())
 
 
 def left_of(n, events):
