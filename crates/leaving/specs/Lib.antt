@@ -1,0 +1,7 @@
+-- The replay of a trace, in document 02's words, and as a call.
+pub mod Replay
+pub mod Outcome
+-- Where the code stands.
+pub mod Standing
+-- What is true of it.
+pub mod Laws
