@@ -1,6 +1,7 @@
 /*
- * Times the archive against plain.c, call by call, in one run: the two take turns. Both answers are compared first. Prints three
- * tables in Markdown: all calls on random trees, the measured reading on trees of every shape, and both engines of the exact reading.
+ * Times the archive against plain.c, call by call, in one run: the two take turns. Both answers are compared first. Prints four
+ * tables in Markdown: all calls on random trees, the measured reading on trees of every shape, both engines of the exact reading, and
+ * images that leave.
  */
 #include <stdio.h>
 #include <stdlib.h>
@@ -10,6 +11,7 @@
 #include "kemotuiki.h"
 #include "plain.h"
 #include "race.h"
+#include "replays.h"
 #include "shapes.h"
 #include "tables.h"
 
@@ -206,6 +208,7 @@ int main(void) {
         if (all_calls()) return 1;
         shapes(printing);
         engines(printing);
+        replays(printing);
     }
     return 0;
 }

@@ -12,6 +12,9 @@ int plain_exact_grafted(size_t n, const uint32_t *t, size_t t_count, uint64_t *f
 int plain_compare(size_t n, const uint32_t *first, size_t first_count, const uint32_t *second, size_t second_count, size_t v[5]);
 int plain_consensus(size_t n, size_t number, const uint32_t *tables, size_t tables_count, uint64_t *fars, uint32_t *costs, size_t room,
                     size_t *rows);
+/* Where an event is refused, the images and rows before it are answered beside its number. */
+int plain_replay(size_t n, const uint32_t *t, size_t t_count, const uint8_t *events, size_t event_count, uint64_t *fars, uint32_t *costs,
+                 size_t room, size_t *images, size_t *rows, size_t *event);
 int plain_write_costs(size_t form, size_t n, const uint32_t *t, size_t t_count, uint8_t *out, size_t room, size_t *used);
 int plain_read_costs(const uint8_t *bytes, size_t count, size_t position, uint32_t *out, size_t room, size_t *n, size_t *used);
 int plain_convert_costs(size_t form, const uint8_t *bytes, size_t count, uint8_t *out, size_t room, size_t *used);

@@ -1,8 +1,8 @@
 #!/usr/bin/env bash
 # Builds the examples in C and in Fortran against the archive, runs them, and compares what they print: the first programs with
 # first.txt, the rows of the README's worked example, the divisions with division.txt, the two engines with engines.txt, the
-# conversions of a stored table with convert.txt, the Newick texts with newick.txt, and the teams with expected.txt. The archive is made
-# if it is not there.
+# conversions of a stored table with convert.txt, the Newick texts with newick.txt, the images that leave with leave.txt, and the teams
+# with expected.txt. The archive is made if it is not there.
 # Status 1 on a difference, 0 if all is the same or something could not be run, which is said.
 set -euo pipefail
 cd "$(dirname "$0")/.."
@@ -27,12 +27,14 @@ if [ -n "$CC" ]; then
     "$CC" -std=c11 -O2 -Wall -Wextra -Iinclude examples/c/engines.c "$archive" -o "$work/c-engines"
     "$CC" -std=c11 -O2 -Wall -Wextra -Iinclude examples/c/convert.c "$archive" -o "$work/c-convert"
     "$CC" -std=c11 -O2 -Wall -Wextra -Iinclude examples/c/newick.c "$archive" -o "$work/c-newick"
+    "$CC" -std=c11 -O2 -Wall -Wextra -Iinclude examples/c/leave.c "$archive" -o "$work/c-leave"
     "$CC" -std=c11 -O2 -Wall -Wextra -Iinclude examples/c/team.c "$archive" -o "$work/c-team"
     run c-first first.txt
     run c-division division.txt
     run c-engines engines.txt
     run c-convert convert.txt
     run c-newick newick.txt
+    run c-leave leave.txt
     run c-team expected.txt
 else
     not_run "the C example" "no C compiler for x86-64"
@@ -48,6 +50,7 @@ if [ -n "$FC" ]; then
         -o "$work/fortran-convert"
     "$FC" -std=f2018 -O2 -Wall -Wextra -J "$work" examples/fortran/newick.f90 "$work/kemotuiki.o" "$archive" \
         -o "$work/fortran-newick"
+    "$FC" -std=f2018 -O2 -Wall -Wextra -J "$work" examples/fortran/leave.f90 "$work/kemotuiki.o" "$archive" -o "$work/fortran-leave"
     "$FC" -std=f2018 -O2 -Wall -Wextra -J "$work" examples/fortran/{network,team}.f90 "$work/kemotuiki.o" "$archive" \
         -o "$work/fortran-team"
     run fortran-first first.txt
@@ -55,6 +58,7 @@ if [ -n "$FC" ]; then
     run fortran-engines engines.txt
     run fortran-convert convert.txt
     run fortran-newick newick.txt
+    run fortran-leave leave.txt
     run fortran-team expected.txt
 else
     not_run "the Fortran example" "no Fortran compiler for x86-64"

@@ -1,7 +1,8 @@
 ! Kemotuiki for Fortran: relay trees from link costs. The calls of kemotuiki.h by the same names, with arrays for its slices. What a
 ! call answers, its refusals and the room that it needs are in kemotuiki.h. Fortran 2008 and later.
 !
-! Each call answers a type of its own. Values are there only where it was accepted, and r%text() says why it was refused:
+! Each call answers a type of its own. Values are there only where it was accepted, of a replay also where an event was refused, and
+! r%text() says why it was refused:
 !
 !     r = kemotuiki_exact(t, fars, costs)
 !     if (r%accepted()) then
@@ -12,7 +13,7 @@
 !
 ! A cost table has rank 2: t(i, j) is the entry in row i and column j. The tables of a team have rank 3: tables(:, :, k) is table k.
 ! Entries, costs, images, rows and counts are default integers, 32 bits in arrays; far sides are integer(int64), stored bytes
-! integer(int8).
+! integer(int8). The events of a replay, which are images, are default integers or bytes.
 !
 ! What writes stored bytes is told the form first: kemotuiki_old_form, for entries to 1,000,000 and doubled costs to 2,000,000, which
 ! every version reads; or kemotuiki_new_form, for every table. What reads them takes both.
@@ -30,8 +31,8 @@ module kemotuiki
     private
 
     ! The version, as the file VERSION has it.
-    character(*), parameter, public :: kemotuiki_version = '3.1.0'
-    integer, parameter, public :: kemotuiki_version_major = 3, kemotuiki_version_minor = 1, kemotuiki_version_patch = 0
+    character(*), parameter, public :: kemotuiki_version = '3.2.0'
+    integer, parameter, public :: kemotuiki_version_major = 3, kemotuiki_version_minor = 2, kemotuiki_version_patch = 0
 
     ! Room that is enough for every n: images, rows of a tree, bytes of a stored table in either form, and in the old form alone; the
     ! tables of a team; characters of a Newick text; and bytes of a refusal's text.
@@ -113,11 +114,14 @@ module kemotuiki
     type, extends(kemotuiki_answer), public :: kemotuiki_tree_answer
         integer :: n, rows
     end type
+    type, extends(kemotuiki_answer), public :: kemotuiki_replay_answer
+        integer :: images, rows, event
+    end type
 
     public :: kemotuiki_index, kemotuiki_order, kemotuiki_measured, kemotuiki_exact, kemotuiki_exact_grafted, kemotuiki_path
     public :: kemotuiki_upper_rows, kemotuiki_route, kemotuiki_compare, kemotuiki_consensus, kemotuiki_write_costs
     public :: kemotuiki_read_costs, kemotuiki_write_links, kemotuiki_read_links, kemotuiki_write_batch, kemotuiki_choice
-    public :: kemotuiki_convert_costs, kemotuiki_convert_links, kemotuiki_write_newick, kemotuiki_read_newick
+    public :: kemotuiki_convert_costs, kemotuiki_convert_links, kemotuiki_write_newick, kemotuiki_read_newick, kemotuiki_replay
 
     ! Far sides and bit positions may be of either kind. A far side that holds image 32 or a later one needs int64: as a default integer
     ! it would be negative, or not fit.
@@ -129,6 +133,11 @@ module kemotuiki
     end interface
     interface kemotuiki_read_links
         procedure read_links_int32, read_links_int64
+    end interface
+
+    ! The events of a trace, as numbers of images or as the bytes in which it is kept.
+    interface kemotuiki_replay
+        procedure replay_int32, replay_int8
     end interface
 
     ! The structs of kemotuiki.h by the number of their values: what all begin with, then the values. The index alone is signed.
@@ -229,6 +238,16 @@ module kemotuiki
             integer(c_int64_t), intent(inout) :: fars(*)
             integer(c_int32_t), intent(inout) :: costs(*)
             type(one_value) :: r
+        end function
+        function c_replay(n, t, t_count, events, events_count, fars, fars_count, costs, costs_count) result(r) &
+            bind(c, name='kemotuiki_replay')
+            import
+            integer(word), value :: n, t_count, events_count, fars_count, costs_count
+            integer(c_int32_t), intent(in) :: t(*)
+            integer(c_int8_t), intent(in) :: events(*)
+            integer(c_int64_t), intent(inout) :: fars(*)
+            integer(c_int32_t), intent(inout) :: costs(*)
+            type(three_values) :: r
         end function
         function c_write_costs(form, n, t, t_count, out, out_count) result(r) bind(c, name='kemotuiki_write_costs')
             import
@@ -424,6 +443,37 @@ contains
         r = rows_answer(c_consensus(size(tables, 1, word), size(tables, 3, word), tables, size(tables, kind=word), &
                                     fars, size(fars, kind=word), costs, size(costs, kind=word)))
         if (r%table > 0) call place_by_rows(r, tables(:, :, r%table))
+    end function
+
+    ! Images leave one by one, each event being the number that one has by then: the rows of t, mended after each, into fars and costs.
+    ! Where an event is refused, r%event is its number and the rows are those before it.
+    function replay_int8(t, events, fars, costs) result(r)
+        integer(int32), intent(in), contiguous :: t(:, :)
+        integer(int8), intent(in), contiguous :: events(:)
+        integer(int64), intent(inout), contiguous :: fars(:)
+        integer(int32), intent(inout), contiguous :: costs(:)
+        type(kemotuiki_replay_answer) :: r
+        type(three_values) :: c
+        c = c_replay(size(t, 1, word), t, size(t, kind=word), events, size(events, kind=word), fars, size(fars, kind=word), &
+                     costs, size(costs, kind=word))
+        r = kemotuiki_replay_answer(kemotuiki_answer=head(c%head), images=int(c%values(1)), rows=int(c%values(2)), &
+                                    event=int(c%values(3)))
+        call place_by_rows(r, t)
+    end function
+
+    ! A number that no image has is 0 as a byte, which is refused likewise. Events behind the first kemotuiki_images need not cross: as
+    ! each takes one image away, one of these has been refused before.
+    function replay_int32(t, events, fars, costs) result(r)
+        integer(int32), intent(in), contiguous :: t(:, :)
+        integer(int32), intent(in), contiguous :: events(:)
+        integer(int64), intent(inout), contiguous :: fars(:)
+        integer(int32), intent(inout), contiguous :: costs(:)
+        type(kemotuiki_replay_answer) :: r
+        integer(int8) :: bytes(kemotuiki_images)
+        integer :: count
+        count = int(min(size(events, kind=word), int(kemotuiki_images, word)))
+        bytes(:count) = int(merge(events(:count), 0_int32, events(:count) >= 1 .and. events(:count) <= kemotuiki_images), int8)
+        r = replay_int8(t, bytes(:count), fars, costs)
     end function
 
     ! The stored form of t, old or new, into out.

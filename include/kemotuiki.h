@@ -4,7 +4,7 @@
  * A cost table over n images, n from 3 to 64, is n*n numbers, row by row: each at most 8,000,000, zero diagonal, symmetric.
  * A division of the images is named by its far side, the group without image 1, as the sum of 2^(i-1) over its images i.
  * A link table is rows of a far side and a doubled cost, at most 16,000,000, far sides strictly ascending, from n to 2n-3 rows.
- * Images, rows and tables are counted from 1.
+ * Images, rows, tables and events are counted from 1.
  *
  * Both kinds of table have two stored forms. The old form is for entries to 1,000,000 and doubled costs to 2,000,000, and is the
  * one that versions before 3 read. The new form takes every table and is a little longer. Whoever reads takes both, since the
@@ -20,9 +20,10 @@
  * A slice that is written overlaps no other slice of the call, which restrict says; slices that are only read may overlap.
  * Nothing is allocated and nothing is kept between calls, so calls on different buffers may run at the same time.
  *
- * A refused call alters no lent place. An accepted call writes only the places that its answer names, from the front.
+ * A refused call alters no lent place; a replay alone has written its rows also where an event was refused. A call writes only the
+ * places that its answer names, from the front.
  *
- * Single numbers are size_t, far sides 64 bits, stored bytes 8 bits, text is char. All other slices hold 32 bits, the batch's
+ * Single numbers are size_t, far sides 64 bits, stored bytes and events 8 bits, text is char. All other slices hold 32 bits, the batch's
  * numbers of images and of rows as well, so that default integers of Fortran cross as they are.
  *
  * The header is C89 with <stdint.h>, later C, and C++.
@@ -34,9 +35,9 @@
 #include <stdint.h>
 
 /* The version, as the file VERSION has it. */
-#define KEMOTUIKI_VERSION "3.1.0"
+#define KEMOTUIKI_VERSION "3.2.0"
 #define KEMOTUIKI_VERSION_MAJOR 3
-#define KEMOTUIKI_VERSION_MINOR 1
+#define KEMOTUIKI_VERSION_MINOR 2
 #define KEMOTUIKI_VERSION_PATCH 0
 
 /*
@@ -80,14 +81,14 @@ extern "C" {
 /* What an answer's number says, and behind it what its places a, b, c, d are; a place that is not named is 0. */
 enum KemotuikiNumber {
     KEMOTUIKI_ACCEPTED = 0,
-    KEMOTUIKI_BAD_N = 1,             /* n outside 3..64: n */
+    KEMOTUIKI_BAD_N = 1,             /* n outside 3..64, of an event the n that would be left: n */
     KEMOTUIKI_BAD_LENGTH = 2,        /* a slice's length does not fit n or the row count */
     KEMOTUIKI_NO_ROOM = 3,           /* too little room */
     KEMOTUIKI_ENTRY_TOO_LARGE = 4,   /* entry above the limit, in an old stored table above the old one: row, column */
     KEMOTUIKI_DIAGONAL_NOT_ZERO = 5, /* diagonal not zero: image */
     KEMOTUIKI_ASYMMETRIC = 6,        /* asymmetric: row, column */
     KEMOTUIKI_NO_WIRING = 7,         /* no wiring: four images */
-    KEMOTUIKI_BAD_IMAGE = 8,         /* image outside 1..n; in the order call also first = last */
+    KEMOTUIKI_BAD_IMAGE = 8,         /* image outside 1..n, of an event the n that are left; in the order call also first = last */
     KEMOTUIKI_BYTES_END = 9,         /* stored bytes end early */
     KEMOTUIKI_BAD_ROW_COUNT = 10,    /* row count outside n..2n-3: count */
     KEMOTUIKI_FILL_NOT_ZERO = 11,    /* fill bits not zero */
@@ -110,7 +111,8 @@ enum KemotuikiForm {
 /*
  * What the calls answer. All structs begin alike: number is 0 where the call was accepted, else the refusal's number; table is
  * the table that was refused, in calls that take more than one, else 0; a, b, c, d are the refusal's places. Behind them stand
- * the values of an accepted call, 0 in a refusal. There is no padding, and the same answer always is the same bytes.
+ * the values of an accepted call, 0 in a refusal; a replay alone has values also where an event was refused. There is no padding,
+ * and the same answer always is the same bytes.
  */
 
 /* The index of a division, a signed number: what all choices of images support, or below 0 how far one speaks against it. */
@@ -176,6 +178,15 @@ typedef struct KemotuikiTree {
     size_t n, rows;
 } KemotuikiTree;
 
+/*
+ * Where a replay ended: the images that are left, the rows written, and the event that was refused, 0 where none was. Where the
+ * start was refused all three are 0.
+ */
+typedef struct KemotuikiReplay {
+    size_t number, table, a, b, c, d;
+    size_t images, rows, event;
+} KemotuikiReplay;
+
 KEMOTUIKI_ASSERT(kemotuiki_words_of_64_bits, sizeof(size_t) == 8);
 KEMOTUIKI_ASSERT(kemotuiki_index_size, sizeof(KemotuikiIndex) == 56);
 KEMOTUIKI_ASSERT(kemotuiki_order_size, sizeof(KemotuikiOrder) == 56);
@@ -187,6 +198,7 @@ KEMOTUIKI_ASSERT(kemotuiki_costs_size, sizeof(KemotuikiCosts) == 64);
 KEMOTUIKI_ASSERT(kemotuiki_links_size, sizeof(KemotuikiLinks) == 72);
 KEMOTUIKI_ASSERT(kemotuiki_choice_size, sizeof(KemotuikiChoice) == 64);
 KEMOTUIKI_ASSERT(kemotuiki_tree_size, sizeof(KemotuikiTree) == 64);
+KEMOTUIKI_ASSERT(kemotuiki_replay_size, sizeof(KemotuikiReplay) == 72);
 
 /*
  * The index of the division with the far side s. Above 0, all choices of images support the division, by at least so much, and the
@@ -272,6 +284,19 @@ KemotuikiComparison kemotuiki_compare(size_t n, const uint32_t *first, size_t fi
 KemotuikiRows kemotuiki_consensus(size_t n, size_t number, const uint32_t *tables, size_t tables_count,
                                   uint64_t *KEMOTUIKI_RESTRICT fars, size_t fars_count,
                                   uint32_t *KEMOTUIKI_RESTRICT costs, size_t costs_count);
+
+/*
+ * Images that leave, one by one. Each event is the number that the leaving image has by then; numbers above it drop by one, so that
+ * image 2 becomes image 1 where image 1 leaves. The rows start as the exact reading of t and are mended after each event: then they
+ * are the exact reading of the cost table of the images that are left. With no events they stay as they start.
+ * Answers the images that are left, and the rows written to fars and costs, which are those after the last event alone. Room: 2n-3
+ * places in each, for the n of the start. Refusals 1, 2, 3, 4, 5, 6, 7 of the start, where event is 0 and nothing is altered; then event
+ * by event 8, and 1, which names 2, where two would be left. The first event that is refused ends the replay, and those behind it are
+ * not looked at: event is its number, and images and rows, which are written as in an accepted call, are those before it.
+ */
+KemotuikiReplay kemotuiki_replay(size_t n, const uint32_t *t, size_t t_count, const uint8_t *events, size_t events_count,
+                                 uint64_t *KEMOTUIKI_RESTRICT fars, size_t fars_count,
+                                 uint32_t *KEMOTUIKI_RESTRICT costs, size_t costs_count);
 
 /*
  * The stored form of a cost table, in the form that is told.

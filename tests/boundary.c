@@ -3,8 +3,9 @@
  * exported. Every lent buffer stands between guard bytes, which are compared after the call, and every input is compared with
  * a copy. Each case of the exact reading is read by both its engines, which must answer and leave the same; what a conversion wrote is
  * converted once more, to the form that it has, and must stay; a Newick text that was written is read and one that was read is written,
- * and must be the same. boundary --edges tries null pointers with count 0, numbers too large for anything, the longest stored tables and
- * Newick text, Newick texts that were written by hand, and the text of every answer.
+ * and must be the same; the rows that a replay leaves must be those that the cost table of the images left is read as. boundary --edges
+ * tries null pointers with count 0, numbers too large for anything, the longest stored tables and Newick text, Newick texts and replays
+ * that were written by hand, the longest replays, and the text of every answer.
  */
 #include <errno.h>
 #include <stdio.h>
@@ -105,23 +106,31 @@ static uint8_t *read8(Lent *l) {
 /* ---- printing an answer and the lent outputs ---- */
 
 /*
- * The number and, of a refusal, its places; 1 where the call was accepted, and the caller prints the values. All answers are
- * words without padding: the fields by their names are compared with the words in front, and behind a refusal all words are 0.
+ * The number and, of a refusal, its places. All answers are words without padding: the fields by their names are compared with the
+ * words in front.
  */
-#define ANSWER(r, tables) answer(KEMOTUIKI_HEAD(r), &(r), sizeof(r) / sizeof(size_t), tables)
+#define SHOW_HEAD(r, tables) show_head(KEMOTUIKI_HEAD(r), &(r), tables)
 
-static int answer(size_t number, size_t table, size_t a, size_t b, size_t c, size_t d, const void *whole, size_t size, int tables) {
-    size_t named[6] = {number, table, a, b, c, d}, words[11];
-    memcpy(words, whole, size * sizeof(size_t));
-    if (memcmp(words, named, sizeof named)) fault("the head does not stand in front");
+static void show_head(size_t number, size_t table, size_t a, size_t b, size_t c, size_t d, const void *whole, int tables) {
+    size_t named[6] = {number, table, a, b, c, d};
+    if (memcmp(whole, named, sizeof named)) fault("the head does not stand in front");
     printf("%zu", number);
     if (!number) {
         if (table || a || b || c || d) fault("places beside an accepted answer");
-        return 1;
+        return;
     }
     if (tables) printf(" %zu", table);
     else if (table) fault("a table's number from a call with one table");
     printf(" %zu %zu %zu %zu", a, b, c, d);
+}
+
+/* The same, and behind a refusal all words are 0; 1 where the call was accepted, and the caller prints the values. */
+#define ANSWER(r, tables) (SHOW_HEAD(r, tables), no_values(&(r), sizeof(r) / sizeof(size_t)))
+
+static int no_values(const void *whole, size_t size) {
+    size_t words[11];
+    memcpy(words, whole, size * sizeof(size_t));
+    if (!words[0]) return 1;
     for (size_t i = 6; i < size; i++)
         if (words[i]) fault("a value beside a refusal");
     return 0;
@@ -140,6 +149,58 @@ static void show64(const uint64_t *p, size_t count) {
 static void show8(const uint8_t *p, size_t count) {
     printf(" %zu", count);
     for (size_t i = 0; i < count; i++) printf(" %u", p[i]);
+}
+
+/* ---- what many calls have in common ---- */
+
+/* The far sides and costs of a link table, or the room for one, as the four arguments that they are in every call. */
+typedef struct {
+    Lent lf, lc;
+    uint64_t *fars;
+    uint32_t *costs;
+} Rows;
+
+#define ROWS(w) (w).fars, (w).lf.count, (w).costs, (w).lc.count
+
+static void read_rows(Rows *w) {
+    w->fars = read64(&w->lf);
+    w->costs = read32(&w->lc);
+}
+
+static void lend_rows(Rows *w, size_t fars_count, size_t costs_count) {
+    w->fars = lend(&w->lf, fars_count, 8);
+    w->costs = lend(&w->lc, costs_count, 4);
+    keep(&w->lf);
+    keep(&w->lc);
+}
+
+static void settle_rows(Rows *w, size_t written) {
+    settle(&w->lf, written * 8);
+    settle(&w->lc, written * 4);
+}
+
+/* Rows that a call wrote, in the room that it was lent. */
+static void show_rows(Rows *w, size_t written) {
+    show64(w->fars, w->lf.count);
+    show32(w->costs, w->lc.count);
+    settle_rows(w, written);
+}
+
+/* The same of bytes, with the answer, and of 32 bits. */
+static void show_bytes(KemotuikiBytes r, int tables, Lent *lo) {
+    if (ANSWER(r, tables)) printf(" %zu", r.used);
+    show8(lo->block + GUARD, lo->count);
+    settle(lo, r.used);
+}
+
+static void show_places(Lent *lo, size_t written) {
+    show32((const uint32_t *)(lo->block + GUARD), lo->count);
+    settle(lo, written * 4);
+}
+
+/* Whether these rows are the first of the others. */
+static int same_rows(size_t rows, const uint64_t *fars, const uint32_t *costs, const Rows *w) {
+    return rows <= w->lf.count && rows <= w->lc.count && !memcmp(fars, w->fars, rows * 8) && !memcmp(costs, w->costs, rows * 4);
 }
 
 /* ---- the calls ---- */
@@ -162,9 +223,8 @@ static void do_order(void) {
     uint32_t *out = read32(&lo);
     KemotuikiOrder r = kemotuiki_order(n, t, lt.count, first, last, out, lo.count);
     if (ANSWER(r, 0)) printf(" %zu", r.images);
-    show32(out, lo.count);
+    show_places(&lo, r.images);
     settle(&lt, 0);
-    settle(&lo, r.images * 4);
 }
 
 typedef KemotuikiRows Reading(size_t, const uint32_t *, size_t, uint64_t *, size_t, uint32_t *, size_t);
@@ -178,33 +238,28 @@ static void *lend_again(Lent *l, const Lent *first, size_t width) {
 }
 
 /* The other engine reads the same table, with places of its own: it answers and leaves the same. */
-static void hold_engine(Reading *other, size_t n, const Lent *lt, const Lent *lf, const Lent *lc, KemotuikiRows r) {
-    Lent mf, mc;
-    uint64_t *fars = lend_again(&mf, lf, 8);
-    uint32_t *costs = lend_again(&mc, lc, 4);
-    KemotuikiRows s = other(n, (const uint32_t *)(lt->block + GUARD), lt->count, fars, mf.count, costs, mc.count);
+static void hold_engine(Reading *other, size_t n, const uint32_t *t, size_t t_count, const Rows *w, KemotuikiRows r) {
+    Rows v;
+    v.fars = lend_again(&v.lf, &w->lf, 8);
+    v.costs = lend_again(&v.lc, &w->lc, 4);
+    KemotuikiRows s = other(n, t, t_count, ROWS(v));
     if (memcmp(&s, &r, sizeof s)) fault("the two engines differ in the answer");
-    if (memcmp(fars, lf->block + GUARD, lf->bytes) || memcmp(costs, lc->block + GUARD, lc->bytes))
-        fault("the two engines differ in a place");
-    settle(&mf, s.rows * 8);
-    settle(&mc, s.rows * 4);
+    if (memcmp(v.fars, w->fars, w->lf.bytes) || memcmp(v.costs, w->costs, w->lc.bytes)) fault("the two engines differ in a place");
+    settle_rows(&v, s.rows);
 }
 
 /* What is printed is of the first call; the other one is null where there is one engine. */
 static void reading(Reading *call, Reading *other) {
-    Lent lt, lf, lc;
+    Lent lt;
+    Rows w;
     size_t n = number();
     uint32_t *t = read32(&lt);
-    uint64_t *fars = read64(&lf);
-    uint32_t *costs = read32(&lc);
-    KemotuikiRows r = call(n, t, lt.count, fars, lf.count, costs, lc.count);
-    if (other) hold_engine(other, n, &lt, &lf, &lc, r);
+    read_rows(&w);
+    KemotuikiRows r = call(n, t, lt.count, ROWS(w));
+    if (other) hold_engine(other, n, t, lt.count, &w, r);
     if (ANSWER(r, 0)) printf(" %zu", r.rows);
-    show64(fars, lf.count);
-    show32(costs, lc.count);
+    show_rows(&w, r.rows);
     settle(&lt, 0);
-    settle(&lf, r.rows * 8);
-    settle(&lc, r.rows * 4);
 }
 
 static void do_measured(void) { reading(kemotuiki_measured, NULL); }
@@ -212,43 +267,38 @@ static void do_exact(void) { reading(kemotuiki_exact, kemotuiki_exact_grafted); 
 static void do_exact_grafted(void) { reading(kemotuiki_exact_grafted, kemotuiki_exact); }
 
 static void do_path(void) {
-    Lent lf, lc;
+    Rows w;
     size_t n = number(), count = number();
-    uint64_t *fars = read64(&lf);
-    uint32_t *costs = read32(&lc);
+    read_rows(&w);
     size_t i = number(), j = number();
-    KemotuikiPath r = kemotuiki_path(n, count, fars, lf.count, costs, lc.count, i, j);
+    KemotuikiPath r = kemotuiki_path(n, count, ROWS(w), i, j);
     if (ANSWER(r, 0)) printf(" %zu", r.cost);
-    settle(&lf, 0);
-    settle(&lc, 0);
+    settle_rows(&w, 0);
 }
 
 static void do_upper_rows(void) {
-    Lent lf, lc, lo;
+    Rows w;
+    Lent lo;
     size_t n = number(), count = number();
-    uint64_t *fars = read64(&lf);
-    uint32_t *costs = read32(&lc), *out = read32(&lo);
-    KemotuikiRows r = kemotuiki_upper_rows(n, count, fars, lf.count, costs, lc.count, out, lo.count);
+    read_rows(&w);
+    uint32_t *out = read32(&lo);
+    KemotuikiRows r = kemotuiki_upper_rows(n, count, ROWS(w), out, lo.count);
     if (ANSWER(r, 0)) printf(" %zu", r.rows);
-    show32(out, lo.count);
-    settle(&lf, 0);
-    settle(&lc, 0);
-    settle(&lo, r.rows * 4);
+    show_places(&lo, r.rows);
+    settle_rows(&w, 0);
 }
 
 static void do_route(void) {
-    Lent lf, lc, lo;
+    Rows w;
+    Lent lo;
     size_t n = number(), count = number();
-    uint64_t *fars = read64(&lf);
-    uint32_t *costs = read32(&lc);
+    read_rows(&w);
     size_t i = number();
     uint32_t *out = read32(&lo);
-    KemotuikiRows r = kemotuiki_route(n, count, fars, lf.count, costs, lc.count, i, out, lo.count);
+    KemotuikiRows r = kemotuiki_route(n, count, ROWS(w), i, out, lo.count);
     if (ANSWER(r, 0)) printf(" %zu", r.rows);
-    show32(out, lo.count);
-    settle(&lf, 0);
-    settle(&lc, 0);
-    settle(&lo, r.rows * 4);
+    show_places(&lo, r.rows);
+    settle_rows(&w, 0);
 }
 
 static void do_compare(void) {
@@ -262,18 +312,55 @@ static void do_compare(void) {
 }
 
 static void do_consensus(void) {
-    Lent lt, lf, lc;
+    Lent lt;
+    Rows w;
     size_t n = number(), tables = number();
     uint32_t *t = read32(&lt);
-    uint64_t *fars = read64(&lf);
-    uint32_t *costs = read32(&lc);
-    KemotuikiRows r = kemotuiki_consensus(n, tables, t, lt.count, fars, lf.count, costs, lc.count);
+    read_rows(&w);
+    KemotuikiRows r = kemotuiki_consensus(n, tables, t, lt.count, ROWS(w));
     if (ANSWER(r, 1)) printf(" %zu", r.rows);
-    show64(fars, lf.count);
-    show32(costs, lc.count);
+    show_rows(&w, r.rows);
     settle(&lt, 0);
-    settle(&lf, r.rows * 8);
-    settle(&lc, r.rows * 4);
+}
+
+/* What a replay left is what the cost table of the images that are left is read as, in just enough room. */
+static void hold_replay(size_t n, const uint32_t *t, const uint8_t *events, size_t taken, const Rows *w, KemotuikiReplay r) {
+    static uint32_t smaller[KEMOTUIKI_IMAGES * KEMOTUIKI_IMAGES];
+    Rows v;
+    size_t left[KEMOTUIKI_IMAGES], images = n;
+    for (size_t i = 0; i < n; i++) left[i] = i;
+    for (size_t k = 0; k < taken; k++, images--) {
+        if (events[k] < 1 || events[k] > images || images == 3) {
+            fault("an event that has to be refused was taken");
+            return;
+        }
+        memmove(left + events[k] - 1, left + events[k], (images - events[k]) * sizeof *left);
+    }
+    for (size_t i = 0; i < images; i++)
+        for (size_t j = 0; j < images; j++) smaller[i * images + j] = t[left[i] * n + left[j]];
+    lend_rows(&v, 2 * images - 3, 2 * images - 3);
+    KemotuikiRows s = kemotuiki_exact_grafted(images, smaller, images * images, ROWS(v));
+    if (r.images != images || s.number || s.rows != r.rows || !same_rows(s.rows, v.fars, v.costs, w))
+        fault("what is left is not the exact reading of the smaller table");
+    settle_rows(&v, s.rows);
+}
+
+/* The values stand beside the refusal of an event, which ends the replay. */
+static void do_replay(void) {
+    Lent lt, le;
+    Rows w;
+    size_t n = number();
+    uint32_t *t = read32(&lt);
+    uint8_t *events = read8(&le);
+    read_rows(&w);
+    KemotuikiReplay r = kemotuiki_replay(n, t, lt.count, events, le.count, ROWS(w));
+    SHOW_HEAD(r, 0);
+    printf(" %zu %zu %zu", r.images, r.rows, r.event);
+    if (r.number ? r.event > le.count || (!r.event && (r.images || r.rows)) : r.event) fault("values that such an answer has not");
+    else if (!r.number || r.event) hold_replay(n, t, events, r.number ? r.event - 1 : le.count, &w, r);
+    show_rows(&w, r.rows);
+    settle(&lt, 0);
+    settle(&le, 0);
 }
 
 static void do_write_costs(void) {
@@ -281,11 +368,8 @@ static void do_write_costs(void) {
     size_t form = number(), n = number();
     uint32_t *t = read32(&lt);
     uint8_t *out = read8(&lo);
-    KemotuikiBytes r = kemotuiki_write_costs(form, n, t, lt.count, out, lo.count);
-    if (ANSWER(r, 0)) printf(" %zu", r.used);
-    show8(out, lo.count);
+    show_bytes(kemotuiki_write_costs(form, n, t, lt.count, out, lo.count), 0, &lo);
     settle(&lt, 0);
-    settle(&lo, r.used);
 }
 
 static void do_read_costs(void) {
@@ -295,55 +379,43 @@ static void do_read_costs(void) {
     uint32_t *out = read32(&lo);
     KemotuikiCosts r = kemotuiki_read_costs(bytes, lb.count, position, out, lo.count);
     if (ANSWER(r, 0)) printf(" %zu %zu", r.n, r.used);
-    show32(out, lo.count);
+    show_places(&lo, r.n * r.n);
     settle(&lb, 0);
-    settle(&lo, r.n * r.n * 4);
 }
 
 static void do_write_links(void) {
-    Lent lf, lc, lo;
+    Rows w;
+    Lent lo;
     size_t form = number(), n = number(), count = number();
-    uint64_t *fars = read64(&lf);
-    uint32_t *costs = read32(&lc);
+    read_rows(&w);
     uint8_t *out = read8(&lo);
-    KemotuikiBytes r = kemotuiki_write_links(form, n, count, fars, lf.count, costs, lc.count, out, lo.count);
-    if (ANSWER(r, 0)) printf(" %zu", r.used);
-    show8(out, lo.count);
-    settle(&lf, 0);
-    settle(&lc, 0);
-    settle(&lo, r.used);
+    show_bytes(kemotuiki_write_links(form, n, count, ROWS(w), out, lo.count), 0, &lo);
+    settle_rows(&w, 0);
 }
 
 static void do_read_links(void) {
-    Lent lb, lf, lc;
+    Lent lb;
+    Rows w;
     uint8_t *bytes = read8(&lb);
     size_t position = number();
-    uint64_t *fars = read64(&lf);
-    uint32_t *costs = read32(&lc);
-    KemotuikiLinks r = kemotuiki_read_links(bytes, lb.count, position, fars, lf.count, costs, lc.count);
+    read_rows(&w);
+    KemotuikiLinks r = kemotuiki_read_links(bytes, lb.count, position, ROWS(w));
     if (ANSWER(r, 0)) printf(" %zu %zu %zu", r.n, r.rows, r.used);
-    show64(fars, lf.count);
-    show32(costs, lc.count);
+    show_rows(&w, r.rows);
     settle(&lb, 0);
-    settle(&lf, r.rows * 8);
-    settle(&lc, r.rows * 4);
 }
 
 static void do_write_batch(void) {
-    Lent ln, lm, lf, lc, lo;
+    Lent ln, lm, lo;
+    Rows w;
     size_t form = number();
     uint32_t *ns = read32(&ln), *counts = read32(&lm);
-    uint64_t *fars = read64(&lf);
-    uint32_t *costs = read32(&lc);
+    read_rows(&w);
     uint8_t *out = read8(&lo);
-    KemotuikiBytes r = kemotuiki_write_batch(form, ns, ln.count, counts, lm.count, fars, lf.count, costs, lc.count, out, lo.count);
-    if (ANSWER(r, 1)) printf(" %zu", r.used);
-    show8(out, lo.count);
+    show_bytes(kemotuiki_write_batch(form, ns, ln.count, counts, lm.count, ROWS(w), out, lo.count), 1, &lo);
     settle(&ln, 0);
     settle(&lm, 0);
-    settle(&lf, 0);
-    settle(&lc, 0);
-    settle(&lo, r.used);
+    settle_rows(&w, 0);
 }
 
 static void do_choice(void) {
@@ -367,8 +439,6 @@ static void conversion(Conversion *call) {
     size_t form = number();
     uint8_t *bytes = read8(&lb), *out = read8(&lo);
     KemotuikiBytes r = call(form, bytes, lb.count, out, lo.count);
-    if (ANSWER(r, 0)) printf(" %zu", r.used);
-    show8(out, lo.count);
     if (!r.number) {
         uint8_t *again = lend(&la, r.used, 1);
         keep(&la);
@@ -376,8 +446,8 @@ static void conversion(Conversion *call) {
         if (s.number || s.used != r.used || memcmp(again, out, r.used)) fault("converted to its own form, it is not the same");
         settle(&la, s.used);
     }
+    show_bytes(r, 0, &lo);
     settle(&lb, 0);
-    settle(&lo, r.used);
 }
 
 static void do_convert_costs(void) { conversion(kemotuiki_convert_costs); }
@@ -385,51 +455,41 @@ static void do_convert_links(void) { conversion(kemotuiki_convert_links); }
 
 /* The rows of a table that was written as this text, or read from it, go into the same text in just enough room, and back. */
 static void hold_newick(size_t n, size_t rows, const uint64_t *fars, const uint32_t *costs, const char *text, size_t used) {
-    Lent lt, lf, lc;
+    Lent lt;
+    Rows w;
     char *again = lend(&lt, used, 1);
     keep(&lt);
-    KemotuikiBytes w = kemotuiki_write_newick(n, rows, fars, rows, costs, rows, again, used);
-    if (w.number || w.used != used || memcmp(again, text, used)) fault("its rows are not written as the same text");
-    settle(&lt, w.used);
-    uint64_t *fars_again = lend(&lf, 2 * n - 3, 8);
-    uint32_t *costs_again = lend(&lc, 2 * n - 3, 4);
-    keep(&lf);
-    keep(&lc);
-    KemotuikiTree r = kemotuiki_read_newick(text, used, fars_again, lf.count, costs_again, lc.count);
-    if (r.number || r.n != n || r.rows != rows || memcmp(fars_again, fars, rows * 8) || memcmp(costs_again, costs, rows * 4))
-        fault("its text is not read as the same rows");
-    settle(&lf, r.rows * 8);
-    settle(&lc, r.rows * 4);
+    KemotuikiBytes b = kemotuiki_write_newick(n, rows, fars, rows, costs, rows, again, used);
+    if (b.number || b.used != used || memcmp(again, text, used)) fault("its rows are not written as the same text");
+    settle(&lt, b.used);
+    lend_rows(&w, 2 * n - 3, 2 * n - 3);
+    KemotuikiTree r = kemotuiki_read_newick(text, used, ROWS(w));
+    if (r.number || r.n != n || r.rows != rows || !same_rows(rows, fars, costs, &w)) fault("its text is not read as the same rows");
+    settle_rows(&w, r.rows);
 }
 
 static void do_write_newick(void) {
-    Lent lf, lc, lo;
+    Rows w;
+    Lent lo;
     size_t n = number(), count = number();
-    uint64_t *fars = read64(&lf);
-    uint32_t *costs = read32(&lc);
-    uint8_t *out = read8(&lo);
-    KemotuikiBytes r = kemotuiki_write_newick(n, count, fars, lf.count, costs, lc.count, (char *)out, lo.count);
-    if (ANSWER(r, 0)) printf(" %zu", r.used);
-    show8(out, lo.count);
-    if (!r.number) hold_newick(n, count, fars, costs, (char *)out, r.used);
-    settle(&lf, 0);
-    settle(&lc, 0);
-    settle(&lo, r.used);
+    read_rows(&w);
+    char *out = (char *)read8(&lo);
+    KemotuikiBytes r = kemotuiki_write_newick(n, count, ROWS(w), out, lo.count);
+    if (!r.number) hold_newick(n, count, w.fars, w.costs, out, r.used);
+    show_bytes(r, 0, &lo);
+    settle_rows(&w, 0);
 }
 
 static void do_read_newick(void) {
-    Lent lt, lf, lc;
-    uint8_t *text = read8(&lt);
-    uint64_t *fars = read64(&lf);
-    uint32_t *costs = read32(&lc);
-    KemotuikiTree r = kemotuiki_read_newick((char *)text, lt.count, fars, lf.count, costs, lc.count);
+    Lent lt;
+    Rows w;
+    char *text = (char *)read8(&lt);
+    read_rows(&w);
+    KemotuikiTree r = kemotuiki_read_newick(text, lt.count, ROWS(w));
     if (ANSWER(r, 0)) printf(" %zu %zu", r.n, r.rows);
-    show64(fars, lf.count);
-    show32(costs, lc.count);
-    if (!r.number) hold_newick(r.n, r.rows, fars, costs, (char *)text, lt.count);
+    if (!r.number) hold_newick(r.n, r.rows, w.fars, w.costs, text, lt.count);
+    show_rows(&w, r.rows);
     settle(&lt, 0);
-    settle(&lf, r.rows * 8);
-    settle(&lc, r.rows * 4);
 }
 
 static void do_refusal_text(void) {
@@ -437,10 +497,7 @@ static void do_refusal_text(void) {
     size_t head[6];
     for (int i = 0; i < 6; i++) head[i] = number();
     uint8_t *out = read8(&lo);
-    KemotuikiBytes r = kemotuiki_refusal_text(head[0], head[1], head[2], head[3], head[4], head[5], (char *)out, lo.count);
-    if (ANSWER(r, 0)) printf(" %zu", r.used);
-    show8(out, lo.count);
-    settle(&lo, r.used);
+    show_bytes(kemotuiki_refusal_text(head[0], head[1], head[2], head[3], head[4], head[5], (char *)out, lo.count), 0, &lo);
 }
 
 static const struct {
@@ -454,6 +511,7 @@ static const struct {
     {"write_batch", do_write_batch}, {"choice", do_choice},       {"refusal_text", do_refusal_text},
     {"consensus", do_consensus},   {"exact_grafted", do_exact_grafted}, {"convert_costs", do_convert_costs},
     {"convert_links", do_convert_links}, {"write_newick", do_write_newick}, {"read_newick", do_read_newick},
+    {"replay", do_replay},
 };
 
 static int cases(const char *folder) {
@@ -515,6 +573,7 @@ static void no_images(void) {
         EXPECT(KemotuikiBytes, write_newick, (n, n, NULL, 0, NULL, 0, NULL, 0), KEMOTUIKI_BAD_N, n, 0);
         EXPECT(KemotuikiComparison, compare, (n, NULL, 0, NULL, 0), KEMOTUIKI_BAD_N, n, 0);
         EXPECT(KemotuikiRows, consensus, (n, n, NULL, 0, NULL, 0, NULL, 0), KEMOTUIKI_BAD_N, n, 0);
+        EXPECT(KemotuikiReplay, replay, (n, NULL, 0, NULL, 0, NULL, 0, NULL, 0), KEMOTUIKI_BAD_N, n, 0);
         for (size_t f = 0; f < sizeof forms / sizeof *forms; f++) {
             EXPECT(KemotuikiBytes, write_costs, (forms[f], n, NULL, 0, NULL, 0), KEMOTUIKI_BAD_N, n, 0);
             EXPECT(KemotuikiBytes, write_links, (forms[f], n, n, NULL, 0, NULL, 0, NULL, 0), KEMOTUIKI_BAD_N, n, 0);
@@ -544,6 +603,7 @@ static void no_places(void) {
         EXPECT(KemotuikiComparison, compare, (n, NULL, 0, NULL, 0), KEMOTUIKI_BAD_LENGTH, 0, 1);
         EXPECT(KemotuikiRows, consensus, (n, 1, NULL, 0, NULL, 0, NULL, 0), KEMOTUIKI_BAD_LENGTH, 0, 0);
         EXPECT(KemotuikiRows, consensus, (n, KEMOTUIKI_TABLES, NULL, 0, NULL, 0, NULL, 0), KEMOTUIKI_BAD_LENGTH, 0, 0);
+        EXPECT(KemotuikiReplay, replay, (n, NULL, 0, NULL, 0, NULL, 0, NULL, 0), KEMOTUIKI_BAD_LENGTH, 0, 0);
     }
 }
 
@@ -656,23 +716,20 @@ static const struct {
 static void newick_texts(void) {
     for (size_t k = 0; k < sizeof newicks / sizeof *newicks; k++) {
         size_t length = strlen(newicks[k].text), number = newicks[k].number, n = newicks[k].n;
-        Lent lt, lf, lc;
+        Lent lt;
+        Rows w;
         call_name = newicks[k].text;
         char *text = memcpy(lend(&lt, length, 1), newicks[k].text, length);
         keep(&lt);
         for (size_t short_by = 0; short_by < (number ? 1 : 3); short_by++) {
             size_t room = number ? KEMOTUIKI_ROWS : 2 * n - 3;
-            uint64_t *fars = lend(&lf, room - (short_by == 1), 8);
-            uint32_t *costs = lend(&lc, room - (short_by == 2), 4);
-            keep(&lf);
-            keep(&lc);
-            KemotuikiTree r = kemotuiki_read_newick(text, length, fars, lf.count, costs, lc.count);
+            lend_rows(&w, room - (short_by == 1), room - (short_by == 2));
+            KemotuikiTree r = kemotuiki_read_newick(text, length, ROWS(w));
             KemotuikiTree want = {number, 0, newicks[k].place, 0, 0, 0, n, newicks[k].rows};
             KemotuikiTree no_room = {KEMOTUIKI_NO_ROOM, 0, 0, 0, 0, 0, 0, 0};
             if (memcmp(&r, short_by ? &no_room : &want, sizeof r)) fault("not what is answered to this text");
-            if (!r.number) hold_newick(r.n, r.rows, fars, costs, text, length);
-            settle(&lf, r.rows * 8);
-            settle(&lc, r.rows * 4);
+            if (!r.number) hold_newick(r.n, r.rows, w.fars, w.costs, text, length);
+            settle_rows(&w, r.rows);
         }
         settle(&lt, 0);
     }
@@ -709,6 +766,96 @@ static void longest_newick(void) {
     EXPECT(KemotuikiTree, read_newick, (text, length + 1, NULL, 0, NULL, 0), KEMOTUIKI_OUTSIDE_PROFILE, length + 1, 0);
     text[length] = '9';
     EXPECT(KemotuikiTree, read_newick, (text, length + 1, NULL, 0, NULL, 0), KEMOTUIKI_OUTSIDE_PROFILE, length + 2, 0);
+}
+
+/* ---- images that leave ---- */
+
+/* Two tables of document 01, and five images of which 2 and 4 share a switch. */
+static const uint32_t three[] = {0, 1, 1, 1, 0, 1, 1, 1, 0};
+static const uint32_t four[] = {0, 2, 4, 4, 2, 0, 4, 4, 4, 4, 0, 2, 4, 4, 2, 0};
+static const uint32_t five[] = {0, 4, 2, 4, 2, 4, 0, 4, 2, 4, 2, 4, 0, 4, 2, 4, 2, 4, 0, 4, 2, 4, 2, 4, 0};
+
+/* Replays, and what is answered to each: the refusal of an event and its place, the images and rows that are left, and the event. */
+static const struct {
+    size_t n;
+    const uint32_t *t;
+    size_t count;
+    uint8_t events[4];
+    size_t number, place, images, rows, event;
+    uint64_t fars[6];
+    uint32_t costs[6];
+} replays[] = {
+    {3, three, 0, {0}, 0, 0, 3, 3, 0, {2, 4, 6}, {1, 1, 1}},
+    {3, three, 1, {1}, KEMOTUIKI_BAD_N, 2, 3, 3, 1, {2, 4, 6}, {1, 1, 1}},
+    {3, three, 1, {3}, KEMOTUIKI_BAD_N, 2, 3, 3, 1, {2, 4, 6}, {1, 1, 1}},
+    {3, three, 2, {4, 1}, KEMOTUIKI_BAD_IMAGE, 0, 3, 3, 1, {2, 4, 6}, {1, 1, 1}},
+    {3, three, 1, {0}, KEMOTUIKI_BAD_IMAGE, 0, 3, 3, 1, {2, 4, 6}, {1, 1, 1}},
+    {4, four, 0, {0}, 0, 0, 4, 5, 0, {2, 4, 8, 12, 14}, {2, 2, 2, 4, 2}},
+    {4, four, 1, {1}, 0, 0, 3, 3, 0, {2, 4, 6}, {2, 2, 6}},
+    {4, four, 1, {2}, 0, 0, 3, 3, 0, {2, 4, 6}, {2, 2, 6}},
+    {4, four, 1, {3}, 0, 0, 3, 3, 0, {2, 4, 6}, {2, 6, 2}},
+    {4, four, 1, {4}, 0, 0, 3, 3, 0, {2, 4, 6}, {2, 6, 2}},
+    {4, four, 1, {5}, KEMOTUIKI_BAD_IMAGE, 0, 4, 5, 1, {2, 4, 8, 12, 14}, {2, 2, 2, 4, 2}},
+    {4, four, 2, {1, 3}, KEMOTUIKI_BAD_N, 2, 3, 3, 2, {2, 4, 6}, {2, 2, 6}},
+    {4, four, 3, {1, 4, 1}, KEMOTUIKI_BAD_IMAGE, 0, 3, 3, 2, {2, 4, 6}, {2, 2, 6}},
+    {4, four, 4, {255, 1, 1, 0}, KEMOTUIKI_BAD_IMAGE, 0, 4, 5, 1, {2, 4, 8, 12, 14}, {2, 2, 2, 4, 2}},
+    {5, five, 0, {0}, 0, 0, 5, 6, 0, {2, 4, 8, 10, 16, 30}, {2, 2, 2, 4, 2, 2}},
+    {5, five, 1, {1}, 0, 0, 4, 5, 0, {2, 4, 8, 10, 14}, {2, 2, 2, 4, 2}},
+    {5, five, 1, {2}, 0, 0, 4, 4, 0, {2, 4, 8, 14}, {2, 6, 2, 2}},
+    {5, five, 1, {4}, 0, 0, 4, 4, 0, {2, 4, 8, 14}, {6, 2, 2, 2}},
+    {5, five, 2, {1, 3}, 0, 0, 3, 3, 0, {2, 4, 6}, {2, 2, 6}},
+    {5, five, 2, {5, 5}, KEMOTUIKI_BAD_IMAGE, 0, 4, 5, 2, {2, 4, 8, 10, 14}, {2, 2, 2, 4, 2}},
+    {5, five, 3, {1, 3, 3}, KEMOTUIKI_BAD_N, 2, 3, 3, 3, {2, 4, 6}, {2, 2, 6}},
+    {5, five, 4, {1, 3, 4, 9}, KEMOTUIKI_BAD_IMAGE, 0, 3, 3, 3, {2, 4, 6}, {2, 2, 6}},
+};
+
+/* Each of them in just enough room, and with one place less of either kind, where the start is refused; without events, they are null. */
+static void replays_by_hand(void) {
+    call_name = "replay";
+    for (size_t k = 0; k < sizeof replays / sizeof *replays; k++)
+        for (size_t short_by = 0; short_by < 3; short_by++) {
+            size_t n = replays[k].n, room = 2 * n - 3, count = replays[k].count;
+            Lent le;
+            Rows w;
+            uint8_t *events = memcpy(lend(&le, count, 1), replays[k].events, count);
+            keep(&le);
+            lend_rows(&w, room - (short_by == 1), room - (short_by == 2));
+            KemotuikiReplay r = kemotuiki_replay(n, replays[k].t, n * n, count ? events : NULL, count, ROWS(w));
+            KemotuikiReplay want = {replays[k].number, 0, replays[k].place, 0, 0, 0, replays[k].images, replays[k].rows, replays[k].event};
+            KemotuikiReplay no_room = {KEMOTUIKI_NO_ROOM, 0, 0, 0, 0, 0, 0, 0, 0};
+            if (memcmp(&r, short_by ? &no_room : &want, sizeof r) || !same_rows(r.rows, replays[k].fars, replays[k].costs, &w))
+                fprintf(stderr, "%s: not what is answered to line %zu\n", call_name, k + 1), faults++;
+            settle(&le, 0);
+            settle_rows(&w, r.rows);
+        }
+}
+
+/*
+ * All images but three leave a line of 64 that is as long as an entry may be, so that own links cost 0 and joined rows cost up to the
+ * limit: always the first, always the last, or one in between. Every trace is replayed up to each of its events, and two further than
+ * the one that is refused.
+ */
+static void longest_replays(void) {
+    static uint32_t t[KEMOTUIKI_IMAGES * KEMOTUIKI_IMAGES];
+    const size_t n = KEMOTUIKI_IMAGES, most = n - 3, step = KEMOTUIKI_ENTRY_LIMIT / (n - 1);
+    uint8_t events[KEMOTUIKI_IMAGES];
+    call_name = "the longest replays";
+    for (size_t i = 0; i < n; i++)
+        for (size_t j = 0; j < i; j++) t[i * n + j] = t[j * n + i] = (uint32_t)(i < n - 1 ? (i - j) * step : KEMOTUIKI_ENTRY_LIMIT - j * step);
+    for (size_t kind = 0; kind < 3; kind++) {
+        for (size_t k = 0; k < n; k++) events[k] = (uint8_t)(kind == 0 || k > most ? 1 : kind == 1 ? n - k : 1 + 37 * k % (n - k));
+        for (size_t count = 0; count <= n; count++) {
+            size_t taken = count < most ? count : most;
+            Rows w;
+            lend_rows(&w, KEMOTUIKI_ROWS, KEMOTUIKI_ROWS);
+            KemotuikiReplay r = kemotuiki_replay(n, t, n * n, events, count, ROWS(w));
+            KemotuikiReplay want = {0, 0, 0, 0, 0, 0, n - taken, r.rows, 0};
+            if (count > most) want.number = KEMOTUIKI_BAD_N, want.a = 2, want.event = most + 1;
+            if (memcmp(&r, &want, sizeof r)) fault("not as many images are left, or another event was refused");
+            hold_replay(n, t, events, taken, &w, r);
+            settle_rows(&w, r.rows);
+        }
+    }
 }
 
 /* ---- the text of an answer ---- */
@@ -781,6 +928,8 @@ static int edges(void) {
     longest_tables();
     newick_texts();
     longest_newick();
+    replays_by_hand();
+    longest_replays();
     text_of_answers();
     return faults ? 1 : 0;
 }

@@ -4,7 +4,7 @@
 !                              Fortran, such as a table with fewer entries than its n asks for, has the line "-" instead.
 !   fortran --by-hand VERSION  compares the version, the texts of all refusals, the room for each stored form and for Newick text, and
 !                              what only Fortran can say: tables by rows, tables of another shape, teams of rank 3, sections, integers
-!                              of either kind, and text in character variables.
+!                              of either kind, events that no byte holds, and text in character variables.
 !
 ! What is wrong is printed; then the status is 1.
 
@@ -15,7 +15,7 @@ module case_text
     implicit none
     private
     public :: number, small_number, fits, slice8, slice32, slice64, slice_text, table, read_table, read_team, read_rows, can_be_said
-    public :: put_answer, put, note_far_sides, fault, faults, answers, run
+    public :: put_answer, put_values, put, put_rows, fault, faults, answers, run, note_far_sides
 
     integer, parameter :: line_room = 150000
     character(line_room) :: line
@@ -223,9 +223,7 @@ contains
         if (present(tables)) first = 1
         write (answers, '(i0)', advance='no') r%number
         if (r%accepted()) then
-            do k = 1, size(values)
-                write (answers, '(1x, i0)', advance='no') values(k)
-            end do
+            call put_values(values)
             if (any(places /= 0)) call fault('places beside an accepted answer')
         else
             do k = first, 5
@@ -235,6 +233,25 @@ contains
             if (any(places(:first - 1) /= 0)) call fault("a table's number from a call with one table")
         end if
         answered(r%number) = .true.
+    end subroutine
+
+    subroutine put_values(values)
+        integer(int64), intent(in) :: values(:)
+        integer :: k
+        do k = 1, size(values)
+            write (answers, '(1x, i0)', advance='no') values(k)
+        end do
+    end subroutine
+
+    ! The lent rows of a call that wrote so many, over n images, as it left them.
+    subroutine put_rows(r, n, rows, fars, costs)
+        class(kemotuiki_answer), intent(in) :: r
+        integer, intent(in) :: n, rows
+        integer(int64), intent(in) :: fars(:)
+        integer(int32), intent(in) :: costs(:)
+        call put64(fars)
+        call put32(costs)
+        call note_far_sides(r, n, fars(:rows))
     end subroutine
 
     subroutine note_far_sides(r, n, fars)
@@ -281,7 +298,8 @@ contains
 end module
 
 ! One subroutine a call: the arguments from the line, then the answer and every lent output as it was left. A case of the exact reading
-! is read by both its engines, what a conversion wrote is converted once more, and a Newick text is read and written again.
+! is read by both its engines, what a conversion wrote is converted once more, a Newick text is read and written again, and what a replay
+! leaves is compared with the exact reading of the images that are left.
 module case_calls
     use, intrinsic :: iso_fortran_env, only: int8, int32, int64
     use kemotuiki
@@ -331,6 +349,7 @@ contains
         call run('convert_links', do_convert_links, folder, [1, 3, 9, 10, 11, 12, 13, 17])
         call run('write_newick', do_write_newick, folder, [1, 2, 3, 10, 12, 13], far_sides=.true.)
         call run('read_newick', do_read_newick, folder, [1, 3, 12, 13, 18, 22], far_sides=.true.)
+        call run('replay', do_replay, folder, [1, 2, 3, 4, 5, 6, 7, 8], far_sides=.true.)
     end subroutine
 
     ! With a far side that is a default integer, where it can be one.
@@ -415,9 +434,7 @@ contains
         integer(int64), intent(in) :: fars(:)
         integer(int32), intent(in) :: costs(:)
         call put_answer(r, [integer(int64) :: r%rows])
-        call put(fars)
-        call put(costs)
-        call note_far_sides(r, n, fars(:r%rows))
+        call put_rows(r, n, r%rows, fars, costs)
     end subroutine
 
     subroutine do_path()
@@ -491,9 +508,55 @@ contains
         if (.not. can_be_said) return
         r = kemotuiki_consensus(tables, fars, costs)
         call put_answer(r, [integer(int64) :: r%rows], tables=.true.)
-        call put(fars)
-        call put(costs)
-        call note_far_sides(r, n, fars(:r%rows))
+        call put_rows(r, n, r%rows, fars, costs)
+    end subroutine
+
+    ! The values stand beside the refusal of an event, which ends the replay. The events are bytes, and once more default integers.
+    subroutine do_replay()
+        type(kemotuiki_replay_answer) :: r, again
+        integer(int32), allocatable :: t(:, :), costs(:), costs_again(:)
+        integer(int64), allocatable :: fars(:), fars_again(:)
+        integer(int8), allocatable :: events(:)
+        integer :: n, taken
+        call read_table(n, t)
+        events = slice8()
+        fars = slice64()
+        costs = slice32()
+        if (.not. can_be_said) return
+        fars_again = fars
+        costs_again = costs
+        r = kemotuiki_replay(t, events, fars, costs)
+        again = kemotuiki_replay(t, iand(int(events), 255), fars_again, costs_again)
+        if (again%number /= r%number .or. any([again%images, again%rows, again%event] /= [r%images, r%rows, r%event]) &
+            .or. any(fars_again /= fars) .or. any(costs_again /= costs)) call fault('events of the two kinds differ')
+        taken = merge(size(events), r%event - 1, r%accepted())
+        if (taken >= 0) call hold_left(t, iand(int(events(:taken)), 255), r, fars, costs)
+        if (taken < 0 .and. r%images + r%rows > 0) call fault('values beside the refusal of a start')
+        call put_answer(r, [integer(int64) ::])
+        call put_values([integer(int64) :: r%images, r%rows, r%event])
+        call put_rows(r, r%images, r%rows, fars, costs)
+    end subroutine
+
+    ! The rows are the exact reading of the images that are left.
+    subroutine hold_left(t, events, r, fars, costs)
+        integer(int32), intent(in) :: t(:, :), costs(:)
+        integer, intent(in) :: events(:)
+        type(kemotuiki_replay_answer), intent(in) :: r
+        integer(int64), intent(in) :: fars(:)
+        type(kemotuiki_rows_answer) :: anew
+        integer(int64) :: fars_anew(kemotuiki_rows)
+        integer(int32) :: costs_anew(kemotuiki_rows)
+        integer, allocatable :: left(:)
+        integer :: k
+        logical :: same
+        left = [(k, k = 1, size(t, 1))]
+        do k = 1, size(events)
+            left = [left(:events(k) - 1), left(events(k) + 1:)]
+        end do
+        anew = kemotuiki_exact_grafted(t(left, left), fars_anew, costs_anew)
+        same = r%images == size(left) .and. anew%accepted() .and. anew%rows == r%rows
+        if (same) same = all(fars_anew(:r%rows) == fars(:r%rows)) .and. all(costs_anew(:r%rows) == costs(:r%rows))
+        if (.not. same) call fault('what is left is not the exact reading of the smaller table')
     end subroutine
 
     subroutine do_write_costs()
@@ -571,9 +634,7 @@ contains
             r = kemotuiki_read_links(bytes, position, fars, costs)
         end if
         call put_answer(r, [integer(int64) :: r%n, r%rows, r%used])
-        call put(fars)
-        call put(costs)
-        call note_far_sides(r, r%n, fars(:r%rows))
+        call put_rows(r, r%n, r%rows, fars, costs)
     end subroutine
 
     subroutine do_write_batch()
@@ -650,9 +711,7 @@ contains
         r = kemotuiki_read_newick(text, fars, costs)
         if (r%accepted()) call both_ways(r%n, fars(:r%rows), costs(:r%rows), text)
         call put_answer(r, [integer(int64) :: r%n, r%rows])
-        call put(fars)
-        call put(costs)
-        call note_far_sides(r, r%n, fars(:r%rows))
+        call put_rows(r, r%n, r%rows, fars, costs)
     end subroutine
 
     ! The rows are written as this text, and the text is read as these rows.
@@ -718,6 +777,7 @@ contains
         call stored_in_a_corner()
         call stored_forms()
         call newick_texts()
+        call replays()
         call sections()
         faults = wrong
     end subroutine
@@ -799,6 +859,7 @@ contains
         call hold('compare by rows, first table', refused_at(kemotuiki_compare(t, star(6)), 1, 2, 5))
         call hold('compare by rows, second table', refused_at(kemotuiki_compare(star(6), t), 2, 2, 5))
         call hold('consensus by rows, third table', refused_at(kemotuiki_consensus(stars_and(t), fars, costs), 3, 2, 5))
+        call hold('replay by rows', refused_at(kemotuiki_replay(t, [1, 2], fars, costs), 0, 2, 5))
     end subroutine
 
     ! A team of four stars, of which t stands in the third place.
@@ -952,11 +1013,48 @@ contains
         call hold('siblings out of order', r%text() == 'siblings out of order: byte 10' .and. r%rows == 0)
     end subroutine
 
+    ! Of four images that stand in two pairs some leave: none, image 1, and then one too many. Events that no byte holds are no images, and
+    ! a byte above 127, which is negative, neither. With all 64 images, 61 leave and the next one is refused, whatever follows.
+    subroutine replays()
+        integer, parameter :: n = kemotuiki_images
+        integer, parameter :: t(4, 4) = reshape([0, 2, 4, 4, 2, 0, 4, 4, 4, 4, 0, 2, 4, 4, 2, 0], [4, 4])
+        integer, parameter :: unknown(6) = [0, 5, 257, -1, -huge(0), huge(0)]
+        type(kemotuiki_replay_answer) :: r
+        integer(int64) :: fars(kemotuiki_rows)
+        integer :: costs(kemotuiki_rows), k
+        fars = -1
+        costs = -1
+        r = kemotuiki_replay(t, [integer ::], fars, costs)
+        call hold('a replay without events', r%accepted() .and. r%images == 4 .and. r%rows == 5 .and. r%event == 0 &
+                  .and. all(fars(:6) == [2, 4, 8, 12, 14, -1]) .and. all(costs(:6) == [2, 2, 2, 4, 2, -1]))
+        fars = -1
+        r = kemotuiki_replay(t, [1], fars, costs)
+        call hold('image 1 leaves', r%accepted() .and. r%images == 3 .and. r%rows == 3 .and. all(fars(:4) == [2, 4, 6, -1]) &
+                  .and. all(costs(:4) == [2, 2, 6, 4]))
+        do k = 1, size(unknown)
+            fars = -1
+            r = kemotuiki_replay(t, [4, unknown(k), 1], fars, costs)
+            call hold('an event that no image has', r%number == kemotuiki_bad_image .and. r%event == 2 .and. r%images == 3 &
+                      .and. r%rows == 3 .and. all(fars(:4) == [2, 4, 6, -1]) .and. all(costs(:3) == [2, 6, 2]))
+        end do
+        r = kemotuiki_replay(t, [1_int8, -1_int8], fars, costs)
+        call hold('a byte that no image has', r%number == kemotuiki_bad_image .and. r%event == 2)
+        r = kemotuiki_replay(t, [1, 3], fars, costs)
+        call hold('two would be left', r%text() == 'n outside 3..64: n 2' .and. r%event == 2 .and. r%images == 3)
+        r = kemotuiki_replay(t(:, :3), [1], fars, costs)
+        call hold('a start of another shape', r%number == kemotuiki_bad_length .and. r%images == 0 .and. r%event == 0)
+        r = kemotuiki_replay(star(n), spread(1, 1, 1000), fars, costs)
+        call hold('a thousand events', r%number == kemotuiki_bad_n .and. r%a == 2 .and. r%event == n - 2 .and. r%images == 3 &
+                  .and. all(fars(:3) == [2, 4, 6]) .and. all(costs(:3) == 2))
+    end subroutine
+
     ! Every second element of larger arrays: 4 images in a star, whose four own links cost 2, doubled.
     subroutine sections()
+        integer(int8), parameter :: all_events(3) = [4_int8, 9_int8, 2_int8]
         integer :: all_entries(8, 8), all_costs(10)
         integer(int64) :: all_fars(10)
         type(kemotuiki_rows_answer) :: r
+        type(kemotuiki_replay_answer) :: left
         all_entries = -1
         all_entries(1:8:2, 1:8:2) = star(4)
         all_costs = -1
@@ -967,6 +1065,10 @@ contains
         all_fars = -1
         r = kemotuiki_exact_grafted(all_entries(1:8:2, 1:8:2), all_fars(2:10:2), all_costs(2:10:2))
         call hold('sections, grafted', r%rows == 4 .and. all(all_fars == [-1, 2, -1, 4, -1, 8, -1, 14, -1, -1]))
+        all_fars = -1
+        left = kemotuiki_replay(all_entries(1:8:2, 1:8:2), all_events(3:1:-2), all_fars(2:10:2), all_costs(2:10:2))
+        call hold('sections, replayed', left%event == 2 .and. left%rows == 3 &
+                  .and. all(all_fars == [-1, 2, -1, 4, -1, 6, -1, -1, -1, -1]))
     end subroutine
 
 end module

@@ -5,7 +5,8 @@ pub mod Refusals
 pub mod Demand1
 pub mod Demand1Stored
 pub mod Demand1Newick
--- What the readings and the consensus leave is taken by the calls over link tables as it stands.
+pub mod Demand1Leaving
+-- What the readings, the consensus and the replay leave is taken by the calls over link tables as it stands.
 pub mod Onward
 -- What is true of it.
 pub mod Laws

@@ -1,4 +1,4 @@
--- What the two readings and the consensus leave goes on as it stands: path costs, upper rows, routes, storage and Newick text take the rows from
+-- What the two readings, the consensus and the replay leave goes on as it stands: path costs, upper rows, routes, storage and Newick text take the rows from
 -- the front of the two slices, f′ and v′ after f and v. Assumes nothing.
 use mathlib.Core.List.{List}
 use mathlib.Core.Path.{ap, refl, subst, sym, _∙_, _≡_}
@@ -29,6 +29,8 @@ use Rattle.tree.specs.Writing.{RowsStand, rowsLeft}
 use Rattle.consensus.specs.Call.{consensusOutcome}
 use Rattle.consensus.specs.Promises.{consensus-answer}
 use Rattle.consensus.specs.declared.Shared.the-variants.{Rows}
+use Rattle.leaving.specs.Promises.{Replays}
+use Rattle.leaving.specs.declared.Replayed.{Replayed}
 use Rattle.newick_text.specs.LinkTrees.{newick}
 use Rattle.newick_reader.specs.Outcomes.{readOutcome}
 use Rattle.newick_reader.specs.declared.NewickTree.the-variants.{Table}
@@ -110,3 +112,9 @@ measured-goes-on n t f v r f′ v′ l =
     let c = a .ready .table in
     rows-go-on n r f′ v′ (c .some) (c .few) (a .drawn .tree .tree)
     (rows-counted (measuredCheck limit n t (length f) (length v)) _ f v r f′ v′ l (a .left .rows))
+
+-- ## And of a replay, whether it ended with the events or at one that was refused
+
+pub replay-goes-on : (n : ℕ) (t es f v : List ℕ) (r : Replayed) (f′ v′ : List ℕ) → Replays n t es f v r f′ v′
+    → GoesOn (r .images) (r .rows) (take (r .rows) f′) (take (r .rows) v′)
+replay-goes-on n t es f v r f′ v′ p = exact-goes-on (r .images) _ f v (r .rows) f′ v′ (p .anew)

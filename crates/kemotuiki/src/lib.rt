@@ -8,6 +8,7 @@ use numbers::KemotuikiIndex;
 use numbers::KemotuikiLinks;
 use numbers::KemotuikiOrder;
 use numbers::KemotuikiPath;
+use numbers::KemotuikiReplay;
 use numbers::KemotuikiRows;
 use numbers::KemotuikiTree;
 ghost use mathlib.Core.Path.{_≡_};
@@ -20,6 +21,7 @@ ghost use Rattle.tree.specs.Readings.{measuredOutcome, exactOutcome};
 ghost use Rattle.routes.specs.Outcomes.{pathOutcome, upperOutcome, routeOutcome};
 ghost use Rattle.compare.specs.Call.{comparison};
 ghost use Rattle.consensus.specs.Call.{consensusOutcome};
+ghost use Rattle.leaving.specs.Outcome.{replayOutcome};
 ghost use Rattle.cost_writer.specs.Writing as costs-writing;
 ghost use Rattle.stored_costs.specs.Outcomes as costs-reading;
 ghost use Rattle.link_writer.specs.Writing as links-writing;
@@ -32,6 +34,7 @@ ghost use Rattle.newick_writer.specs.Writing as newick-writing;
 ghost use Rattle.newick_reader.specs.Outcomes as newick-reading;
 ghost use Rattle.refusal_text.specs.Text.{refusalTextOutcome};
 ghost use Rattle.numbers.specs.Numbers.{ofIndex, ofOrder, ofRows, ofPath, ofComparison, ofShared};
+ghost use Rattle.numbers.specs.Replays.{ofReplayed};
 ghost use Rattle.numbers.specs.Stored.{ofBytes, ofBatched, ofCosts, ofLinks, ofChosen, ofTree};
 ghost use Rattle.kemotuiki.specs.Crossing.{crossed, crossedRows};
 ghost use Rattle.bits.specs.Editions.{editionBy};
@@ -167,6 +170,21 @@ pub extern "C" fn kemotuiki_consensus(
         (now (fars .exit)) (now (costs .exit)) ⌝ }
 {
     numbers::of_shared(consensus::consensus(n, number, tables, fars, costs))
+}
+
+// The replay of a trace: from the exact reading, one byte for each event, the number of the image that leaves.
+#[no_mangle]
+pub extern "C" fn kemotuiki_replay(
+    n: usize,
+    t: &[u32],
+    events: &[u8],
+    fars: &mut [u64],
+    costs: &mut [u32],
+) -> KemotuikiReplay
+    ensures { λ r. ⌜ LeftRows (crossedRows ofReplayed (replayOutcome limit n (now (t .entry)) (now (events .entry)) (now (fars .entry))
+        (now (costs .entry)))) r (now (fars .exit)) (now (costs .exit)) ⌝ }
+{
+    numbers::of_replayed(leaving::replay(n, t, events, fars, costs))
 }
 
 // A cost table stored. Here and below the form is 0 for the old one and any other number for the new one.

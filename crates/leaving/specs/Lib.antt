@@ -5,3 +5,9 @@ pub mod Outcome
 pub mod Standing
 -- What is true of it.
 pub mod Laws
+-- In what order it refuses.
+pub mod InOrder
+-- Trees and traces, computed.
+pub mod Examples
+-- What the promise is worth.
+pub mod Promises

@@ -52,11 +52,7 @@ fn rows_left(m: usize, x: usize, rows: Rows) -> Rows
     let mut fars = [0u64; 128];
     let mut costs = [0u32; 128];
     let count = mending::mend(m, x, &f, &v, rows.count, &mut fars, &mut costs);
-    Rows {
-        count,
-        fars,
-        costs,
-    }
+    Rows { count, fars, costs }
 }
 
 // Refusal 8 for an unknown image, then 1 if two would be left.
@@ -138,13 +134,7 @@ fn check_start(n: usize, t: &[u32], f: usize, v: usize) -> Check
 // The replay of a trace: from the exact reading of the table t, one event for each byte, the number of the image that leaves. The start
 // is read into local arrays, and what is left is written once, at the end, so that no place is altered that the answer does not need.
 // Where an event is refused, what is left is the table before it.
-pub fn replay(
-    n: usize,
-    t: &[u32],
-    events: &[u8],
-    fars: &mut [u64],
-    costs: &mut [u32],
-) -> Replayed
+pub fn replay(n: usize, t: &[u32], events: &[u8], fars: &mut [u64], costs: &mut [u32]) -> Replayed
     ensures { λ r. ⌜ LeftRows (replayOutcome limit n (now (t .entry)) (now (events .entry)) (now (fars .entry)) (now (costs .entry))) r
         (now (fars .exit)) (now (costs .exit)) ⌝ }
 {

@@ -2,6 +2,7 @@
 pub mod Heads
 pub mod Numbers
 pub mod Stored
+pub mod Replays
 -- Nothing is lost.
 pub mod Kept
 pub mod Laws

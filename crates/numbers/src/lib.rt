@@ -5,15 +5,18 @@ use choice::Chosen;
 use compare::Comparison;
 use consensus::Shared;
 use ground::Answer;
+use ground::Check;
 use ground::Refusal;
 use ground::SignedAnswer;
 use ground::Written;
+use leaving::Replayed;
 use newick_reader::NewickTree;
 use stored_costs::StoredCosts;
 use stored_links::StoredLinks;
 ghost use mathlib.Core.Path.{_≡_};
 ghost use Rattle.numbers.specs.Heads.{accepted, refused};
 ghost use Rattle.numbers.specs.Numbers.{ofIndex, ofOrder, ofRows, ofPath, ofComparison, ofShared};
+ghost use Rattle.numbers.specs.Replays.{ofReplayed};
 ghost use Rattle.numbers.specs.Stored.{ofBytes, ofBatched, ofCosts, ofLinks, ofChosen, ofTree};
 
 // The refusal's number, 0 where the call was accepted; the table that was refused, where a call takes more than one; the refusal's places.
@@ -105,6 +108,15 @@ pub struct KemotuikiTree {
     pub head: KemotuikiHead,
     pub n: usize,
     pub rows: usize,
+}
+
+// Where a replay ended: the images that are left, the rows written, and the event that was refused, 0 where it is the start or none was.
+#[repr(C)]
+pub struct KemotuikiReplay {
+    pub head: KemotuikiHead,
+    pub images: usize,
+    pub rows: usize,
+    pub event: usize,
 }
 
 // The head of an accepted answer.
@@ -341,6 +353,27 @@ pub fn of_tree(x: NewickTree) -> KemotuikiTree
             head: refuse(0, r),
             n: 0,
             rows: 0,
+        },
+    }
+}
+
+// The numbers of a replay; those of a refused event have the table before it.
+pub fn of_replayed(x: Replayed) -> KemotuikiReplay
+    ensures { λ r. ⌜ r ≡ ofReplayed x ⌝ }
+{
+    let stop = x.stop;
+    match stop {
+        Check::Passed => KemotuikiReplay {
+            head: accept(),
+            images: x.images,
+            rows: x.rows,
+            event: x.event,
+        },
+        Check::Refused(r) => KemotuikiReplay {
+            head: refuse(0, r),
+            images: x.images,
+            rows: x.rows,
+            event: x.event,
         },
     }
 }
