@@ -36,8 +36,8 @@ LONGEST_TEAM = 65600
 LONGEST_BYTES = 5900
 LONGEST_READ = 11800
 LARGEST_FILE = 400000
-LARGEST_ANSWERS = 1100000
-LARGEST_TOTAL = 4400000
+LARGEST_ANSWERS = 1120000
+LARGEST_TOTAL = 4650000
 FEWEST_CASES = 2500
 FEWEST_OF_EACH_REFUSAL = 8
 FEWEST_IN_EACH_FORM = 5
@@ -75,11 +75,19 @@ CALLS = {
     "convert_links": (law.convert_links, "n 8 8*", (1, 3, 9, 10, 11, 12, 13, 17)),
     "write_newick": (law.write_newick, "n n 64 32 8*", (1, 2, 3, 10, 12, 13)),
     "read_newick": (law.read_newick, "8 64* 32*", (1, 3, 12, 13, 18, 22)),
+    "replay": (law.replay, "n 32 8 64* 32*", (1, 2, 3, 4, 5, 6, 7, 8)),
 }
 
 # With so many images each answer of the calls for Newick text is met, but for 18, which is found
 # before images are counted, for 1, and for 13 where a writer has three images.
 EVERY_SIZE = (3, 4, 5, 9, 33, 64)
+
+# With so many images at its start a replay meets every refusal of the start but 1, every refusal of an
+# event, and each of the events that are looked for below.
+EVERY_REPLAY = (3, 9, 33, 64)
+
+# More events than can be taken.
+MANY_EVENTS = 62
 
 # Those that are told a form, and those that find it in the bytes. Every refusal of these calls
 # is met in both forms, but for those that one form alone has or that are about no one table.
@@ -2338,6 +2346,180 @@ def write_newick_cases(dice):
     yield (64, len(rows)) + sides_and_costs(rows) + ([9] * 1432,)
 
 
+# Images that leave
+
+def leaving(dice, n, count):
+    """So many images of n leave, in an order of chance."""
+    return [dice.between(1, n - gone) for gone in range(count)]
+
+
+def all_but_three(dice, n):
+    """Image 1 each time, the last one each time, or images in an order of chance."""
+    return dice.one_of([[1] * (n - 3), list(range(n, 3, -1)), leaving(dice, n, n - 3), leaving(dice, n, n - 3)])
+
+
+def good_events(dice, n):
+    return dice.one_of([[], leaving(dice, n, min(1, n - 3)), leaving(dice, n, dice.between(0, n - 3)),
+                        all_but_three(dice, n)])
+
+
+def unknown_image(dice, left):
+    """A byte that is none of the images that are left."""
+    return dice.one_of([0, 0, left + 1, left + 1, 64 + left, 128 + dice.between(1, left), 255])
+
+
+def bad_events(dice, n):
+    """An event is refused: it would leave two, or its image is unknown. Others may stand behind it."""
+    if dice.chance(1, 3):
+        events = all_but_three(dice, n) + [dice.between(1, 3)]
+    else:
+        events = leaving(dice, n, dice.between(0, n - 3))
+        events.append(unknown_image(dice, n - len(events)))
+    return events + dice.one_of([[], [], [1], [0, 255], leaving(dice, n, n - 3)])
+
+
+# Images that are unknown, by how many are left.
+UNKNOWN = (lambda left: 0, lambda left: left + 1, lambda left: 255)
+
+
+def with_unknown(dice, n, unknown, place):
+    """One of these, first, between others, or last, where three images are left."""
+    before = {"first": 0, "between": (n - 3) // 2, "last": n - 3}[place]
+    behind = [] if place == "last" else leaving(dice, n - before, max(n - 3 - before, 1))
+    return leaving(dice, n, before) + [unknown(n - before)] + behind
+
+
+def mixed_halves(dice, n):
+    """The balanced tree of in_halves, with the images in an order of chance."""
+    t, at = in_halves(n), dice.mixed(range(n))
+    return table_from(n, [t[at[i - 1] * n + at[j - 1]] for i, j in pairs(n)])
+
+
+def four_and_five_images(dice):
+    """Each tree of four images, and trees of five: each image leaves."""
+    own = [2, 4, 8, 14]
+    for inner in ([], [6], [10], [12]):
+        rows = sorted((far, 2 * dice.between(1, 4)) for far in own + inner)
+        for image in range(1, 5):
+            yield 4, tree_table(4, rows), [image]
+    for shape in ("star", "caterpillar", "caterpillar", "caterpillar", "uneven"):
+        t = bare_tree(dice, 5, dice.one_of([1, 3, 20]), shape)
+        for image in range(1, 6):
+            yield 5, t, [image] + dice.one_of([[], leaving(dice, 4, 1)])
+
+
+def leaving_trees(dice):
+    """Trees of every shape, with own links and entries of 0, ties, halves, images on a line and at one
+    place, and with entries of 8,000,000."""
+    for n in (4, 5, 6, 7, 8, 9):
+        for shape in ("star", "caterpillar", "uneven"):
+            yield n, tree(dice, n, dice.one_of([1, 3, 20, 300]), shape)
+            yield n, bare_tree(dice, n, dice.one_of([1, 3, 30]), shape)
+        yield n, mixed_halves(dice, n)
+        yield n, on_a_line(dice.mixed(range(0, 3 * n, 3)))
+        yield n, at_one_place(dice, n, dice.between(3, n - 1))
+    for n in (4, 5, 9):
+        yield n, [0] * (n * n)
+        yield n, table_from(n, [8000000] * (n * n))
+        for image in (1, n):
+            yield n, table_from(n, [8000000 if image in pair else 0 for pair in pairs(n)])
+        yield n, on_a_line([0] + dice.mixed([8000000 // i for i in range(1, n)]))
+
+
+def many_leaving(dice, n):
+    """Events over many images, each over a tree of another shape; entries of one digit or two. Where n - 1
+    leaves first, image n stays to the end."""
+    yield star(n, [dice.below(3) for _ in range(n)]), []
+    yield bare_tree(dice, n, 2, "caterpillar"), [1]
+    yield bare_tree(dice, n, 1, "uneven"), [n]
+    yield mixed_halves(dice, n), [n - 1] + leaving(dice, n - 2, n - 4)
+    yield bare_tree(dice, n, 1, "caterpillar"), [1] * (n - 3)
+    yield at_one_place(dice, n, 8), list(range(n, 3, -1)) + [4]
+    yield tree(dice, n, 1, "uneven"), leaving(dice, n, n - 3) + [2]
+    yield star(n, [1] * n), with_unknown(dice, n, UNKNOWN[0], "first")
+    yield mixed_halves(dice, n), with_unknown(dice, n, UNKNOWN[2], "between")
+    yield bare_tree(dice, n, 1, "uneven"), with_unknown(dice, n, UNKNOWN[1], "last")
+    yield star(n, [0] * n), leaving(dice, n, n - 3) + [3] + [dice.below(256) for _ in range(300)]
+
+
+def bad_start(n, number):
+    """A table that gets this refusal, in its last row if it is one of an entry."""
+    t = [0] * (n * n)
+    for row, column, entry in {4: [(n, n - 1, 8000001)], 5: [(n, n, 1)], 6: [(n - 1, n, 1)],
+                               7: [(n - 1, n, 1), (n, n - 1, 1)]}.get(number, []):
+        t[(row - 1) * n + column - 1] = entry
+    return t[:n] if number == 2 else t
+
+
+def replay_cases(dice):
+    def outputs(n, short=False):
+        room1, room2 = two_rooms(dice, 2 * n - 3, short)
+        return far_places(dice, room1), places(dice, room2)
+
+    def plain(n, more=0, more2=0):
+        return [8] * (2 * n - 3 + more), [7] * (2 * n - 3 + more2)
+
+    for name in sorted(law.EXAMPLES):
+        n, t = law.example(name)
+        yield (n, t, [], *outputs(n))
+        if name in law.NOT_EXACT:
+            for events in ([1], [0], [n + 1, 1]):
+                yield (n, t, events, *plain(n))
+        else:
+            for image in list(range(n + 2)) + [255]:
+                yield (n, t, [image], *plain(n))
+            for events in (all_but_three(dice, n), [1] * (n - 2), [n] + [n - 1] * 2, [0, 1]):
+                yield (n, t, events, *plain(n))
+    for n, t, events in four_and_five_images(dice):
+        yield (n, t, events, *plain(n, dice.below(2), dice.below(2)))
+    for t in all_small_tables():
+        if dice.chance(1, 2):
+            yield (3, t, dice.one_of([[], bad_events(dice, 3)]), *plain(3))
+    for n in [small_n(dice) for _ in range(8)]:
+        yield (n, good_table(dice, n), good_events(dice, n), *plain(n))
+    for n in BAD_N + [1, 2]:
+        yield (n, [0] * dice.one_of([0, min(n, 3) ** 2]), good_events(dice, 5), *plain(3))
+    for n, t in leaving_trees(dice):
+        events = dice.one_of([good_events, all_but_three, bad_events])(dice, n)
+        yield n, t, events, places(dice, room(dice, 2 * n - 3, False)), places(dice, room(dice, 2 * n - 3, False))
+    # Two images 8,000,000 from the others: when one of them has left, and when all others but one have,
+    # the link between them is joined with an own link, and the cost is the largest.
+    for n in (4, 5, 9):
+        for events in ([n], [n - 1], [1] * (n - 3)):
+            yield (n, two_groups(n, 2 ** (n - 1) + 2 ** (n - 2), 0, 8000000), events, *plain(n))
+    # Unknown images at each place; with three images 8 comes before 1.
+    for n, found in ((3, ("first", "last")), (4, ("first", "last")), (9, ("first", "between", "last"))):
+        for unknown in UNKNOWN:
+            for place in found:
+                yield (n, bare_tree(dice, n, 9), with_unknown(dice, n, unknown, place), *plain(n))
+    # Faults of the start with each other, and with events that are refused where the start is not.
+    kinds = ["n", "length", "room", "entry", "diagonal", "asymmetric", "wiring", "event"]
+    for faults in fault_sets(dice, kinds, 4, 49):
+        n = damaged_n(dice)
+        t = crooked(dice, n) if "wiring" in faults else tree(dice, n)
+        events = (bad_events if "event" in faults else good_events)(dice, n)
+        bad_n, bad_t = damage_table(dice, n, t, faults)
+        yield (bad_n, bad_t, events, *outputs(n, "room" in faults))
+    # Room is that of the start: enough for the rows of the smaller tables is too little.
+    for n in (4, 5, 9):
+        t, events = tree(dice, n, 5), leaving(dice, n, n - 3)
+        for more, more2 in ((0, -1), (-1, 0), (-2, -2), (6 - 2 * n, 6 - 2 * n), (0, 0), (3, 9)):
+            yield (n, t, events, *plain(n, more, more2))
+    for more, more2 in ((130, 0), (0, 130)):
+        yield (4, tree(dice, 4, 5), [2], *plain(4, more, more2))
+    for n in (9, 33, 64):
+        for t, events in many_leaving(dice, n):
+            yield (n, t, events, *plain(n, dice.below(5), dice.below(5)))
+    for n in EVERY_REPLAY:
+        for number in (2, 3, 4, 5, 6, 7):
+            few = 6 - 2 * n if number == 3 and n > 3 else -1
+            rest = plain(n, few, few) if number in (2, 3) else plain(n)
+            yield (n, bad_start(n, number), dice.one_of([[1] * (n - 3), [0], [255] * MANY_EVENTS]), *rest)
+    # With three images no image can leave, whatever the events are.
+    for events in ([], [1] * MANY_EVENTS, [3, 0], [0] * MANY_EVENTS, [4] + [1] * 90, [255, 1], [129], [67]):
+        yield (3, tree(dice, 3, 9), events, *plain(3))
+
+
 CASES = {
     "index": index_cases,
     "order": order_cases,
@@ -2365,6 +2547,7 @@ CASES = {
     "convert_links": convert_links_cases,
     "write_newick": write_newick_cases,
     "read_newick": read_newick_cases,
+    "replay": replay_cases,
 }
 
 
@@ -2411,15 +2594,83 @@ def answer_line(name, arguments):
     given = [list(a) if isinstance(a, list) else a for a in arguments]
     answer = function(*given)
     for at, (before, after) in enumerate(zip(arguments, given)):
-        written = answer[0] == 0 or name in TWICE
+        written = answer[0] == 0 or name in TWICE or is_stopped_replay(name, answer)
         assert before == after or (written and at in outputs), (name, arguments)
     if name in OTHER_ENGINE:
         again = [list(a) if isinstance(a, list) else a for a in arguments]
         assert OTHER_ENGINE[name](*again) == answer and again == given, (name, arguments)
+    if name == "replay" and answer[-3] > 0:
+        hold_to_mending(arguments, answer, given)
     left = [given[at] for at in outputs]
     if name == "choice":
         left.append(law.choose(*given))
     return line_of(list(answer) + left), answer
+
+
+def is_stopped_replay(name, answer):
+    """Did an event end a replay? Its refusal alone is one with which something is written."""
+    return name == "replay" and answer[-1] > 0
+
+
+def hold_to_mending(arguments, answer, given):
+    """The rows of a replay are those that mending gives, event by event, from the rows of the start; the
+    places behind them are as they were."""
+    n, t, events, fars, costs = arguments
+    images, count, _ = answer[-3:]
+    rows = law.exact_rows(n, tuple(t))
+    for image in events[:n - images]:
+        n, rows = n - 1, law.mended(n, rows, image)
+    assert n == images and sides_and_costs(rows) == (given[3][:count], given[4][:count]), arguments
+    assert given[3][count:] == fars[count:] and given[4][count:] == costs[count:], arguments
+
+
+def replay_met(n, t, events, answer):
+    """What is met by a replay of a table that is accepted: its shape, the events that are taken, and the
+    one that is refused, with its place."""
+    images, count, event = answer[-3:]
+    rows = law.exact_rows(n, tuple(t))
+    inner = sum(is_inner(n, far) for far, _ in rows)
+    met = {"star" if inner == 0 else "all switches of three links" if inner == n - 3 else "other shape"}
+    if any(t[(i - 1) * n + j - 1] == 0 for i, j in pairs(n)):
+        met.add("images at one place")
+    if any(cost == 0 for _, cost in rows):
+        met.add("own links of 0")
+    if not events:
+        met.add("no events")
+    if images < n:
+        words = {1: "1 leaves", n - 1: "n - 1 leaves", n: "n leaves"}
+        met |= {words[events[0]]} if events[0] in words else set()
+        met |= {"three are left"} if images == 3 else set()
+        met |= {"rows joined"} if len(rows) - count > n - images else set()
+    if len(events) >= MANY_EVENTS:
+        met.add("many events")
+    if event > 0:
+        place = "first" if event == 1 else "last" if event == len(events) else "between"
+        met |= {(answer[0], place), (answer[0], "others behind" if event < len(events) else "none behind")}
+    if answer[0] == 8:
+        unknown = {0: "0", images + 1: "n + 1", 255: "255"}.get(events[event - 1], "another")
+        met |= {(8, unknown), (8, unknown, place)}
+    return met
+
+
+def check_replays(replays):
+    """Each n has what the replays are to meet; with three images no image leaves."""
+    for n in EVERY_REPLAY:
+        met = {(n, 0, False), (n, 1, True), (n, 8, True)} | {(n, number, False) for number in (2, 3, 4, 5, 6, 7)}
+        words = {"star", "images at one place", "own links of 0", "no events", "many events",
+                 (8, "0"), (8, "n + 1"), (8, "255"), (8, "first"), (8, "others behind"), (8, "none behind"),
+                 (1, "others behind"), (1, "none behind")}
+        if n > 3:
+            words |= {"all switches of three links", "other shape", "1 leaves", "n - 1 leaves", "n leaves",
+                      "three are left", "rows joined", (8, "between"), (8, "last"), (1, "last")}
+        if n == 9:
+            places_met = ("first", "between", "last")
+            words |= {(8, unknown, place) for unknown in ("0", "n + 1", "255") for place in places_met}
+        met |= {(n, word) for word in words}
+        assert met <= set(replays), (n, met - set(replays))
+    for number, at_event in ((1, False), (1, True), (8, True)):
+        count = sum(replays[met] for met in replays if met[1:] == (number, at_event))
+        assert count >= FEWEST_OF_EACH_REFUSAL, (number, at_event, count)
 
 
 def listing_answer(texts):
@@ -2451,7 +2702,7 @@ def form_met(name, arguments, answer):
 
 def make():
     """All files by name, and what was made of each call."""
-    files, report, answers, signs, tests, sizes = {}, [], [], set(), set(), set()
+    files, report, answers, signs, tests, sizes, replays = {}, [], [], set(), set(), set(), {}
     for seed, name in enumerate(CALLS, 1):
         inputs, seen, refusals, behind, by_table, by_form = [], set(), {}, {}, set(), {}
         answers.append(name)
@@ -2480,6 +2731,10 @@ def make():
                 sizes.add((name, answer[0], arguments[0]))
             if name == "read_newick":
                 sizes.add((name, answer[0], arguments[0].count(ord(",")) + 1))
+            if name == "replay":
+                words = replay_met(*arguments[:3], answer) if answer[-3] > 0 else set()
+                for met in [(arguments[0], answer[0], answer[-1] > 0)] + [(arguments[0], word) for word in words]:
+                    replays[met] = replays.get(met, 0) + 1
             if name in OVER_SEVERAL_TABLES and answer[0] != 0:
                 by_table.add(answer[:2])
         for number in CALLS[name][2]:
@@ -2501,6 +2756,7 @@ def make():
         met = [("write_newick", number, n) for number in ((0, 3, 12, 13) if n > 3 else (0, 3, 12))]
         met += [("read_newick", number, n) for number in (0, 3, 12, 13, 22)]
         assert sizes >= set(met), (n, set(met) - sizes)
+    check_replays(replays)
     assert max(map(len, files.values())) <= LARGEST_FILE, {f: len(t) for f, t in files.items()}
     files["crates/cases/stdout"] = "".join(line + "\n" for line in answers).encode()
     assert len(files["crates/cases/stdout"]) <= LARGEST_ANSWERS, len(files["crates/cases/stdout"])

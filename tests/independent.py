@@ -1,7 +1,8 @@
 #!/usr/bin/env python3
 """Every public call of document 01, and of document 02 the links that a team shares,
 the far end of the listing, the second engine of the exact reading, the larger costs
-with the new stored forms, and trees as Newick text, written from their definitions.
+with the new stored forms, trees as Newick text, and images that leave, written from
+their definitions.
 
 Nothing here is taken from the crates: the words, the orders of checks and the
 numbers are the documents', and where they leave a point open, the decision noted
@@ -11,17 +12,20 @@ A call answers a tuple of numbers. The first is 0 where the call accepts, and
 the refusal number where it refuses. A refusal is (number, a, b, c, d), the four
 places with unused ones 0; comparison, consensus, batch, choice and the reading of
 two tables put the table's number behind the refusal number: (number, table, a, b,
-c, d). Where a reader stands after a call is the last number, behind a refusal too.
+c, d). Where a reader stands after a call is the last number, behind a refusal too. A
+replay has three numbers more, behind a refusal too: the images and the rows that are
+left, and the event that was refused.
 
 Slices are lists of numbers. A lent output is a list that an accepted call
-writes into. A refused call alters no list.
+writes into. A refused call alters no list, but for a replay that an event ends.
 
     python3 tests/independent.py --self-test
 
 runs the settled examples of document 01, checks of demands 2 and 3 on tables drawn
 from a fixed seed, and what document 02 says of the links that a team shares, of the
 far end, of the second engine, which answers as the first on every table tried, of the
-two stored forms and the conversions between them, and of Newick text.
+two stored forms and the conversions between them, of Newick text, and of images that
+leave.
 """
 
 import functools
@@ -712,6 +716,27 @@ def places_out_of_order(n, vertices):
     return found
 
 
+# Images that leave
+
+def table_without(n, t, image):
+    """The smaller cost table, over the other images: numbers above this one drop by one."""
+    left = [i for i in range(1, n + 1) if i != image]
+    return [t[(i - 1) * n + j - 1] for i in left for j in left]
+
+
+def mended(n, rows, image):
+    """The mending of document 02, word for word: the image is taken out of both groups of a row, and
+    numbers above it drop by one; the row is named again by the group without the new image 1; one
+    with an empty group is dropped, and those that became equal are joined with their costs added."""
+    joined = {}
+    for far, cost in rows:
+        sides = [[i - 1 if i > image else i for i in side if i != image] for side in groups(n, far)]
+        if all(sides):
+            named = sum(2 ** (i - 1) for side in sides if 1 not in side for i in side)
+            joined[named] = joined.get(named, 0) + cost
+    return sorted(joined.items())
+
+
 # The public calls
 
 @call
@@ -854,6 +879,30 @@ def consensus(n, number, tables, fars, costs):
     fars[:len(in_all)] = in_all
     costs[:len(in_all)] = [min(tree[far] for tree in trees) for far in in_all]
     return 0, len(in_all)
+
+
+def check_event(n, image):
+    """8, then 1 if two images would be left."""
+    check_image(n, image)
+    check_n(n - 1)
+
+
+def replay(n, t, events, fars, costs):
+    """The images of the events leave one after another, and the smaller table is read anew. The
+    start is read into other lists, so that the rows of the end alone are written."""
+    start = exact(n, t, list(fars), list(costs))
+    if start[0] != 0:
+        return start + (0, 0, 0)
+    stop, refused = (0,), 0
+    for event, image in enumerate(events, 1):
+        try:
+            check_event(n, image)
+        except Refusal as refusal:
+            stop, refused = refusal.answer(), event
+            break
+        n, t = n - 1, table_without(n, t, image)
+    _, count = exact(n, t, fars, costs)
+    return stop + (n, count, refused)
 
 
 def written(stored, out):
@@ -1328,6 +1377,20 @@ NEWICK = {
     "E": "(1:2,2:2,(3:2,4:2):4);",
     "G": "(1:2,2:2,3:2,4:2);",
     "H": "(1:8,3:2,(2:36,((4:2,5:14):42,(6:48,7:12):18):32):12);",
+}
+
+# The rows of trees E and H when one image has left. Where 1 leaves E, image 2 is the new image 1: its own
+# link of 2 and the link of 4 between the switches both have 3 and 4, now 2 and 3, on their far side.
+LEFT = {
+    ("E", 1): [(2, 2), (4, 2), (6, 6)],
+    ("E", 2): [(2, 2), (4, 2), (6, 6)],
+    ("E", 3): [(2, 2), (4, 6), (6, 2)],
+    ("E", 4): [(2, 2), (4, 6), (6, 2)],
+    ("H", 1): [(2, 14), (4, 2), (8, 14), (12, 42), (16, 48), (32, 12), (48, 18), (60, 32), (62, 36)],
+    ("H", 2): [(2, 2), (4, 2), (8, 14), (12, 42), (16, 48), (32, 12), (48, 18), (60, 44), (62, 8)],
+    ("H", 3): [(2, 36), (4, 2), (8, 14), (12, 42), (16, 48), (32, 12), (48, 18), (60, 32), (62, 20)],
+    ("H", 6): [(2, 36), (4, 2), (8, 2), (16, 14), (24, 42), (32, 30), (56, 32), (58, 12), (62, 8)],
+    ("H", 7): [(2, 36), (4, 2), (8, 2), (16, 14), (24, 42), (32, 66), (56, 32), (58, 12), (62, 8)],
 }
 
 LISTING_A = "images 3 rows 3\n2 1 3\n4 1 3\n6 1 0\norder 1 3 2\n"
@@ -2285,6 +2348,117 @@ def test_newick(dice):
     assert ordered > 10, ordered
 
 
+def replayed(n, t, events):
+    """What a replay answers, and the rows that it leaves. Just enough room gives the same as more,
+    which keeps its ends; one place less in either output is 3, however few images are left."""
+    room = 2 * n
+    fars, costs = [5] * room, [6] * room
+    answer = replay(n, t, events, fars, costs)
+    count, needed = answer[-2], 2 * n - 3
+    assert fars[count:] == [5] * (room - count) and costs[count:] == [6] * (room - count)
+    rows = list(zip(fars, costs))[:count]
+    fars, costs = [5] * needed, [6] * needed
+    assert replay(n, t, events, fars, costs) == answer and list(zip(fars, costs))[:count] == rows
+    if count > 0:
+        for short, shorter in ((needed - 1, needed), (needed, needed - 1)):
+            assert replay(n, t, events, [0] * short, [0] * shorter) == (3, 0, 0, 0, 0, 0, 0, 0)
+    return answer, rows
+
+
+def left_of(n, events):
+    """The images, by their first numbers, that are left after these events."""
+    left = list(range(1, n + 1))
+    for image in events:
+        del left[image - 1]
+    return left
+
+
+def test_replay_examples():
+    for name in EXAMPLES:
+        n, t = example(name)
+        for events in ([], [0], [n + 1], [2] * 70):
+            answer, rows = replayed(n, t, events)
+            if name in NOT_EXACT:
+                assert (answer, rows) == (NOT_EXACT[name] + (0, 0, 0), [])
+            elif not events:
+                assert (answer, rows) == ((0, n, len(rows), 0), MEASURED[name])
+            elif events[0] != 2:
+                assert (answer, rows) == ((8, 0, 0, 0, 0, n, len(rows), 1), MEASURED[name])
+            else:
+                assert answer == (1, 2, 0, 0, 0, 3, 3, n - 2)
+    for (name, image), rows in LEFT.items():
+        n, t = example(name)
+        assert replayed(n, t, [image]) == ((0, n - 1, len(rows), 0), rows)
+        assert mended(n, MEASURED[name], image) == rows
+    # The second event would leave two; an image that is not there is found before that, and what
+    # stands behind a refused event plays no part.
+    n, e = example("E")
+    for more in ([], [1], [0, 255], [3] * 70):
+        assert replayed(n, e, [1, 1] + more) == ((1, 2, 0, 0, 0, 3, 3, 2), LEFT["E", 1])
+        for unknown in (0, 4, 5, 64, 128, 255):
+            assert replayed(n, e, [4, unknown] + more) == ((8, 0, 0, 0, 0, 3, 3, 2), LEFT["E", 4])
+    # Image 7 leaves and is then unknown. Each time image 1 leaves, 2 becomes 1: of H are left 5, 6 and 7,
+    # and 5 is reached over its own link, that of 4 and 5, and that of 6 and 7.
+    n, h = example("H")
+    assert replayed(n, h, [7, 7]) == ((8, 0, 0, 0, 0, 6, 9, 2), LEFT["H", 7])
+    three = [(2, 48), (4, 12), (6, 14 + 42 + 18)]
+    assert replayed(n, h, [1] * 4) == ((0, 3, 3, 0), three)
+    assert replayed(n, h, [1] * 5) == ((1, 2, 0, 0, 0, 3, 3, 5), three)
+
+
+def test_replay_start(dice):
+    """The start is refused as the exact reading refuses it, whatever the events are; room is that of
+    the start, also where the rows that are left have enough."""
+    for events in ([], [1], [0], [1, 1, 0], [255] * 70):
+        for n in (0, 2, 65, 2 ** 64 - 1):
+            assert replay(n, [], events, [], []) == (1, n, 0, 0, 0, 0, 0, 0)
+        for n in (3, 4, 6, 9):
+            good = tree_table(n, tree_rows(dice, n, random_shape(dice), 20))
+            bad, room = [MOST_ENTRY + 1] * (n * n), 2 * n - 3
+            for t in (bad[1:], bad + bad[:1], []):
+                assert replay(n, t, events, [], []) == (2, 0, 0, 0, 0, 0, 0, 0)
+            for t, short, shorter in ((bad, 0, room), (good, room - 1, room), (good, room, room - 1)):
+                assert replay(n, t, events, [0] * short, [0] * shorter) == (3, 0, 0, 0, 0, 0, 0, 0)
+            for fault in (4, 5, 6, 7):
+                t, refused = spoilt(n, good, fault)
+                assert replayed(n, t, events) == (refused + (0, 0, 0), [])
+
+
+def test_replay(dice):
+    """After every event the table read anew has the rows that mending gives from the old ones, for trees
+    of every shape; then an event is refused. The order in which images leave plays no part, and of
+    the last three each own link is what their three entries say."""
+    joined = unsorted = 0
+    for n in list(range(4, 13)) + [20, 33, 64]:
+        for shape in ("star", "caterpillar", "uneven", "uneven") * (3 if n < 10 else 1):
+            rows = bare_rows(dice, n, tree_rows(dice, n, shape, dice.one_of([1, 2, 3, 12, 500, 60000])))
+            t, start, events = tree_table(n, rows), rows, []
+            while n - len(events) > 3:
+                left = n - len(events)
+                image = dice.one_of([1, left, dice.between(1, left), dice.between(1, left)])
+                kept = [far % 2 ** (image - 1) + far // 2 ** image * 2 ** (image - 1) for far, _ in rows]
+                before, rows = rows, mended(left, rows, image)
+                joined, unsorted = joined + (len(before) - len(rows) > 1), unsorted + (kept != sorted(kept))
+                events.append(image)
+                if n < 13 or len(events) in (1, 2, n // 2, n - 4, n - 3):
+                    assert is_link_table(left - 1, rows)
+                    assert replayed(n, t, events) == ((0, left - 1, len(rows), 0), rows)
+                    unknown = dice.one_of([0, left, 255])
+                    assert replayed(n, t, events + [unknown, 1]) == (
+                        (8, 0, 0, 0, 0, left - 1, len(rows), len(events) + 1), rows)
+            for image in (1, 2, 3):
+                assert replayed(n, t, events + [image]) == ((1, 2, 0, 0, 0, 3, 3, n - 2), rows)
+            assert replayed(n, t, []) == ((0, n, len(start), 0), start)
+            # The same images in another order: each by its number among those that are still there.
+            gone = dice.mixed(sorted(set(range(1, n + 1)) - set(left_of(n, events))))
+            again = [image - sum(other < image for other in gone[:at]) for at, image in enumerate(gone)]
+            assert replayed(n, t, again) == ((0, 3, 3, 0), rows)
+            d, (i, j, k) = square(n, t), left_of(n, events)
+            assert rows == [(2, d[i][j] + d[j][k] - d[i][k]), (4, d[i][k] + d[j][k] - d[i][j]),
+                            (6, d[i][j] + d[i][k] - d[j][k])]
+    assert joined > 100 and unsorted > 100, (joined, unsorted)
+
+
 def self_test():
     dice = Dice(1)
     tests = [
@@ -2301,6 +2475,7 @@ def self_test():
         (test_engines_on_all_small_tables, ()), (test_engines, (dice,)),
         (test_newick_examples, ()), (test_newick_refusals, ()), (test_longest_newick_text, (dice,)),
         (test_newick_places, (dice,)), (test_newick, (dice,)),
+        (test_replay_examples, ()), (test_replay_start, (dice,)), (test_replay, (dice,)),
     ]
     for test, arguments in tests:
         test(*arguments)

@@ -1,6 +1,6 @@
 // The calls by number. Those whose cases begin with a cost table come first, then those with a link table, those with stored bytes and a
 // position, those with the form in which they write, the choice, the calls of the reader, the text of an answer, the links that a team
-// shares, the listings, and the two calls for Newick text.
+// shares, the listings, the two calls for Newick text, and the replay of images that leave.
 pub const INDEX: u32 = 1;
 
 pub const ORDER: u32 = 2;
@@ -52,3 +52,5 @@ pub const LISTING: u32 = 24;
 pub const WRITE_NEWICK: u32 = 25;
 
 pub const READ_NEWICK: u32 = 26;
+
+pub const REPLAY: u32 = 27;

@@ -38,6 +38,9 @@ fn one_case(call: u32, text: &[u8], at: usize) -> usize {
     if call == calls::LISTING {
         return listing_cases::listing_case(text, at);
     }
+    if call == calls::REPLAY {
+        return leaving_cases::leaving_case(text, at);
+    }
     if calls::WRITE_NEWICK <= call {
         return newick_cases::newick_case(call, text, at);
     }
@@ -112,4 +115,5 @@ fn main() {
     run(calls::CONVERT_LINKS, b"convert_links", b"convert_links.txt");
     run(calls::WRITE_NEWICK, b"write_newick", b"write_newick.txt");
     run(calls::READ_NEWICK, b"read_newick", b"read_newick.txt");
+    run(calls::REPLAY, b"replay", b"replay.txt");
 }
