@@ -1,7 +1,7 @@
 -- Rows that are the exact reading of some cost table: they can be mended, and are so again. Assumes nothing.
 use mathlib.Core.List.{List, List·Memᴰ·head, List·Memᴰ·tail, [], _∷_}
-use mathlib.Core.Path.{ap, refl, sym, _∙_, _≡_}
-use Prim.Native.Nat.{suc, ℕ, _*_, _+_, _<_, _^_, _≤_}
+use mathlib.Core.Path.{refl}
+use Prim.Native.Nat.{suc, ℕ, _*_, _+_, _≤_}
 use native.Mathlib.Omega.{arith}
 use lib.ListN.{getD, length}
 use Rattle.ground.specs.Filters.{Each}

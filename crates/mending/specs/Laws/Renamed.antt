@@ -1,7 +1,7 @@
 -- Far sides once an image has left: they part the images that are left as they did before. Assumes nothing.
 use mathlib.Core.Bool.{false, not}
 use mathlib.Core.Logic.{_↔_}
-use mathlib.Core.Path.{ap, ap₂, refl, sym, _∙_, _≡_}
+use mathlib.Core.Path.{ap, ap₂, sym, _∙_, _≡_}
 use Prim.Native.Nat.{suc, zero, ℕ, _-_, _/_, _<_, _^_}
 use native.Mathlib.Omega.{arith}
 use lib.Dec.{eqb}

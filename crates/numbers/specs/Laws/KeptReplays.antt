@@ -1,7 +1,6 @@
 -- The answer of a replay crosses and nothing is lost, the images and rows of a refused event included. Assumes nothing.
 use mathlib.Core.Logic.{inl, inr}
-use mathlib.Core.Path.{ap, refl, sym, _∙_, _≡_}
-use Prim.Native.Nat.{ℕ}
+use mathlib.Core.Path.{ap, refl, _∙_, _≡_}
 use Rattle.ground.specs.declared.Check.{Check}
 use Rattle.ground.specs.declared.Check.the-variants.{Passed, Refused}
 use Rattle.leaving.specs.declared.Replayed.{Replayed}
