@@ -7,11 +7,11 @@ use lib.Dec.{eqb}
 use borrow.Table.Steps.{cases}
 use Rattle.ground.specs.Laws.Tests.{and-l, and-r, or-r}
 use Rattle.text.specs.Words.{bytesOf}
-use Rattle.refusal_text.specs.Laws.Parted.{apart, apart-same, parted}
-use Rattle.refusal_text.specs.Laws.Said.{allPass, known, known-passes, knownIn, said-number, said-passes}
-use Rattle.refusal_text.specs.Saying.{Saying, sayingIn, unknown}
-use Rattle.refusal_text.specs.Sayings.{aboveOld, badRow, firstSayings, furtherSayings, laterSayings, sayings}
-use Rattle.refusal_text.specs.Text.{saidOf}
+use Rattle.sayings.specs.Laws.Parted.{apart, apart-same, parted}
+use Rattle.sayings.specs.Laws.Said.{allPass, known, known-passes, knownIn, said-number, said-passes}
+use Rattle.sayings.specs.Saying.{Saying, sayingIn, unknown}
+use Rattle.sayings.specs.Sayings.{aboveOld, badRow, sayings, sayingsFrom12, sayingsFrom16, sayingsFrom4, sayingsFrom8}
+use Rattle.sayings.specs.Said.{saidOf}
 
 -- the two shapes of a saying begin alike, so that no comparison has to know the shape
 bad-row-words : (a : ℕ) → bytesOf (badRow a .words) ≡ bytesOf "bad far side or bad row" ++ cond (eqb a 0) [] (bytesOf ": row")
@@ -35,11 +35,11 @@ module _ (k j a b c d a′ b′ c′ d′ : ℕ) (h : known k ≡ true) where
 
   -- each saying is apart from each, and from that of any other number
   all-apart : allPass (λ s. allPass (apart s) other && partedFromUnknown s) one ≡ true
-  unfolding firstSayings furtherSayings laterSayings bytesOf
+  unfolding sayings sayingsFrom4 sayingsFrom8 sayingsFrom12 sayingsFrom16 bytesOf
   all-apart = rw (bad-row-words a, bad-row-words a′, above-old-words a b, above-old-words a′ b′) refl
 
   known-here : knownIn k one ≡ true
-  unfolding firstSayings furtherSayings laterSayings
+  unfolding sayings sayingsFrom4 sayingsFrom8 sayingsFrom12 sayingsFrom16
   known-here = h
 
   -- what is said of a refusal is said of no other number

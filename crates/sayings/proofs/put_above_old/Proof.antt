@@ -1,11 +1,11 @@
--- `refusal_text::put_above_old` meets its contract, with a column and without. Assumes nothing.
+-- `sayings::put_above_old` meets its contract, with a column and without. Assumes nothing.
 use borrow.Author.Needs.{needs}
 use borrow.Author.Tests.{ne-eqb}
 use Rattle.text.specs.Fields.{fields}
 use Rattle.text.specs.Words.{bytesOf}
-use Rattle.refusal_text.specs.Text.{sayingText}
-use Rattle.refusal_text.proofs.put_above_old.Statement.{statement}
-use Rattle.refusal_text.proofs.put_above_old.Tie as tie
+use Rattle.sayings.specs.Said.{sayingText}
+use Rattle.sayings.proofs.put_above_old.Statement.{statement}
+use Rattle.sayings.proofs.put_above_old.Tie as tie
 
 slice-aggregate-put-one : tie.Need-slice-aggregate-put-one
 slice-aggregate-put-one c = search needs

@@ -8,8 +8,8 @@ use lib.Dec.{eqb}
 use borrow.Author.Tests.{eqb-true}
 use borrow.Table.Steps.{cases}
 use Rattle.ground.specs.Laws.Tests.{and-l, and-r}
-use Rattle.refusal_text.specs.Saying.{Saying, sayingIn, unknown}
-use Rattle.refusal_text.specs.Sayings.{sayings}
+use Rattle.sayings.specs.Saying.{Saying, sayingIn, unknown}
+use Rattle.sayings.specs.Sayings.{sayings}
 
 abbrev pub allPass : (Saying → Bool) → List Saying → Bool
 allPass p [] = true
