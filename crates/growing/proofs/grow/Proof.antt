@@ -1,4 +1,4 @@
--- `tree::grow` meets its contract: the three parts, one behind the other, are the reading over one image more. Assumes nothing.
+-- `growing::grow` meets its contract: the three parts, one behind the other, are the reading over one image more. Assumes nothing.
 use mathlib.Core.Path.{ap, refl, _∙_, _≡_}
 use Prim.Native.Nat.{min, suc, ℕ, _*_, _-_, _<_, _^_, _≤_}
 use native.Mathlib.Omega.{arith}
@@ -9,14 +9,14 @@ use Rattle.theory.specs.OneMore.{more, stays}
 use Rattle.theory.specs.Readings.{measured}
 use Rattle.theory.specs.Tables.{WellFormed, cost, limit}
 use Rattle.brought.specs.Chosen.{Rowed}
-use Rattle.tree.specs.Growing.{stayed}
-use Rattle.tree.specs.Putting.{loweredIn}
-use Rattle.tree.specs.Laws.Growing.{lowered-stayed}
-use Rattle.tree.specs.Laws.Grown.{held-more, room-inside, room-outside, room-own}
-use Rattle.tree.specs.Laws.Rowed.{held-few, held-given, held-rowed}
+use Rattle.growing.specs.Growing.{stayed}
+use Rattle.growing.specs.Putting.{loweredIn}
+use Rattle.growing.specs.Laws.Growing.{lowered-stayed}
+use Rattle.growing.specs.Laws.Grown.{held-more, room-inside, room-outside, room-own}
+use Rattle.growing.specs.Laws.Rowed.{held-few, held-given, held-rowed}
 use borrow.Author.Needs.{needs}
-use Rattle.tree.proofs.grow.Statement.{statement}
-use Rattle.tree.proofs.grow.Tie as tie
+use Rattle.growing.proofs.grow.Statement.{statement}
+use Rattle.growing.proofs.grow.Tie as tie
 
 abbrev start : tie.After-brought → tie.Start
 start h = h .before .before .before .before .before .before .before .before .before .before .before .before .before

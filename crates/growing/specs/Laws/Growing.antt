@@ -13,10 +13,10 @@ use Rattle.ground.specs.Laws.Maps.{map-append, map-same}
 use Rattle.theory.specs.OneMore.{more, stays, step}
 use Rattle.theory.specs.LinkTables.{Row}
 use Rattle.brought.specs.Answers.{Valued}
-use Rattle.tree.specs.LocalRows.{rowsIn}
-use Rattle.tree.specs.Laws.LocalRows.{stored-before, stored-more}
-use Rattle.tree.specs.Growing.{Turned, changed, stayed}
-use Rattle.tree.specs.Putting.{loweredIn}
+use Rattle.growing.specs.LocalRows.{rowsIn}
+use Rattle.growing.specs.Laws.LocalRows.{stored-before, stored-more}
+use Rattle.growing.specs.Growing.{Turned, changed, stayed}
+use Rattle.growing.specs.Putting.{loweredIn}
 
 -- one row more that stays or not
 pub filter-more : (k : ℕ) (T : List Row) (r : Row) → filter (stays (suc k)) (T ++ (r ∷ [])) ≡ filter (stays (suc k)) T ++ keep (stays (suc k) r) r []

@@ -17,12 +17,12 @@ use Rattle.theory.specs.Laws.RowsGrow.{rows-most}
 use Rattle.theory.specs.LinkTables.{Row}
 use Rattle.theory.specs.Readings.{measured}
 use Rattle.theory.specs.Tables.{WellFormed}
-use Rattle.tree.specs.Growing.{Turned, stayed}
-use Rattle.tree.specs.Laws.Growing.{step-stayed, turned}
-use Rattle.tree.specs.LocalRows.{rowsIn}
-use Rattle.tree.specs.Laws.LocalRows.{rowsIn-length, rowsIn-none}
-use Rattle.tree.specs.Putting.{PutAll, PutRoom}
-use Rattle.tree.specs.Held.{RowsHeld}
+use Rattle.growing.specs.Growing.{Turned, stayed}
+use Rattle.growing.specs.Laws.Growing.{step-stayed, turned}
+use Rattle.growing.specs.LocalRows.{rowsIn}
+use Rattle.growing.specs.Laws.LocalRows.{rowsIn-length, rowsIn-none}
+use Rattle.growing.specs.Putting.{PutAll, PutRoom}
+use Rattle.growing.specs.Held.{RowsHeld}
 
 module _ (L : ℕ) (d : ℕ → ℕ → ℕ) where
   -- over one image there is no row

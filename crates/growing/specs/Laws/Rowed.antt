@@ -17,10 +17,10 @@ use Rattle.theory.specs.Readings.{drawn, row, rows}
 use Rattle.theory.specs.Tables.{WellFormed}
 use Rattle.brought.specs.Answers.{Valued}
 use Rattle.brought.specs.Chosen.{Rowed}
-use Rattle.tree.specs.Held.{RowsHeld}
-use Rattle.tree.specs.Laws.Held.{rowsIn-mem, with-image}
-use Rattle.tree.specs.Laws.LocalRows.{rowsIn-fars, rowsIn-length}
-use Rattle.tree.specs.Putting.{Given}
+use Rattle.growing.specs.Held.{RowsHeld}
+use Rattle.growing.specs.Laws.Held.{rowsIn-mem, with-image}
+use Rattle.growing.specs.Laws.LocalRows.{rowsIn-fars, rowsIn-length}
+use Rattle.growing.specs.Putting.{Given}
 
 -- what ascends, place by place
 between-first : (m k : ℕ) (l : List ℕ) (j : ℕ) → Between m l k → j < length l → m ≤ getD l j 0
