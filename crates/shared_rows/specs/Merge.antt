@@ -8,7 +8,7 @@ use lib.ListN.{getD, set}
 use Rattle.ground.specs.Counts.{one-if}
 use Rattle.theory.specs.LinkTables.{rowsOf}
 use Rattle.tree.specs.Writing.{rowsLeft}
-use Rattle.consensus.specs.Meet.{meet}
+use Rattle.shared_rows.specs.Meet.{meet}
 
 -- 1 where x and y are the same far side, else 0
 unfoldable pub oneSame : ℕ → ℕ → ℕ

@@ -1,12 +1,12 @@
--- `consensus::keep_row` meets its contract: the row is stored no further than it was read. Assumes nothing.
+-- `shared_rows::keep_row` meets its contract: the row is stored no further than it was read. Assumes nothing.
 use mathlib.Core.Path.{ap, refl}
 use Prim.Native.Nat.{ℕ, _+_, _≤_}
 use native.Mathlib.Omega.{arith}
 use lib.ListN.{set}
 use borrow.Author.Needs.{needs}
-use Rattle.consensus.specs.Laws.Turns.{same-le}
-use Rattle.consensus.proofs.keep_row.Statement.{statement}
-use Rattle.consensus.proofs.keep_row.Tie as tie
+use Rattle.shared_rows.specs.Laws.Turns.{same-le}
+use Rattle.shared_rows.proofs.keep_row.Statement.{statement}
+use Rattle.shared_rows.proofs.keep_row.Tie as tie
 
 mul-x : tie.Need-mul-x
 mul-x c = search needs

@@ -1,4 +1,4 @@
--- `consensus::meet` meets its contract: what is kept and what is still shared ahead are all of it. Assumes nothing.
+-- `shared_rows::meet` meets its contract: what is kept and what is still shared ahead are all of it. Assumes nothing.
 use mathlib.Core.Path.{refl, _∙_, _≡_}
 use Prim.Native.Nat.{_+_, _-_, _<_, _≤_}
 use native.Mathlib.Omega.{arith}
@@ -6,9 +6,9 @@ use lib.ListN.{length}
 use borrow.Author.Needs.{needs}
 use borrow.Author.Tests.{ltb-false, ltb-true}
 use Rattle.ground.specs.Laws.Merges.{advance-le, advance-some}
-use Rattle.consensus.specs.Laws.Ahead.{Ahead, ahead-all, ahead-turn, held-ends, kept-count, other-ends}
-use Rattle.consensus.proofs.meet.Statement.{statement}
-use Rattle.consensus.proofs.meet.Tie as tie
+use Rattle.shared_rows.specs.Laws.Ahead.{Ahead, ahead-all, ahead-turn, held-ends, kept-count, other-ends}
+use Rattle.shared_rows.proofs.meet.Statement.{statement}
+use Rattle.shared_rows.proofs.meet.Tie as tie
 
 abbrev Inv-loop : tie.InvT-loop
 Inv-loop count fars₀ costs₀ f v at₀ i₀ j₀ fars costs at i j =

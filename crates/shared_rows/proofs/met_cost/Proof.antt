@@ -1,9 +1,9 @@
--- `consensus::met_cost` meets its contract. Assumes nothing.
+-- `shared_rows::met_cost` meets its contract. Assumes nothing.
 use borrow.Author.Needs.{needs}
 use borrow.Author.Tests.{eq-eqb, ne-eqb}
-use Rattle.consensus.specs.Merge.{metCost}
-use Rattle.consensus.proofs.met_cost.Statement.{statement}
-use Rattle.consensus.proofs.met_cost.Tie as tie
+use Rattle.shared_rows.specs.Merge.{metCost}
+use Rattle.shared_rows.proofs.met_cost.Statement.{statement}
+use Rattle.shared_rows.proofs.met_cost.Tie as tie
 
 lower-requires : tie.Need-lower-requires
 lower-requires c κs = search needs

@@ -1,8 +1,8 @@
--- `consensus::one_same` meets its contract. Assumes nothing.
+-- `shared_rows::one_same` meets its contract. Assumes nothing.
 use borrow.Author.Tests.{eq-eqb, ne-eqb}
-use Rattle.consensus.specs.Merge.{oneSame}
-use Rattle.consensus.proofs.one_same.Statement.{statement}
-use Rattle.consensus.proofs.one_same.Tie as tie
+use Rattle.shared_rows.specs.Merge.{oneSame}
+use Rattle.shared_rows.proofs.one_same.Statement.{statement}
+use Rattle.shared_rows.proofs.one_same.Tie as tie
 
 returns : tie.Need-returns
 unfolding oneSame

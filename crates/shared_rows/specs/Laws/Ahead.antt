@@ -11,10 +11,10 @@ use Rattle.ground.specs.Filters.{keep}
 use Rattle.ground.specs.Merges.{advance}
 use Rattle.theory.specs.LinkTables.{fars, rowsOf}
 use Rattle.tree.specs.Writing.{rowsLeft}
-use Rattle.consensus.specs.Laws.Merge.{meet-none, merge-turn}
-use Rattle.consensus.specs.Laws.Turns.{ascends, kept-turn, met-stays, rest-cons, rest-drop, rest-fars, restRows, same-advance, same-at, stay}
-use Rattle.consensus.specs.Meet.{meet}
-use Rattle.consensus.specs.Merge.{Met, RowKept}
+use Rattle.shared_rows.specs.Laws.Merge.{meet-none, merge-turn}
+use Rattle.shared_rows.specs.Laws.Turns.{ascends, kept-turn, met-stays, rest-cons, rest-drop, rest-fars, restRows, same-advance, same-at, stay}
+use Rattle.shared_rows.specs.Meet.{meet}
+use Rattle.shared_rows.specs.Merge.{Met, RowKept}
 
 -- ## One turn, over the rows f, v and g, w
 

@@ -16,7 +16,7 @@ use Rattle.ground.specs.Merges.{advance}
 use Rattle.theory.specs.Laws.JoinedRows.{rowsOf-fars}
 use Rattle.theory.specs.LinkTables.{Row, fars, rowsOf}
 use Rattle.tree.specs.Writing.{rowsLeft}
-use Rattle.consensus.specs.Merge.{metCost, oneSame}
+use Rattle.shared_rows.specs.Merge.{metCost, oneSame}
 
 -- the rows from place i on
 unfoldable pub restRows : ℕ → List ℕ → List ℕ → List Row
