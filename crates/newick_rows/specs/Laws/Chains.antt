@@ -11,9 +11,9 @@ use lib.Seq.{getD-set-other, getD-set-same}
 use borrow.Author.Tests.{eqb-false, eqb-true, ne-eqb}
 use borrow.Table.Steps.{cases}
 use Rattle.newick_text.specs.Trees.{listed}
-use Rattle.newick_writer.specs.Below.{below, costText, opening}
-use Rattle.newick_writer.specs.Chains.{Chained, Upward, chain, prior}
-use Rattle.newick_writer.specs.Laws.Below.{below-more}
+use Rattle.newick_rows.specs.Below.{below, costText, opening}
+use Rattle.newick_rows.specs.Chains.{Chained, Upward, chain, prior}
+use Rattle.newick_rows.specs.Laws.Below.{below-more}
 
 -- ## One row more
 

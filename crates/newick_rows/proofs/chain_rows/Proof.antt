@@ -1,12 +1,12 @@
--- `newick_writer::chain_rows` meets its contract: the chains of the first i rows are there. Assumes nothing.
+-- `newick_rows::chain_rows` meets its contract: the chains of the first i rows are there. Assumes nothing.
 use mathlib.Core.Path.{ap, _∙_, _≡_}
 use Prim.Native.Nat.{ℕ, _+_, _-_, _<_, _≤_}
 use native.Mathlib.Omega.{arith}
 use lib.ListN.{getD, length, length-replicate, length-set}
-use Rattle.newick_writer.specs.Laws.Chains.{Linked, linked-all, linked-more, linked-none}
+use Rattle.newick_rows.specs.Laws.Chains.{Linked, linked-all, linked-more, linked-none}
 use borrow.Author.Needs.{needs}
-use Rattle.newick_writer.proofs.chain_rows.Statement.{statement}
-use Rattle.newick_writer.proofs.chain_rows.Tie as tie
+use Rattle.newick_rows.proofs.chain_rows.Statement.{statement}
+use Rattle.newick_rows.proofs.chain_rows.Tie as tie
 
 abbrev Inv-loop : tie.InvT-loop
 Inv-loop above before₀ latest₀ i₀ before latest i =

@@ -1,4 +1,4 @@
--- What `newick_writer::put_below` writes of a row: the vertices before it, how it begins, what is inside it, its cost, and what is left behind each.
+-- What `newick_rows::put_below` writes of a row: the vertices before it, how it begins, what is inside it, its cost, and what is left behind each.
 -- Assumes nothing.
 use mathlib.Core.List.{List, _++_}
 use native.Mathlib.Omega.{arith}
@@ -8,17 +8,17 @@ use Rattle.text.specs.Putting.{Rest}
 use Rattle.text.specs.Laws.Pieces.{rest-same}
 use Rattle.text.specs.Laws.Putting.{rest-begin, rest-step}
 use Rattle.newick_text.specs.Trees.{listed}
-use Rattle.newick_writer.specs.Below.{costText, opening}
-use Rattle.newick_writer.specs.Chains.{chain}
-use Rattle.newick_writer.specs.Laws.Chains.{before-most, chain-pieces, inner-most}
+use Rattle.newick_rows.specs.Below.{costText, opening}
+use Rattle.newick_rows.specs.Chains.{chain}
+use Rattle.newick_rows.specs.Laws.Chains.{before-most, chain-pieces, inner-most}
 use Prim.Native.Nat.{ℕ, _-_, _<_, _≤_}
 use borrow.Fn.Kinds.{In}
 use borrow.Fn.PlainCycle.{Measures, and, falls, is}
-use Rattle.newick_writer.proofs.put_below.Reads as reads
-use Rattle.newick_writer.proofs.put_below.Kinds as kinds
-use Rattle.newick_writer.proofs.+put_below.Lts-put_below as lts
-use Rattle.newick_writer.proofs.put_cost.Reads as put-cost
-use Rattle.newick_writer.proofs.put_opening.Reads as put-opening
+use Rattle.newick_rows.proofs.put_below.Reads as reads
+use Rattle.newick_rows.proofs.put_below.Kinds as kinds
+use Rattle.newick_rows.proofs.+put_below.Lts-put_below as lts
+use Rattle.newick_rows.proofs.put_cost.Reads as put-cost
+use Rattle.newick_rows.proofs.put_opening.Reads as put-opening
 
 abbrev pub measure : Measures 6 kinds.ps ℕ
 measure κs a = a .1 .1 .1 .1 .1 .1 .1 .0

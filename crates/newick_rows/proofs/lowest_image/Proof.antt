@@ -1,12 +1,12 @@
--- `newick_writer::lowest_image` meets its contract: no image below i is in the far side. Assumes nothing.
-use Rattle.newick_writer.specs.Laws.Searches.{image-here, image-none, not-here}
+-- `newick_rows::lowest_image` meets its contract: no image below i is in the far side. Assumes nothing.
+use Rattle.newick_rows.specs.Laws.Searches.{image-here, image-none, not-here}
 use Prim.Native.Nat.{_-_, _≤_}
 use borrow.Author.Count.{below-more, below-none}
 use Rattle.ground.specs.First.{NoneBelow}
 use Rattle.theory.specs.FarSides.{holds}
 use borrow.Author.Needs.{needs}
-use Rattle.newick_writer.proofs.lowest_image.Statement.{statement}
-use Rattle.newick_writer.proofs.lowest_image.Tie as tie
+use Rattle.newick_rows.proofs.lowest_image.Statement.{statement}
+use Rattle.newick_rows.proofs.lowest_image.Tie as tie
 
 abbrev Inv-loop : tie.InvT-loop
 Inv-loop s i₀ i = (i ≤ 64) × NoneBelow (holds s) i

@@ -7,7 +7,7 @@ use Prim.Native.Nat.{suc, zero, ℕ, _+_, _-_, _<_, _≤_}
 use lib.Dec.{eqb}
 use lib.ListN.{getD, length}
 use Rattle.newick_text.specs.Trees.{Siblings}
-use Rattle.newick_writer.specs.Below.{below}
+use Rattle.newick_rows.specs.Below.{below}
 
 -- the last of the first k rows whose upper row is p; 0 where there is none
 unfoldable pub prior : List ℕ → ℕ → ℕ → ℕ

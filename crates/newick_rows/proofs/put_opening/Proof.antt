@@ -1,12 +1,12 @@
--- `newick_writer::put_opening` meets its contract: a bracket, or the digits of the image. Assumes nothing.
+-- `newick_rows::put_opening` meets its contract: a bracket, or the digits of the image. Assumes nothing.
 use mathlib.Core.Path.{ap, sym, _∙_}
 use native.Mathlib.Omega.{arith}
 use Rattle.text.specs.Decimal.{decimal}
 use Rattle.text.specs.Laws.Pieces.{put-same}
-use Rattle.newick_writer.specs.Laws.Below.{fits-same, opening-bracket, opening-image}
+use Rattle.newick_rows.specs.Laws.Below.{fits-same, opening-bracket, opening-image}
 use borrow.Author.Needs.{needs}
-use Rattle.newick_writer.proofs.put_opening.Statement.{statement}
-use Rattle.newick_writer.proofs.put_opening.Tie as tie
+use Rattle.newick_rows.proofs.put_opening.Statement.{statement}
+use Rattle.newick_rows.proofs.put_opening.Tie as tie
 
 put-byte-requires : tie.Need-put-byte-requires
 put-byte-requires c κs =

@@ -1,9 +1,9 @@
--- `newick_writer::put_rows` meets its contract: the chains are found, and then the text is put. Assumes nothing.
+-- `newick_rows::put_rows` meets its contract: the chains are found, and then the text is put. Assumes nothing.
 use mathlib.Core.Path.{refl, sym}
 use native.Mathlib.Omega.{arith}
 use borrow.Author.Needs.{needs}
-use Rattle.newick_writer.proofs.put_rows.Statement.{statement}
-use Rattle.newick_writer.proofs.put_rows.Tie as tie
+use Rattle.newick_rows.proofs.put_rows.Statement.{statement}
+use Rattle.newick_rows.proofs.put_rows.Tie as tie
 
 slice-aggregate-chain-rows : tie.Need-slice-aggregate-chain-rows
 slice-aggregate-chain-rows c = search needs
