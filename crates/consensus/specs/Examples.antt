@@ -10,8 +10,8 @@ use Rattle.theory.specs.Index.{shifted}
 use Rattle.theory.specs.LinkTables.{Row}
 use Rattle.theory.specs.Tables.{limit}
 use Rattle.tree.specs.Exact.{exactRows, treeCheck}
+use Rattle.shared_rows.specs.Consensus.{consensus}
 use Rattle.consensus.specs.Call.{consensusOutcome, tableByTable, teamCheck}
-use Rattle.consensus.specs.Consensus.{consensus}
 use Rattle.consensus.specs.Team.{tableAt}
 use Rattle.consensus.specs.declared.Shared.the-variants.{Refused, Rows}
 

@@ -1,13 +1,3 @@
--- Rows, and what two trees share.
-pub mod Rows
-pub mod Meet
--- The consensus: who its trees are, and one tree more at a time.
-pub mod Members
-pub mod Fold
--- The merge of two.
-pub mod Merge
-pub mod Turns
-pub mod Ahead
 -- The tables of a team, one after another.
 pub mod Joined
 pub mod Sharing

@@ -1,10 +1,7 @@
--- What a reader must believe: document 02's definition, the tables of a team, and what the call answers.
-pub mod Consensus
+-- What a reader must believe: the tables of a team, and what the call answers.
 pub mod Team
 pub mod Call
 -- How the code gets there.
-pub mod Meet
-pub mod Merge
 pub mod Taking
 -- What the promise is worth.
 pub mod Promises

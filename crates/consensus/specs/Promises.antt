@@ -17,11 +17,11 @@ use Rattle.theory.specs.Tables.{cost}
 use Rattle.tree.specs.Exact.{Wired, exactRows, exactSides}
 use Rattle.tree.specs.Laws.Exact.{exact-rows}
 use Rattle.tree.specs.Writing.{RowsStand, rowsLeft}
+use Rattle.shared_rows.specs.Laws.Fold.{consensus-cost, consensus-mem}
+use Rattle.shared_rows.specs.Laws.Members.{smallest-is}
+use Rattle.shared_rows.specs.Laws.Rows.{cost-row}
 use Rattle.consensus.specs.Call.{consensusOutcome}
-use Rattle.consensus.specs.Laws.Fold.{consensus-cost, consensus-mem}
 use Rattle.consensus.specs.Laws.Left.{consensus-left}
-use Rattle.consensus.specs.Laws.Members.{smallest-is}
-use Rattle.consensus.specs.Laws.Rows.{cost-row}
 use Rattle.consensus.specs.Laws.Sharing.{shared-tree, trees-of}
 use Rattle.consensus.specs.Team.{TeamReady, sharedLinks, tableAt, tablesIn}
 use Rattle.consensus.specs.declared.Shared.the-variants.{Rows}

@@ -6,7 +6,7 @@ use lib.ListN.{drop, length, take}
 use Rattle.ground.specs.Ranges.{from}
 use Rattle.theory.specs.LinkTables.{Row}
 use Rattle.tree.specs.Exact.{exactRows}
-use Rattle.consensus.specs.Consensus.{consensus}
+use Rattle.shared_rows.specs.Consensus.{consensus}
 
 -- table k of those joined in t, counted from 0; each has n * n numbers
 unfoldable pub tableAt : ℕ → List ℕ → ℕ → List ℕ

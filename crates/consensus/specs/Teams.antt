@@ -22,10 +22,10 @@ use Rattle.tree.specs.Exact.{Wired, exactRows}
 use Rattle.tree.specs.Promises.{exact-answer}
 use Rattle.tree.specs.Readings.{exactOutcome}
 use Rattle.tree.specs.Writing.{rowsLeft}
+use Rattle.shared_rows.specs.Laws.Members.{consensus-same}
 use Rattle.consensus.specs.Call.{consensusOutcome}
 use Rattle.consensus.specs.Laws.Joined.{each-table, in-tables, part-front, table-in}
 use Rattle.consensus.specs.Laws.Left.{consensus-left, left-again}
-use Rattle.consensus.specs.Laws.Members.{consensus-same}
 use Rattle.consensus.specs.Laws.One.{exact-to-one, one-to-exact, only-table}
 use Rattle.consensus.specs.Promises.{consensus-answer}
 use Rattle.consensus.specs.Team.{Joined, sharedLinks, tablesIn}

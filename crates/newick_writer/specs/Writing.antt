@@ -12,9 +12,9 @@ use Rattle.theory.specs.LinkTables.{rowsOf}
 use Rattle.theory.specs.Tables.{limit}
 use Rattle.links.specs.Checks.{rowChecks, sizeChecks}
 use Rattle.newick_text.specs.LinkTrees.{newick}
-use Rattle.newick_writer.specs.Below.{Sized, treeText}
+use Rattle.newick_rows.specs.Below.{Sized, treeText}
+use Rattle.newick_rows.specs.Chains.{Upward}
 use Rattle.newick_writer.specs.Bytes.{textBytes}
-use Rattle.newick_writer.specs.Chains.{Upward}
 
 -- 1, 10, 2, 12, 13
 abbrev pub tableChecks : ℕ → ℕ → List ℕ → List ℕ → Check

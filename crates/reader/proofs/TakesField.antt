@@ -32,10 +32,10 @@ use denote.Triple.Entry.{Vals}
 use denote.Triple.Spec.{tripleOf}
 use denote.Triple.Clauses.{ensured, lasts}
 use Rattle.reader.specs.Moves.{fieldMoved}
-use Rattle.reader.specs.declared.Field.{Field}
+use Rattle.positions.specs.declared.Field.{Field}
 use Rattle.reader.specs.declared.Reader.{Reader}
-use Rattle.reader.proofs.Field as E
-use Rattle.reader.proofs.Field.Laws as E′
+use Rattle.positions.proofs.Field as E
+use Rattle.positions.proofs.Field.Laws as E′
 use Rattle.reader.proofs.Held.{B, Cell, Own}
 use Rattle.reader.proofs.Lent.{Kept, at, comes-back, spells}
 use Rattle.reader.proofs.Reader.Laws as T′

@@ -2,11 +2,11 @@
 use mathlib.Core.List.{List}
 use Prim.Native.Nat.{ℕ}
 use Rattle.ground.specs.Outcomes.{Outcome}
-use Rattle.reader.specs.Fields.{fieldAt}
+use Rattle.positions.specs.Fields.{fieldAt}
+use Rattle.positions.specs.Stands.{costsAt}
+use Rattle.positions.specs.declared.CostsTaken.{CostsTaken}
+use Rattle.positions.specs.declared.FieldTaken.{FieldTaken}
 use Rattle.reader.specs.Outcomes.{TwoOutcome}
-use Rattle.reader.specs.Stands.{costsAt}
-use Rattle.reader.specs.declared.CostsTaken.{CostsTaken}
-use Rattle.reader.specs.declared.FieldTaken.{FieldTaken}
 use Rattle.reader.specs.declared.TwoFields.{TwoFields}
 use Rattle.reader.specs.declared.TwoTaken.{TwoTaken}
 

@@ -1,6 +1,4 @@
--- What is said of each refusal, and the text of one.
-pub mod Saying
-pub mod Sayings
+-- The text of a refusal.
 pub mod Text
 -- Its check by its number.
 pub mod InOrder

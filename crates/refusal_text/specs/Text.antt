@@ -8,20 +8,11 @@ use Rattle.ground.specs.Outcomes.{Outcome, writtenIf}
 use Rattle.ground.specs.Refusals.{roomCheck}
 use Rattle.ground.specs.declared.Check.{Check}
 use Rattle.ground.specs.declared.Written.{Written}
-use Rattle.text.specs.Fields.{field, fields}
+use Rattle.text.specs.Fields.{field}
 use Rattle.text.specs.Words.{bytesOf}
-use Rattle.refusal_text.specs.Saying.{Saying, sayingIn}
-use Rattle.refusal_text.specs.Sayings.{sayings}
+use Rattle.sayings.specs.Said.{saidOf}
 
--- the words, and each place behind one blank
-unfoldable pub sayingText : Saying → List ℕ
-sayingText s = bytesOf (s .words) ++ fields (s .places)
-
--- what is said of the refusal of that number with the places a, b, c, d
-unfoldable pub saidOf : ℕ → ℕ → ℕ → ℕ → ℕ → List ℕ
-saidOf number a b c d = sayingText (sayingIn number (sayings a b c d))
-
--- in front of it the table that it is about, if it is about one; 0, which means accepted, is about none
+-- in front of what is said stands the table that it is about, if it is about one; 0, which means accepted, is about none
 unfoldable pub aboutTable : ℕ → ℕ → List ℕ
 aboutTable number table = cond (eqb number 0 || eqb table 0) [] (bytesOf "table" ++ (field table ++ bytesOf ": "))
 

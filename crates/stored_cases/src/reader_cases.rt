@@ -17,7 +17,7 @@ use case_text::take8;
 use case_text::take32;
 use case_text::take64;
 use ground::Refusal;
-use reader::Field;
+use positions::Field;
 use reader::TwoCosts;
 use reader::TwoFields;
 use reader::TwoTaken;

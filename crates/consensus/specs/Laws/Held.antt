@@ -23,8 +23,8 @@ use Rattle.tree.specs.Exact.{exactRows, treeCheck}
 use Rattle.tree.specs.Laws.Exact.{exact-check, exact-tree, table-passed, table-sized}
 use Rattle.tree.specs.Readings.{exactOutcome, outcome}
 use Rattle.tree.specs.Writing.{RowsWritten, rowsLeft}
-use Rattle.consensus.specs.Meet.{meet}
-use Rattle.consensus.specs.Merge.{Met}
+use Rattle.shared_rows.specs.Meet.{meet}
+use Rattle.shared_rows.specs.Merge.{Met}
 use Rattle.consensus.specs.Taking.{RowsHeld, TreeRead}
 
 -- ## A tree read

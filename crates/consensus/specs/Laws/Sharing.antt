@@ -14,9 +14,9 @@ use Rattle.ground.specs.Ranges.{from}
 use Rattle.theory.specs.LinkTables.{LinkTable, Row}
 use Rattle.tree.specs.Exact.{Wired, exactRows}
 use Rattle.tree.specs.Laws.Exact.{exact-tree}
-use Rattle.consensus.specs.Laws.Fold.{consensus-fold, consensus-one, consensus-tree}
+use Rattle.shared_rows.specs.Laws.Fold.{consensus-fold, consensus-one, consensus-tree}
+use Rattle.shared_rows.specs.Meet.{meet, meetAll}
 use Rattle.consensus.specs.Laws.Joined.{each-table, table-in}
-use Rattle.consensus.specs.Meet.{meet, meetAll}
 use Rattle.consensus.specs.Team.{sharedLinks, tableAt, tablesIn}
 
 meet-last : (T : List Row) (Ts : List (List Row)) (U : List Row) → meetAll T (Ts ++ (U ∷ [])) ≡ meet (meetAll T Ts) U

@@ -24,10 +24,10 @@ use Rattle.tree.specs.Exact.{Wired, exactRows, treeCheck}
 use Rattle.tree.specs.Laws.Writing.{room-passed}
 use Rattle.tree.specs.Readings.{outputsRoomCheck, short}
 use Rattle.tree.specs.Writing.{RowsWritten}
+use Rattle.shared_rows.specs.Meet.{meet}
 use Rattle.consensus.specs.Call.{consensusOutcome, joinedCheck, leaving, numberCheck, teamAnswer, teamCheck}
 use Rattle.consensus.specs.Laws.Joined.{no-table, table-in, tables-passed, tables-stop, wired-passed}
 use Rattle.consensus.specs.Laws.Sharing.{first-tree, wired-more, share-next, shared-one}
-use Rattle.consensus.specs.Meet.{meet}
 use Rattle.consensus.specs.Taking.{RowsHeld, Shares, Taken}
 use Rattle.consensus.specs.Team.{Joined, TeamReady, sharedLinks, tableAt, tablesIn}
 use Rattle.consensus.specs.declared.Shared.{Shared}

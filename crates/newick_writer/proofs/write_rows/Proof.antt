@@ -5,7 +5,7 @@ use lib.ListN.{length}
 use Rattle.ground.specs.Laws.Outcomes.{written-goes, written-stops}
 use Rattle.ground.specs.Refusals.{roomCheck}
 use Rattle.text.specs.Laws.Putting.{put-front}
-use Rattle.newick_writer.specs.Below.{treeText}
+use Rattle.newick_rows.specs.Below.{treeText}
 use Rattle.newick_writer.specs.Laws.Accepted.{room-fits}
 use borrow.Author.Needs.{needs}
 use Rattle.newick_writer.proofs.write_rows.Statement.{statement}

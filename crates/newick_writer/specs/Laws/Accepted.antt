@@ -29,8 +29,8 @@ use Rattle.routes.specs.Orders.{upperChecks}
 use Rattle.routes.specs.Outcomes.{upperOutcome}
 use Rattle.text.specs.Putting.{Fits}
 use Rattle.newick_text.specs.LinkTrees.{newick}
-use Rattle.newick_writer.specs.Below.{treeText}
-use Rattle.newick_writer.specs.Laws.Below.{tree-text}
+use Rattle.newick_rows.specs.Below.{treeText}
+use Rattle.newick_rows.specs.Laws.Below.{tree-text}
 use Rattle.newick_writer.specs.Laws.Bytes.{text-bytes}
 use Rattle.newick_writer.specs.Writing.{Known, roomOutcome, tableChecks, writeOutcome}
 

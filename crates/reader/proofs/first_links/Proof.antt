@@ -16,7 +16,7 @@ use Rattle.theory.specs.Outcomes.{LeftRows}
 use Rattle.stored_links.specs.declared.StoredLinks.{StoredLinks}
 use Rattle.reader.specs.Laws.Moves.{links-once}
 use Rattle.reader.specs.Moves.{linksMoved, readerAt}
-use Rattle.reader.specs.declared.LinksTaken.{LinksTaken}
+use Rattle.positions.specs.declared.LinksTaken.{LinksTaken}
 use Rattle.reader.specs.declared.Reader.{Reader}
 use Rattle.stored_links.proofs.StoredLinks as E
 use Rattle.stored_links.proofs.StoredLinks.Laws as E′
@@ -24,8 +24,8 @@ use Rattle.reader.proofs.Held.{Bytes, Own, again, slice, typed}
 use Rattle.reader.proofs.Lent.{lends}
 use Rattle.reader.proofs.Made.{New, asks-new, makes, to-new}
 use Rattle.reader.proofs.TakesLinks.{TakeLinks, asks-links, to-links, took-links}
-use Rattle.reader.proofs.LinksTaken as S
-use Rattle.reader.proofs.LinksTaken.Laws as S′
+use Rattle.positions.proofs.LinksTaken as S
+use Rattle.positions.proofs.LinksTaken.Laws as S′
 use Rattle.reader.proofs.new.Symbol as new-def
 use Rattle.reader.proofs.new.Symbol.{name as #reader·new}
 use Rattle.reader.proofs.new.Met as new-thm

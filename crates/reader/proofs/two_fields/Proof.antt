@@ -13,11 +13,11 @@ use denote.Enum.Laws as EL
 use denote.Struct.Laws as LL
 use Rattle.reader.specs.Laws.Moves.{fields-moved}
 use Rattle.reader.specs.Moves.{fieldMoved, readerAt}
-use Rattle.reader.specs.declared.Field.{Field}
+use Rattle.positions.specs.declared.Field.{Field}
 use Rattle.reader.specs.declared.Reader.{Reader}
 use Rattle.reader.specs.declared.TwoFields.{TwoFields}
-use Rattle.reader.proofs.Field as E
-use Rattle.reader.proofs.Field.Laws as E′
+use Rattle.positions.proofs.Field as E
+use Rattle.positions.proofs.Field.Laws as E′
 use Rattle.reader.proofs.Held.{Bytes, Own, again, slice, typed}
 use Rattle.reader.proofs.Lent.{lends}
 use Rattle.reader.proofs.Made.{New, asks-new, makes, to-new}

@@ -20,9 +20,9 @@ use Rattle.stored_links.specs.Laws.Told as links-told
 use Rattle.stored_links.specs.Outcomes as links-said
 use Rattle.stored_links.specs.declared.StoredLinks.{StoredLinks}
 use Rattle.stored_links.specs.declared.StoredLinks.the-variants as links
-use Rattle.reader.specs.Laws.Stands.{costs-inside, links-inside, stands-behind}
+use Rattle.positions.specs.Laws.Stands.{costs-inside, links-inside, stands-behind}
+use Rattle.positions.specs.Stands.{afterCosts, afterLinks, countedBytes}
 use Rattle.reader.specs.Moves.{costsHere, costsMoved, linksHere, linksMoved, standing}
-use Rattle.reader.specs.Stands.{afterCosts, afterLinks, countedBytes}
 use Rattle.reader.specs.declared.Reader.{Reader}
 use Rattle.stored_costs.specs.Form.{costFormAt}
 use Rattle.stored_links.specs.Form.{linkFormAt}

@@ -11,9 +11,10 @@ use Rattle.ground.specs.Laws.Refusals.{refuseIf-passed}
 use Rattle.text.specs.Laws.Pieces.{rest-same}
 use Rattle.text.specs.Laws.Putting.{byte-last-fits, put-front, rest-begin, rest-last, rest-step}
 use Rattle.text.specs.Putting.{Fits, Rest}
+use Rattle.sayings.specs.Said.{saidOf}
 use Rattle.refusal_text.specs.Laws.About.{about-most}
 use Rattle.refusal_text.specs.Laws.Lengths.{text-fits}
-use Rattle.refusal_text.specs.Text.{aboutTable, refusalBytes, refusalText, room, saidOf}
+use Rattle.refusal_text.specs.Text.{aboutTable, refusalBytes, refusalText, room}
 use Rattle.refusal_text.proofs.refusal_text.Statement.{statement}
 use Rattle.refusal_text.proofs.refusal_text.Tie as tie
 

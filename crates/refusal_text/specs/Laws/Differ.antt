@@ -8,17 +8,18 @@ use borrow.Author.Tests.{eqb-false, eqb-true}
 use borrow.Table.Steps.{cases}
 use Rattle.text.specs.Fields.{field, fields}
 use Rattle.text.specs.Words.{bytesOf}
+use Rattle.sayings.specs.Laws.Parted.{parted-differ}
+use Rattle.sayings.specs.Laws.Phrases.{phrases-differ}
+use Rattle.sayings.specs.Laws.Said.{known}
+use Rattle.sayings.specs.Said.{saidOf, sayingText}
+use Rattle.sayings.specs.Saying.{sayingIn}
+use Rattle.sayings.specs.Sayings.{sayings}
 use Rattle.refusal_text.specs.Laws.About.{about-accepted, about-none, about-one}
-use Rattle.refusal_text.specs.Laws.Parted.{parted-differ}
-use Rattle.refusal_text.specs.Laws.Phrases.{phrases-differ}
-use Rattle.refusal_text.specs.Laws.Said.{known}
-use Rattle.refusal_text.specs.Saying.{sayingIn}
-use Rattle.refusal_text.specs.Sayings.{firstSayings}
-use Rattle.refusal_text.specs.Text.{refusalText, saidOf, sayingText}
+use Rattle.refusal_text.specs.Text.{refusalText}
 
 -- 0 in front of no table, and the table in front of any other
 accepted-apart : (t j a b c d a′ b′ c′ d′ : ℕ) → (t ≡ 0 → ⊥) → (j ≡ 0 → ⊥) → refusalText 0 t a b c d ≡ refusalText j t a′ b′ c′ d′ → ⊥
-unfolding refusalText saidOf sayingText sayingIn firstSayings bytesOf fields
+unfolding refusalText saidOf sayingText sayingIn sayings bytesOf fields
 accepted-apart t j a b c d a′ b′ c′ d′ z n e =
     parted-differ (bytesOf "accepted") (bytesOf "table") [] _ refl
     (rw (about-accepted 0 t refl, about-one j t n z) at e)

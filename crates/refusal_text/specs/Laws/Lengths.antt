@@ -1,40 +1,10 @@
 -- How long a text can be: with its zero byte it fits the room that the call asks for. Assumes nothing.
-use mathlib.Core.Bool.{Bool, true}
-use mathlib.Core.Path.{refl, _≡_}
-use Prim.Native.Nat.{ℕ, _*_, _+_, _≤_}
+use Prim.Native.Nat.{ℕ, _≤_}
 use native.Mathlib.Omega.{arith}
-use lib.Dec.{leb}
 use lib.ListN.{length, length-append}
-use borrow.Author.Tests.{leb-true}
-use Rattle.text.specs.Fields.{fields}
-use Rattle.text.specs.Laws.Lengths.{fields-most}
-use Rattle.text.specs.Words.{bytesOf}
+use Rattle.sayings.specs.Laws.Lengths.{said-most}
 use Rattle.refusal_text.specs.Laws.About.{about-most}
-use Rattle.refusal_text.specs.Laws.Said.{allPass, by-zeros, said-passes}
-use Rattle.refusal_text.specs.Saying.{Saying, sayingIn}
-use Rattle.refusal_text.specs.Sayings.{firstSayings, furtherSayings, laterSayings, sayings}
-use Rattle.refusal_text.specs.Text.{refusalBytes, refusalText, room, saidOf, sayingText}
-
--- with the longest numbers it is no longer than what the room leaves behind the table and before the zero byte
-abbrev short : Saying → Bool
-short s = leb (length (bytesOf (s .words)) + 21 * length (s .places)) 163
-
-sayings-short : (a b c d : ℕ) → allPass short (sayings a b c d) ≡ true
-unfolding firstSayings furtherSayings laterSayings bytesOf
-sayings-short a b c d =
-    by-zeros a b (λ e f. rw (e, f) refl) (λ e f. rw (e, f) refl) (λ e f. rw (e, f) refl) (λ e f. rw (e, f) refl)
-
-saying-most : (s : Saying) → short s ≡ true → length (sayingText s) ≤ 163
-unfolding sayingText
-saying-most s e =
-    let h = leb-true (length (bytesOf (s .words)) + 21 * length (s .places)) 163 e in
-    omega (arith, length-append (bytesOf (s .words)) (fields (s .places)), fields-most (s .places))
-
-pub said-most : (number a b c d : ℕ) → length (saidOf number a b c d) ≤ 163
-unfolding saidOf bytesOf
-said-most number a b c d =
-    let l = sayings a b c d in
-    saying-most (sayingIn number l) (said-passes short number l (sayings-short a b c d) refl)
+use Rattle.refusal_text.specs.Text.{refusalBytes, refusalText, room}
 
 -- every text fits, whatever its numbers
 pub text-fits : (number table a b c d : ℕ) → length (refusalBytes number table a b c d) ≤ room

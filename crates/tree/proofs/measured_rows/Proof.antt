@@ -4,10 +4,10 @@ use Prim.Native.Nat.{_-_, _≤_}
 use native.Mathlib.Omega.{arith}
 use lib.ListN.{length}
 use Rattle.theory.specs.Tables.{cost, limit}
-use Rattle.tree.specs.Held.{RowsHeld}
-use Rattle.tree.specs.Laws.Grown.{held-none}
-use Rattle.tree.specs.Laws.Held.{held-written}
 use borrow.Author.Needs.{needs}
+use Rattle.growing.specs.Held.{RowsHeld}
+use Rattle.growing.specs.Laws.Grown.{held-none}
+use Rattle.growing.specs.Laws.Held.{held-written}
 use Rattle.tree.proofs.measured_rows.Statement.{statement}
 use Rattle.tree.proofs.measured_rows.Tie as tie
 

@@ -1,0 +1,58 @@
+-- What is said of each refusal: words, and behind them its places. Each list goes on with the next, so that the code can part them too. A refusal
+-- more is one line more in sayingsFrom16. Assumes nothing.
+use mathlib.Core.Bool.{cond}
+use mathlib.Core.List.{List, [], _∷_}
+use Prim.Native.Nat.{ℕ}
+use lib.Dec.{eqb}
+use Rattle.sayings.specs.Saying.{Saying, says}
+
+-- 17, which has no column where the number is a cost in a row of a link table
+abbrev pub aboveOld : ℕ → ℕ → Saying
+aboveOld a b =
+    says 17 (cond (eqb b 0) "number above the old limits: row" "number above the old limits: row and column")
+    (cond (eqb b 0) (a ∷ []) (a ∷ b ∷ []))
+
+unfoldable pub sayingsFrom16 : ℕ → ℕ → List Saying
+sayingsFrom16 a b =
+    says 16 "no tables or more than sixteen" []
+    ∷ aboveOld a b
+    ∷ says 18 "outside the Newick profile: byte" (a ∷ [])
+    ∷ says 22 "siblings out of order: byte" (a ∷ [])
+    ∷ []
+
+-- 12, which the index call gives without a row
+abbrev pub badRow : ℕ → Saying
+badRow a = says 12 (cond (eqb a 0) "bad far side or bad row" "bad far side or bad row: row") (cond (eqb a 0) [] (a ∷ []))
+
+unfoldable pub sayingsFrom12 : ℕ → ℕ → List Saying
+sayingsFrom12 a b =
+    badRow a
+    ∷ says 13 "an own link is missing: image" (a ∷ [])
+    ∷ says 14 "neither table includes the other" []
+    ∷ says 15 "stored tables of different n" []
+    ∷ sayingsFrom16 a b
+
+unfoldable pub sayingsFrom8 : ℕ → ℕ → List Saying
+sayingsFrom8 a b =
+    says 8 "image outside 1..n, or first and last the same" []
+    ∷ says 9 "stored bytes end early" []
+    ∷ says 10 "row count outside n..2n-3: count" (a ∷ [])
+    ∷ says 11 "fill bits not zero" []
+    ∷ sayingsFrom12 a b
+
+unfoldable pub sayingsFrom4 : ℕ → ℕ → ℕ → ℕ → List Saying
+sayingsFrom4 a b c d =
+    says 4 "entry above the limit: row and column" (a ∷ b ∷ [])
+    ∷ says 5 "diagonal not zero: image" (a ∷ [])
+    ∷ says 6 "asymmetric: row and column" (a ∷ b ∷ [])
+    ∷ says 7 "no wiring: images" (a ∷ b ∷ c ∷ d ∷ [])
+    ∷ sayingsFrom8 a b
+
+-- all of them; 0 means accepted
+unfoldable pub sayings : ℕ → ℕ → ℕ → ℕ → List Saying
+sayings a b c d =
+    says 0 "accepted" []
+    ∷ says 1 "n outside 3..64: n" (a ∷ [])
+    ∷ says 2 "a length does not fit n or the row count" []
+    ∷ says 3 "too little room" []
+    ∷ sayingsFrom4 a b c d
