@@ -1,14 +1,9 @@
--- One table more: its figures.
-pub mod Pairs
-pub mod Tables
--- As the code takes it.
-pub mod Before
-pub mod Taken
-pub mod PutIn
-pub mod Exact
-pub mod Apart
+-- The next table, as the reader gives it and as the loop takes it.
 pub mod Read
 pub mod Next
 pub mod Run
 pub mod Onward
 pub mod Call
+-- What the promise is worth.
+pub mod Follows
+pub mod Reported

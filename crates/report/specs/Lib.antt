@@ -1,11 +1,15 @@
--- What the contract of `report` cites: the tables read, each figure over them, in document 02's words, and what the call leaves.
-pub mod Tables
-pub mod Figures
-pub mod Reading
+-- What the call answers and leaves, in document 02's words.
 pub mod Outcome
--- Where the code stands between two tables, and what one table more does.
-pub mod Standing
-pub mod Ready
-pub mod Taking
+-- Which tables are read, and what the report says of them.
+pub mod Follows
+pub mod Reported
+pub mod Promises
+-- Its checks by their numbers.
+pub mod InOrder
+-- Small reports, computed.
+pub mod Examples
+-- What the contracts of the code cite.
+pub mod Same
+pub mod Turning
 -- What is true of them.
 pub mod Laws

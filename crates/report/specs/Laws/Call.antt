@@ -12,9 +12,9 @@ use Rattle.ground.specs.declared.Check.the-variants.{Passed, Refused}
 use Rattle.ground.specs.declared.Refusal.{Refusal}
 use Rattle.theory.specs.Tables.{limit}
 use Rattle.seen.specs.Columns.{Room}
-use Rattle.report.specs.Figures.{noFigures}
+use Rattle.figures.specs.Figures.{noFigures}
 use Rattle.report.specs.Outcome.{LeftReport, outcome, reportOutcome, roomCheck, short}
-use Rattle.report.specs.Reading.{mostSides, readAll}
+use Rattle.figures.specs.Reading.{mostSides, readAll}
 use Rattle.report.specs.declared.TermReport.{TermReport}
 
 pub room-passed : (f t s : List ℕ) → roomCheck (length f) (length t) (length s) ≡ Passed → Room mostSides f t s

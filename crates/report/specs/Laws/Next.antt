@@ -13,14 +13,15 @@ use Rattle.ground.specs.declared.Check.{Check}
 use Rattle.ground.specs.declared.Check.the-variants.{Passed, Refused}
 use Rattle.ground.specs.declared.Refusal.{Refusal}
 use Rattle.theory.specs.Tables.{limit}
-use Rattle.report.specs.Reading.{manyCheck, nextCheck, sameCheck, storedChecks}
-use Rattle.report.specs.Ready.{ReadReady, TableReady}
-use Rattle.report.specs.Standing.{Holds, Sound, Stands, otherCheck}
-use Rattle.report.specs.Taking.{Moved}
-use Rattle.report.specs.Tables.{Table, imagesIn, tableAt}
-use Rattle.report.specs.declared.Figures.{Figures}
-use Rattle.report.specs.declared.Standing.{Standing}
-use Rattle.report.specs.declared.Turn.{Turn}
+use Rattle.figures.specs.Reading.{manyCheck, nextCheck, sameCheck, storedChecks}
+use Rattle.counting.specs.Ready.{ReadReady, TableReady}
+use Rattle.counting.specs.Standing.{Holds, Sound, Stands}
+use Rattle.report.specs.Same.{otherCheck}
+use Rattle.counting.specs.Taking.{Moved}
+use Rattle.figures.specs.Tables.{Table, imagesIn, tableAt}
+use Rattle.figures.specs.declared.Figures.{Figures}
+use Rattle.counting.specs.declared.Standing.{Standing}
+use Rattle.counting.specs.declared.Turn.{Turn}
 
 -- ## 15
 

@@ -15,16 +15,16 @@ use Rattle.stored_costs.specs.Form.{costFormAt}
 use Rattle.stored_costs.specs.Laws.Enough.{table-readable}
 use Rattle.seen.specs.Columns.{Room}
 use Rattle.seen.specs.Laws.Columns.{stored-then}
-use Rattle.report.specs.Figures.{entriesAt}
+use Rattle.figures.specs.Figures.{entriesAt}
 use Rattle.report.specs.Laws.Run.{Running, held}
-use Rattle.report.specs.Laws.Tables.{sum-end}
+use Rattle.figures.specs.Laws.Tables.{sum-end}
 use Rattle.report.specs.Outcome.{LeftReport, outcome}
-use Rattle.report.specs.Reading.{goOn, manyCheck, mostSides, mostTables, nextCheck, readAll, readOn, sameCheck, storedChecks}
-use Rattle.report.specs.Taking.{Moved}
-use Rattle.report.specs.Tables.{Table, tableAt}
-use Rattle.report.specs.declared.Figures.{Figures}
-use Rattle.report.specs.declared.Standing.{Standing}
-use Rattle.report.specs.declared.Turn.{Turn}
+use Rattle.figures.specs.Reading.{goOn, manyCheck, mostSides, mostTables, nextCheck, readAll, readOn, sameCheck, storedChecks}
+use Rattle.counting.specs.Taking.{Moved}
+use Rattle.figures.specs.Tables.{Table, tableAt}
+use Rattle.figures.specs.declared.Figures.{Figures}
+use Rattle.counting.specs.declared.Standing.{Standing}
+use Rattle.counting.specs.declared.Turn.{Turn}
 
 -- one table more where bytes are left
 pub on-some : (m : ℕ) (ts : List Table) (b : List ℕ) → 0 < length b

@@ -1,6 +1,6 @@
 -- The next table as the reader gives it. Assumes nothing.
 use mathlib.Core.List.{List}
-use mathlib.Core.Path.{ap, refl, sym, _∙_, _≡_}
+use mathlib.Core.Path.{refl, sym, _≡_}
 use Prim.Native.Nat.{ℕ, _*_, _-_, _≤_}
 use native.Mathlib.Omega.{arith}
 use lib.ListN.{drop, length, take}
@@ -16,8 +16,8 @@ use Rattle.stored_costs.specs.Laws.Sizes.{square-le}
 use Rattle.stored_costs.specs.Outcomes.{readEither}
 use Rattle.stored_costs.specs.declared.StoredCosts.{StoredCosts}
 use Rattle.stored_costs.specs.declared.StoredCosts.the-variants as stored
-use Rattle.report.specs.Reading.{storedChecks}
-use Rattle.report.specs.Tables.{tableAt, tableOf}
+use Rattle.figures.specs.Reading.{storedChecks}
+use Rattle.figures.specs.Tables.{tableAt, tableOf}
 
 -- a table over n images of so many bytes, in the first places of t: it is the one at the front of the bytes s
 pub record Read (s t : List ℕ) (n more : ℕ) : Type 0 where

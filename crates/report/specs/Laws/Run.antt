@@ -10,13 +10,13 @@ use Rattle.theory.specs.Tables.{limit}
 use Rattle.seen.specs.Columns.{Room, Stored}
 use Rattle.seen.specs.Laws.Columns.{stored-again}
 use Rattle.seen.specs.Seen.{entries, seen}
-use Rattle.report.specs.Figures.{counts, entriesAt, figuresOf, noFigures, sidesAt}
+use Rattle.figures.specs.Figures.{counts, entriesAt, figuresOf, noFigures, sidesAt}
 use Rattle.report.specs.Outcome.{LeftReport, outcome}
-use Rattle.report.specs.Reading.{ended, mostSides, mostTables, readAll, readOn}
-use Rattle.report.specs.Ready.{Paused}
-use Rattle.report.specs.Standing.{Stands}
-use Rattle.report.specs.Tables.{Table, trees}
-use Rattle.report.specs.declared.Standing.{Standing}
+use Rattle.report.specs.Turning.{Paused}
+use Rattle.figures.specs.Reading.{ended, mostSides, mostTables, readAll, readOn}
+use Rattle.counting.specs.Standing.{Stands}
+use Rattle.figures.specs.Tables.{Table, trees}
+use Rattle.counting.specs.declared.Standing.{Standing}
 
 -- k tables were read; what is left of the reading is the same, and their entries stand in the slices, which were f, t, s
 pub record Running (bytes f t s : List ℕ) (k : ℕ) (here : Standing) (f′ t′ s′ : List ℕ) : Type 0 where

@@ -13,7 +13,7 @@ use Rattle.ground.specs.Ascending.{Between}
 use Rattle.ground.specs.Filters.{Each}
 use Rattle.ground.specs.Laws.Maps.{map-mem}
 use Rattle.ground.specs.Members.{isIn}
-use Rattle.theory.specs.LinkTables.{LinkTable, Row, costOf, far, fars}
+use Rattle.theory.specs.LinkTables.{LinkTable, Row, costOf, fars}
 use Rattle.seen.specs.Columns.{Small}
 use Rattle.seen.specs.Seen.{costSum, entries, has, inTrees, seen, Entry}
 use Rattle.seen.specs.Laws.OneMore.{absent}

@@ -1,0 +1,79 @@
+-- The checks of the report by their numbers, each with the number of the table that it is about: 0 for the room. Assumes nothing.
+use mathlib.Core.List.{List, [], _++_, _∷_}
+use mathlib.Core.Path.{refl, _∙_, _≡_}
+use Prim.Native.Nat.{suc, zero, ℕ, _+_}
+use native.Mathlib.Omega.{arith}
+use lib.Dec.{ltb}
+use lib.ListN.{drop, length}
+use Rattle.ground.specs.InOrder.{Decides, InOrder, Own}
+use Rattle.ground.specs.Laws.Filters.{each-nil}
+use Rattle.ground.specs.Laws.InOrder.{decides-next, join-order, refuse-order}
+use Rattle.ground.specs.Refusals.{ifPassed, refusal}
+use Rattle.ground.specs.Steps.{Step, about, _by_}
+use Rattle.ground.specs.declared.Check.{Check}
+use Rattle.ground.specs.declared.Check.the-variants.{Passed, Refused}
+use Rattle.ground.specs.declared.Refusal.{Refusal}
+use Rattle.stored_costs.specs.Form.{costFormAt}
+use Rattle.stored_costs.specs.InOrder.{table-order, tableSteps}
+use Rattle.figures.specs.Figures.{sidesAt}
+use Rattle.report.specs.Outcome.{outcome, refusedTable, reportOutcome, roomCheck, short}
+use Rattle.figures.specs.Reading.{Ended, differs, goOn, manyCheck, mostSides, mostTables, nextCheck, readAll, readOn, sameCheck}
+use Rattle.figures.specs.Tables.{Table, tableAt}
+
+-- 9, 1, 9, 11, 4, 15, 19 of the table at the front of s, once ts were read
+abbrev pub nextSteps : ℕ → List Table → List ℕ → List Step
+nextSteps L ts s = tableSteps (costFormAt s 0) s ++ (15 by sameCheck ts (tableAt s .images) ∷ 19 by manyCheck L (ts ++ (tableAt s ∷ [])) ∷ [])
+
+next-order : (L : ℕ) (ts : List Table) (s : List ℕ) → InOrder (nextSteps L ts s) (nextCheck L ts s)
+unfolding nextCheck
+next-order L ts s =
+    join-order (table-order (costFormAt s 0) s)
+    (join-order (refuse-order (differs ts (tableAt s .images)) (refusal 15 0 0 0 0) (omega arith))
+    (refuse-order (ltb mostSides (sidesAt L (ts ++ (tableAt s ∷ [])))) (refusal 19 0 0 0 0) (omega arith)))
+
+-- table by table, numbered on, up to k more once ts were read
+unfoldable pub stepsFrom : ℕ → ℕ → List Table → List ℕ → List Step
+stepsFrom L zero ts s = []
+stepsFrom L (suc k) ts [] = []
+stepsFrom L (suc k) ts (b ∷ s) =
+    about (length ts + 1) (nextSteps L ts (b ∷ s)) ++ stepsFrom L k (ts ++ (tableAt (b ∷ s) ∷ [])) (drop (tableAt (b ∷ s) .used) (b ∷ s))
+
+-- 3 for the room, then table by table
+abbrev pub reportSteps : ℕ → List ℕ → ℕ → ℕ → ℕ → List Step
+reportSteps L bytes f t s = about 0 (3 by roomCheck f t s ∷ []) ++ stepsFrom L mostTables [] bytes
+
+-- ## They decide how the report ends
+
+-- the table that was refused, and the refusal
+abbrev pub Stop : Type 0
+Stop = ℕ × Check
+
+abbrev pub stopAt : ℕ → Refusal → Stop
+stopAt k r = (k, Refused r)
+
+abbrev stopOf : Ended → Stop
+stopOf e = (refusedTable (e .stop) (length (e .read)), e .stop)
+
+from-decides : (L k : ℕ) (ts : List Table) (s : List ℕ) → Decides stopAt (stepsFrom L k ts s) (0, Passed) (stopOf (readOn L k ts s))
+unfolding stepsFrom readOn
+from-decides L zero ts s = record { same = refl; own = each-nil Own }
+from-decides L (suc k) ts [] = record { same = refl; own = each-nil Own }
+from-decides L (suc k) ts (b ∷ s) =
+    let next = readOn L k (ts ++ (tableAt (b ∷ s) ∷ [])) (drop (tableAt (b ∷ s) .used) (b ∷ s)) in
+    let d = decides-next stopAt (length ts + 1) (next-order L ts (b ∷ s))
+    (from-decides L k (ts ++ (tableAt (b ∷ s) ∷ [])) (drop (tableAt (b ∷ s) .used) (b ∷ s))) in
+    record { same = go (nextCheck L ts (b ∷ s)) next ∙ d .same; own = d .own }
+  where
+    go : (c : Check) (e : Ended) → stopOf (goOn c ts e) ≡ ifPassed (stopAt (length ts + 1)) c (stopOf e)
+    go Passed e = refl
+    go (Refused r) e = refl
+
+pub report-decides : (L : ℕ) (bytes f t s : List ℕ)
+    → let a = reportOutcome L bytes f t s .answer in Decides stopAt (reportSteps L bytes (length f) (length t) (length s)) (0, Passed) (a .table, a .stop)
+report-decides L bytes f t s =
+    let d = decides-next stopAt 0 (refuse-order (short (length f) (length t) (length s)) (refusal 3 0 0 0 0) (omega arith)) (from-decides L mostTables [] bytes) in
+    record { same = go (roomCheck (length f) (length t) (length s)) (readAll L bytes) ∙ d .same; own = d .own }
+  where
+    go : (c : Check) (e : Ended) → (outcome L c e f t s .answer .table, outcome L c e f t s .answer .stop) ≡ ifPassed (stopAt 0) c (stopOf e)
+    go Passed e = refl
+    go (Refused r) e = refl
