@@ -1,4 +1,4 @@
--- `index::one_more` meets its contract: what is least over the two lists is least over the two sides. Assumes nothing.
+-- `index_more::one_more` meets its contract: what is least over the two lists is least over the two sides. Assumes nothing.
 use mathlib.Core.Path.{_∙_, _≡_}
 use Prim.Native.Nat.{_+_}
 use native.Mathlib.Omega.{arith}
@@ -6,11 +6,11 @@ use Rattle.ground.specs.Bits.{bit}
 use Rattle.ground.specs.Laws.Bits.{bit-lt}
 use Rattle.theory.specs.OneMore.{broughtFast}
 use Rattle.theory.specs.Tables.{cost, limit}
-use Rattle.index.specs.Sides.{BothSides}
-use Rattle.index.specs.Laws.Sides.{images-wider, more-at}
+use Rattle.index_more.specs.Sides.{BothSides}
+use Rattle.index_more.specs.Laws.Sides.{images-wider, more-at}
 use borrow.Author.Needs.{needs}
-use Rattle.index.proofs.one_more.Statement.{statement}
-use Rattle.index.proofs.one_more.Tie as tie
+use Rattle.index_more.proofs.one_more.Statement.{statement}
+use Rattle.index_more.proofs.one_more.Tie as tie
 
 -- the two lists are the two sides of the division
 split : (c : tie.After-sides)

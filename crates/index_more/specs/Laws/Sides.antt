@@ -13,7 +13,7 @@ use borrow.Table.Steps.{cases}
 use Rattle.ground.specs.Least.{leastOn}
 use Rattle.ground.specs.Laws.Least.{leastOn-same}
 use Rattle.theory.specs.OneMore.{broughtFast, broughtNear, broughtSide}
-use Rattle.index.specs.Sides.{Gathered, Images, BothSides, leastAt, moreAt}
+use Rattle.index_more.specs.Sides.{Gathered, Images, BothSides, leastAt, moreAt}
 
 -- ## One image more
 

@@ -1,9 +1,9 @@
--- `index::turn_side` meets its contract. Assumes nothing.
+-- `index_more::turn_side` meets its contract. Assumes nothing.
 use mathlib.Core.Path.{_∙_}
 use native.Mathlib.Omega.{arith}
 use borrow.Author.Needs.{needs}
-use Rattle.index.proofs.turn_side.Statement.{statement}
-use Rattle.index.proofs.turn_side.Tie as tie
+use Rattle.index_more.proofs.turn_side.Statement.{statement}
+use Rattle.index_more.proofs.turn_side.Tie as tie
 
 entry-requires : tie.Need-entry-requires
 entry-requires c κs = search needs

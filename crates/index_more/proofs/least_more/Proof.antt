@@ -1,13 +1,13 @@
--- `index::least_more` meets its contract: best is the least over the places so far. Assumes nothing.
+-- `index_more::least_more` meets its contract: best is the least over the places so far. Assumes nothing.
 use mathlib.Core.Path.{_≡_}
 use Prim.Native.Nat.{_*_, _-_, _≤_}
 use native.Mathlib.Omega.{arith}
 use Rattle.ground.specs.Laws.Least.{leastOn-end, leastOn-none, leastOn-turn}
 use Rattle.theory.specs.Tables.{cost, limit}
-use Rattle.index.specs.Sides.{leastAt, choicesAt}
+use Rattle.index_more.specs.Sides.{leastAt, choicesAt}
 use borrow.Author.Needs.{needs}
-use Rattle.index.proofs.least_more.Statement.{statement}
-use Rattle.index.proofs.least_more.Tie as tie
+use Rattle.index_more.proofs.least_more.Statement.{statement}
+use Rattle.index_more.proofs.least_more.Tie as tie
 
 abbrev Inv-loop : tie.InvT-loop
 Inv-loop t n k own count other rest best₀ i₀ best i = (i ≤ rest) × (best ≡ leastAt i other (4 * limit) (choicesAt limit (cost t n) k own count other rest))

@@ -1,13 +1,13 @@
--- `index::least_side` meets its contract: best is the least over the places so far. Assumes nothing.
+-- `index_more::least_side` meets its contract: best is the least over the places so far. Assumes nothing.
 use mathlib.Core.Path.{_≡_}
 use Prim.Native.Nat.{_*_, _+_, _-_, _≤_}
 use native.Mathlib.Omega.{arith}
 use Rattle.ground.specs.Laws.Least.{leastOn-end, leastOn-none, leastOn-turn}
 use Rattle.theory.specs.Tables.{cost, limit}
-use Rattle.index.specs.Sides.{leastAt}
+use Rattle.index_more.specs.Sides.{leastAt}
 use borrow.Author.Needs.{needs}
-use Rattle.index.proofs.least_side.Statement.{statement}
-use Rattle.index.proofs.least_side.Tie as tie
+use Rattle.index_more.proofs.least_side.Statement.{statement}
+use Rattle.index_more.proofs.least_side.Tie as tie
 
 abbrev Inv-loop : tie.InvT-loop
 Inv-loop t n k e low own count best₀ i₀ best i = (i ≤ count) × (best ≡ leastAt i own (4 * limit) (λ a. low + (limit + cost t n a e - cost t n k a)))

@@ -1,12 +1,12 @@
--- `index::turn_sides` meets its contract: image b is stored behind both, and counted on its own side. Assumes nothing.
+-- `index_more::turn_sides` meets its contract: image b is stored behind both, and counted on its own side. Assumes nothing.
 use mathlib.Core.Path.{_∙_, sym}
 use native.Mathlib.Omega.{arith}
 use Rattle.ground.specs.Bits.{bit}
 use Rattle.ground.specs.Laws.Bits.{bit-lt}
-use Rattle.index.specs.Laws.Sides.{split-mine, split-rest}
+use Rattle.index_more.specs.Laws.Sides.{split-mine, split-rest}
 use borrow.Author.Needs.{needs}
-use Rattle.index.proofs.turn_sides.Statement.{statement}
-use Rattle.index.proofs.turn_sides.Tie as tie
+use Rattle.index_more.proofs.turn_sides.Statement.{statement}
+use Rattle.index_more.proofs.turn_sides.Tie as tie
 
 byte-requires : tie.Need-byte-requires
 byte-requires c κs = search needs

@@ -1,14 +1,14 @@
--- `index::sides` meets its contract: the images below b are split. Assumes nothing.
+-- `index_more::sides` meets its contract: the images below b are split. Assumes nothing.
 use Prim.Native.Nat.{_+_, _-_, _≤_, suc}
 use lib.ListN.{length}
 use mathlib.Core.Path.{_≡_}
 use native.Mathlib.Omega.{arith}
 use Rattle.ground.specs.Bits.{bit}
-use Rattle.index.specs.Sides.{BothSides}
-use Rattle.index.specs.Laws.Sides.{split-none}
+use Rattle.index_more.specs.Sides.{BothSides}
+use Rattle.index_more.specs.Laws.Sides.{split-none}
 use borrow.Author.Needs.{needs}
-use Rattle.index.proofs.sides.Statement.{statement}
-use Rattle.index.proofs.sides.Tie as tie
+use Rattle.index_more.proofs.sides.Statement.{statement}
+use Rattle.index_more.proofs.sides.Tie as tie
 
 abbrev Inv-loop : tie.InvT-loop
 Inv-loop s h k own₀ other₀ count₀ b₀ own other count b =

@@ -1,13 +1,13 @@
--- `index::near` meets its contract: best is the least over the places so far. Assumes nothing.
+-- `index_more::near` meets its contract: best is the least over the places so far. Assumes nothing.
 use mathlib.Core.Path.{_≡_}
 use Prim.Native.Nat.{_*_, _+_, _-_, _≤_}
 use native.Mathlib.Omega.{arith}
 use Rattle.ground.specs.Laws.Least.{leastOn-cap, leastOn-end, leastOn-none, leastOn-turn}
 use Rattle.theory.specs.Tables.{cost, limit}
-use Rattle.index.specs.Sides.{leastAt}
+use Rattle.index_more.specs.Sides.{leastAt}
 use borrow.Author.Needs.{needs}
-use Rattle.index.proofs.near.Statement.{statement}
-use Rattle.index.proofs.near.Tie as tie
+use Rattle.index_more.proofs.near.Statement.{statement}
+use Rattle.index_more.proofs.near.Tie as tie
 
 abbrev Inv-loop : tie.InvT-loop
 Inv-loop t n k e other count best₀ i₀ best i = (i ≤ count) × (best ≡ leastAt i other (4 * limit) (λ b. limit + cost t n k b - cost t n b e))

@@ -1,8 +1,8 @@
--- `index::turn_more` meets its contract. Assumes nothing.
+-- `index_more::turn_more` meets its contract. Assumes nothing.
 use native.Mathlib.Omega.{arith}
 use borrow.Author.Needs.{needs}
-use Rattle.index.proofs.turn_more.Statement.{statement}
-use Rattle.index.proofs.turn_more.Tie as tie
+use Rattle.index_more.proofs.turn_more.Statement.{statement}
+use Rattle.index_more.proofs.turn_more.Tie as tie
 
 near-requires : tie.Need-near-requires
 near-requires c κs = search needs
