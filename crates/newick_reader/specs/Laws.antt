@@ -2,12 +2,8 @@
 pub mod Marks
 pub mod Named
 pub mod Falls
--- The rows put in their places are the sorted rows.
-pub mod Distinct
+-- The rows noted, put in their places, are the rows of the tree.
 pub mod Differing
-pub mod Capped
-pub mod Collecting
-pub mod Searching
 pub mod Table
 -- What was noted of a whole text becomes what reading it answers.
 pub mod Outcomes

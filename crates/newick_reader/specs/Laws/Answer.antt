@@ -35,12 +35,13 @@ use Rattle.newick_text.specs.Laws.ReadLinks.{cost-good}
 use Rattle.newick_text.specs.Laws.Lists.{at-row}
 use Rattle.newick_text.specs.Laws.NamedOnce.{AllOnce, all-once}
 use Rattle.newick_text.specs.Laws.Accepted.{done-is}
-use Rattle.newick_reader.specs.Capping.{capped}
-use Rattle.newick_reader.specs.Notes.{nameChecks, noteOutcome, notedTable, rowChecks, unnamed}
+use Rattle.newick_table.specs.Capping.{capped}
+use Rattle.newick_table.specs.Notes.{nameChecks, notedTable, rowChecks, unnamed}
+use Rattle.newick_reader.specs.Notes.{noteOutcome}
 use Rattle.newick_reader.specs.Outcomes.{readOutcome, rowsIf}
-use Rattle.newick_reader.specs.Laws.Capped.{capped-bad, capped-cost, capped-far, capped-length, capped-same}
+use Rattle.newick_table.specs.Laws.Capped.{capped-bad, capped-cost, capped-far, capped-length, capped-same}
 use Rattle.newick_reader.specs.Laws.Named.{marked-names}
-use Rattle.newick_reader.specs.Laws.Searching.{check-same}
+use Rattle.newick_table.specs.Laws.Searching.{check-same}
 use Rattle.newick_reader.specs.Laws.Table.{noted-count, noted-fall, noted-table}
 
 -- ## 13

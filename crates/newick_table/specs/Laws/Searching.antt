@@ -16,8 +16,8 @@ use Rattle.tree.specs.LocalRows.{rowsIn}
 use Rattle.links.specs.BadRows.{badCost}
 use Rattle.links.specs.FirstChecks.{firstCheck}
 use Rattle.newick_text.specs.Reading.{costsCheck}
-use Rattle.newick_reader.specs.Laws.Collecting.{cost-at, far-at}
-use Rattle.newick_reader.specs.Notes.{badAt}
+use Rattle.newick_table.specs.Laws.Collecting.{cost-at, far-at}
+use Rattle.newick_table.specs.Notes.{badAt}
 
 pub first-same : (p q : ℕ → Bool) (n : ℕ) → ((k : ℕ) → k < n → p k ≡ q k) → first p n ≡ first q n
 unfolding first
