@@ -5,7 +5,7 @@ use Prim.Native.Nat.{ℕ, _-_, _≤_}
 use lib.ListN.{drop, length, take}
 use Rattle.links.specs.Links.{Links}
 use Rattle.stored_links.specs.Form.{linkUsed}
-use Rattle.batch.specs.Tables.{Table}
+use Rattle.joined_tables.specs.Tables.{Table}
 use Rattle.bits.specs.declared.Form.{Form}
 
 -- the first N rows are a link table over n images, and there is room for its stored form

@@ -19,8 +19,8 @@ use Rattle.stored_links.specs.Form.{linkBytes, linkUsed}
 use Rattle.stored_links.specs.Laws.Form.{length-links}
 use Rattle.link_writer.specs.Laws.Accepted.{passed-write, write-passed}
 use Rattle.link_writer.specs.Writing.{RoomFor, fitChecks, storeChecks}
-use Rattle.batch.specs.Fitting.{NextFits}
-use Rattle.batch.specs.Tables.{leftOverChecks, nextChecks, runOutChecks}
+use Rattle.joined_tables.specs.Fitting.{NextFits}
+use Rattle.joined_tables.specs.Tables.{leftOverChecks, nextChecks, runOutChecks}
 use Rattle.bits.specs.declared.Form.{Form}
 
 pub run-out-passed : (N : ℕ) (l v : List ℕ) → runOutChecks N l v ≡ Passed → (N ≤ length l) × (N ≤ length v)

@@ -1,8 +1,8 @@
--- `batch::number_at` meets its contract: a number of 32 bits is one of 64. Assumes nothing.
+-- `joined_tables::number_at` meets its contract: a number of 32 bits is one of 64. Assumes nothing.
 use native.Mathlib.Omega.{arith}
 use borrow.Author.Needs.{needs}
-use Rattle.batch.proofs.number_at.Statement.{statement}
-use Rattle.batch.proofs.number_at.Tie as tie
+use Rattle.joined_tables.proofs.number_at.Statement.{statement}
+use Rattle.joined_tables.proofs.number_at.Tie as tie
 
 mul-result : tie.Need-mul-result
 mul-result c = search needs

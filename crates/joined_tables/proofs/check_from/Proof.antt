@@ -1,8 +1,8 @@
--- `batch::check_from` meets its contract: the parts from the place on are handed on. Assumes nothing.
+-- `joined_tables::check_from` meets its contract: the parts from the place on are handed on. Assumes nothing.
 use Rattle.ground.specs.Laws.Buffers.{rest-part}
 use borrow.Author.Needs.{needs}
-use Rattle.batch.proofs.check_from.Statement.{statement}
-use Rattle.batch.proofs.check_from.Tie as tie
+use Rattle.joined_tables.proofs.check_from.Statement.{statement}
+use Rattle.joined_tables.proofs.check_from.Tie as tie
 
 mul-check-next : tie.Need-mul-check-next
 mul-check-next c = search needs

@@ -1,14 +1,14 @@
--- `batch::check_next` meets its contract: the rows are looked at once they are there. Assumes nothing.
+-- `joined_tables::check_next` meets its contract: the rows are looked at once they are there. Assumes nothing.
 use mathlib.Core.Path.{sym, _∙_}
 use native.Mathlib.Omega.{arith}
 use lib.ListN.{take}
 use Rattle.ground.specs.Laws.Refusals.{then-goes, then-stops}
 use Rattle.links.specs.Laws.LinkChecks.{LinksSized}
 use Rattle.stored_links.specs.Laws.Told.{form-small}
-use Rattle.batch.specs.Laws.Next.{next-sized}
+use Rattle.joined_tables.specs.Laws.Next.{next-sized}
 use borrow.Author.Needs.{needs}
-use Rattle.batch.proofs.check_next.Statement.{statement}
-use Rattle.batch.proofs.check_next.Tie as tie
+use Rattle.joined_tables.proofs.check_next.Statement.{statement}
+use Rattle.joined_tables.proofs.check_next.Tie as tie
 
 abbrev begun : tie.After-enum-told3 → tie.Start
 begun c = c .before .before .before .before .before .before .before .before

@@ -1,8 +1,8 @@
--- `batch::check_left_over` meets its contract: the first refusal is the answer. Assumes nothing.
+-- `joined_tables::check_run_out` meets its contract: the first refusal is the answer. Assumes nothing.
 use Rattle.ground.specs.Laws.Refusals.{then-goes, then-stops}
 use borrow.Author.Needs.{needs}
-use Rattle.batch.proofs.check_left_over.Statement.{statement}
-use Rattle.batch.proofs.check_left_over.Tie as tie
+use Rattle.joined_tables.proofs.check_run_out.Statement.{statement}
+use Rattle.joined_tables.proofs.check_run_out.Tie as tie
 
 refuse-if-requires : tie.Need-refuse-if-requires
 refuse-if-requires c κs = search needs
@@ -22,8 +22,8 @@ refuse-if-requires-2 c κs = search needs
 returns-2 : tie.Need-returns-2
 returns-2 c = let d = c .before in then-goes _ _ (d .enum-told .given .1) (d .before .before .refuse-if .ensures) (c .refuse-if2 .ensures)
 
-pub check-left-over-spec : {M : Type 1} → statement M
-check-left-over-spec =
+pub check-run-out-spec : {M : Type 1} → statement M
+check-run-out-spec =
     tie.close
     (tie.spec
     refuse-if-requires

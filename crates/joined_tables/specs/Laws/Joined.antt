@@ -8,11 +8,11 @@ use lib.Seq.{drop-at, drop-drop, length-take-le, take-at}
 use Rattle.ground.specs.Buffers.{front}
 use Rattle.ground.specs.Laws.Buffers.{rest-part, rest-put}
 use Rattle.stored_links.specs.Form.{linkBytes, linkUsed}
-use Rattle.batch.specs.Batch.{batchBytes}
-use Rattle.batch.specs.Fitting.{NextFits}
-use Rattle.batch.specs.Laws.Next.{length-next}
-use Rattle.batch.specs.Laws.Steps.{bytes-step, tables-end}
-use Rattle.batch.specs.Tables.{tables}
+use Rattle.joined_tables.specs.Bytes.{batchBytes}
+use Rattle.joined_tables.specs.Fitting.{NextFits}
+use Rattle.joined_tables.specs.Laws.Next.{length-next}
+use Rattle.joined_tables.specs.Laws.Steps.{bytes-step, tables-end}
+use Rattle.joined_tables.specs.Tables.{tables}
 use Rattle.bits.specs.declared.Form.{Form}
 
 front-append : (a b d : List ℕ) → front (a ++ b) d ≡ a ++ front b (drop (length a) d)

@@ -1,14 +1,14 @@
--- `batch::put_next` meets its contract: the writer gets the rows of the table alone. Assumes nothing.
+-- `joined_tables::put_next` meets its contract: the writer gets the rows of the table alone. Assumes nothing.
 use mathlib.Core.Path.{ap, refl, _∙_, _≡_}
 use Prim.Native.Nat.{ℕ, _+_, _-_, _≤_}
 use native.Mathlib.Omega.{arith}
 use lib.ListN.{length, length-drop}
 use Rattle.stored_links.specs.Form.{linkForm, linkUsed}
 use Rattle.stored_links.specs.Laws.Told.{form-small}
-use Rattle.batch.specs.Laws.Next.{next-count, next-length, next-room}
+use Rattle.joined_tables.specs.Laws.Next.{next-count, next-length, next-room}
 use borrow.Author.Needs.{needs}
-use Rattle.batch.proofs.put_next.Statement.{statement}
-use Rattle.batch.proofs.put_next.Tie as tie
+use Rattle.joined_tables.proofs.put_next.Statement.{statement}
+use Rattle.joined_tables.proofs.put_next.Tie as tie
 
 abbrev begun : tie.After-slice-known → tie.Start
 begun c = c .before .before .before

@@ -1,4 +1,4 @@
--- `batch::put_tables` meets its contract: each turn writes the next table into the rest of the lent bytes. Assumes nothing.
+-- `joined_tables::put_tables` meets its contract: each turn writes the next table into the rest of the lent bytes. Assumes nothing.
 use mathlib.Core.Path.{refl, sym, _≡_}
 use Prim.Native.Nat.{ℕ, _+_, _-_, _≤_}
 use native.Mathlib.Omega.{arith}
@@ -7,15 +7,15 @@ use Rattle.ground.specs.Buffers.{front}
 use Rattle.ground.specs.Laws.Buffers.{rest-part}
 use Rattle.stored_links.specs.Form.{linkForm, linkUsed}
 use Rattle.bits.specs.declared.Form.{Form}
-use Rattle.batch.specs.Batch.{batchBytes}
-use Rattle.batch.specs.Fitting.{BatchFits, NextFits}
-use Rattle.batch.specs.Laws.Joined.{joined-end, joined-more, joined-start, joinedAt}
-use Rattle.batch.specs.Laws.Next.{next-length}
-use Rattle.batch.specs.Laws.Steps.{fits-start, fits-step}
-use Rattle.batch.specs.Tables.{tables}
+use Rattle.joined_tables.specs.Bytes.{batchBytes}
+use Rattle.joined_tables.specs.Fitting.{BatchFits, NextFits}
+use Rattle.joined_tables.specs.Laws.Joined.{joined-end, joined-more, joined-start, joinedAt}
+use Rattle.joined_tables.specs.Laws.Next.{next-length}
+use Rattle.joined_tables.specs.Laws.Steps.{fits-start, fits-step}
+use Rattle.joined_tables.specs.Tables.{tables}
 use borrow.Author.Needs.{needs}
-use Rattle.batch.proofs.put_tables.Statement.{statement}
-use Rattle.batch.proofs.put_tables.Tie as tie
+use Rattle.joined_tables.proofs.put_tables.Statement.{statement}
+use Rattle.joined_tables.proofs.put_tables.Tie as tie
 
 abbrev Inv-loop : tie.InvT-loop
 Inv-loop edition ns counts fars costs out₀ used₀ rows₀ i₀ out used rows i =
