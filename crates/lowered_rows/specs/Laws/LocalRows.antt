@@ -8,7 +8,7 @@ use lib.ListN.{getD, length, length-append, set, take}
 use lib.Seq.{getD-set-other, getD-set-same, take-suc}
 use Rattle.ground.specs.Laws.Maps.{map-append}
 use Rattle.theory.specs.LinkTables.{costs, far, fars}
-use Rattle.growing.specs.LocalRows.{rowsIn}
+use Rattle.lowered_rows.specs.LocalRows.{rowsIn}
 
 pub rowsIn-none : (f v : List ℕ) → rowsIn f v 0 ≡ []
 unfolding rowsIn

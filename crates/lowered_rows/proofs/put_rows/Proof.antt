@@ -1,13 +1,13 @@
--- `growing::put_rows` meets its contract: the old rows that went by are put. Assumes nothing.
+-- `lowered_rows::put_rows` meets its contract: the old rows that went by are put. Assumes nothing.
 use Prim.Native.Nat.{_-_, _<_, _≤_}
 use native.Mathlib.Omega.{arith}
 use lib.ListN.{getD, length}
 use Rattle.theory.specs.Tables.{limit}
-use Rattle.growing.specs.Putting.{PutAll, loweredIn}
-use Rattle.growing.specs.Laws.Putting.{put-end, put-more, put-none, put-room}
+use Rattle.lowered_rows.specs.Putting.{PutAll, loweredIn}
+use Rattle.lowered_rows.specs.Laws.Putting.{put-end, put-more, put-none, put-room}
 use borrow.Author.Needs.{needs}
-use Rattle.growing.proofs.put_rows.Statement.{statement}
-use Rattle.growing.proofs.put_rows.Tie as tie
+use Rattle.lowered_rows.proofs.put_rows.Statement.{statement}
+use Rattle.lowered_rows.proofs.put_rows.Tie as tie
 
 abbrev Inv-loop : tie.InvT-loop
 Inv-loop k add f v count slots best at fars₀ costs₀ place₀ i₀ fars costs place i =
