@@ -5,7 +5,7 @@ ghost use lib.Dec.{ltb};
 ghost use lib.ListN.{length};
 ghost use Rattle.ground.specs.Counts.{one-if};
 ghost use Rattle.theory.specs.Tables.{limit, cost, CostTable};
-ghost use Rattle.chains.specs.Chains.{pick};
+ghost use Rattle.upper_sides.specs.Chains.{pick};
 ghost use Rattle.brought.specs.Answers.{AllBrought};
 ghost use Rattle.brought.specs.Choosing.{inSide, inLive, SidePut, Room, Outs, Ins};
 ghost use Rattle.brought.specs.Chosen.{oneImage, isStored, slotOf, storedOf, Rising, Rowed};
@@ -120,7 +120,7 @@ fn slot(live: bool, s: u64, place: usize) -> usize
     ensures { λ r. ⌜ (r ≡ slotOf live s place) × (r < 192) ⌝ }
 {
     if is_alone(s) {
-        return chains::lowest(s);
+        return upper_sides::lowest(s);
     }
     if live {
         return 64 + place;

@@ -8,7 +8,7 @@ use borrow.Author.Tests.{eqb-false, eqb-true, ltb-false, ltb-true}
 use borrow.Table.Steps.{cases}
 use Rattle.ground.specs.Counts.{one-if}
 use Rattle.ground.specs.Laws.Bits.{bit-above, bit-same, bit-top}
-use Rattle.chains.specs.Chains.{pick}
+use Rattle.upper_sides.specs.Chains.{pick}
 use Rattle.brought.specs.Near.{Closest, NearImages, nearImage}
 
 module _ (d : ℕ → ℕ → ℕ) (k : ℕ) where

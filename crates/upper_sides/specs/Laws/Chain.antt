@@ -11,8 +11,8 @@ use borrow.Table.Steps.{cases}
 use Rattle.ground.specs.Bits.{bit}
 use Rattle.ground.specs.Laws.Bits.{bit-lt, bit-pow, bit-pow-other}
 use Rattle.ground.specs.Least.{leastOn}
-use Rattle.chains.specs.Chains.{Chained, ahead, apartOn, depthAt, gapOn, heldAt, nearOn}
-use Rattle.chains.specs.Laws.Parts.{least-beside, least-whole}
+use Rattle.upper_sides.specs.Chains.{Chained, ahead, apartOn, depthAt, gapOn, heldAt, nearOn}
+use Rattle.upper_sides.specs.Laws.Parts.{least-beside, least-whole}
 
 -- ## One side more
 

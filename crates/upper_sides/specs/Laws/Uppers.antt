@@ -15,10 +15,10 @@ use Rattle.ground.specs.Bits.{bit}
 use Rattle.ground.specs.Laws.Bits.{bit-and, bit-full, bit-lt, bit-none, bit-or}
 use Rattle.theory.specs.Laws.Contained.{within-and}
 use Rattle.theory.specs.Laws.Nested.{bit-holds, holds-true}
-use Rattle.chains.specs.Chains.{Chained, Family}
-use Rattle.chains.specs.Links.{Holder, Linked, Linking, PlacesMarked, FirstContaining}
-use Rattle.chains.specs.Laws.Lowest.{drop-lowest, lowest-one}
-use Rattle.chains.specs.Laws.Parts.{bit-minus, bits-le}
+use Rattle.upper_sides.specs.Chains.{Chained, Family}
+use Rattle.upper_sides.specs.Links.{Holder, Linked, Linking, PlacesMarked, FirstContaining}
+use Rattle.upper_sides.specs.Laws.Lowest.{drop-lowest, lowest-one}
+use Rattle.upper_sides.specs.Laws.Parts.{bit-minus, bits-le}
 
 -- a side contains s, image by image
 contains-bits : (s r y : ℕ) → bitAnd s r ≡ s → bit s y ≡ 1 → bit r y ≡ 1

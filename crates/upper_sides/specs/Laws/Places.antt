@@ -8,8 +8,8 @@ use lib.ListN.{getD}
 use borrow.Author.Tests.{eq-eqb, eqb-false, eqb-true, ne-eqb}
 use borrow.Table.Steps.{cases}
 use Rattle.ground.specs.Bits.{bit}
-use Rattle.chains.specs.Chains.{depthAt, heldAt, pick}
-use Rattle.chains.specs.Laws.Chain.{depth-in, depth-none, depth-out, held-out}
+use Rattle.upper_sides.specs.Chains.{depthAt, heldAt, pick}
+use Rattle.upper_sides.specs.Laws.Chain.{depth-in, depth-none, depth-out, held-out}
 
 -- the place of the last of the first i sides that hold z, counted from 1; 0 before any
 unfoldable pub lastAt : List ℕ → ℕ → ℕ → ℕ

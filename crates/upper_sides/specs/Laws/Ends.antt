@@ -14,7 +14,7 @@ use Rattle.ground.specs.Least.{On, leastOn}
 use Rattle.ground.specs.Laws.Least.{le-leastOn, leastOn-at, leastOn-le, leastOn-same}
 use Rattle.theory.specs.OneMore.{broughtNear, broughtSide}
 use Rattle.theory.specs.Tables.{WellFormed}
-use Rattle.chains.specs.Chains.{ahead, apartOn, nearOn}
+use Rattle.upper_sides.specs.Chains.{ahead, apartOn, nearOn}
 
 module _ (L : ℕ) (d : ℕ → ℕ → ℕ) (k : ℕ) (w : WellFormed L d (suc k)) (z : ℕ) (hz : z < k) where
   near-cap : (B : ℕ) → bit B z ≡ 1 → nearOn L d k z B ≤ L + d k z

@@ -1,12 +1,12 @@
--- `chains::next` meets its contract: no side from `from` up to place j contains s. Assumes nothing.
+-- `upper_sides::next` meets its contract: no side from `from` up to place j contains s. Assumes nothing.
 use mathlib.Core.Path.{sym, _∙_}
 use Prim.Native.Nat.{_-_, _≤_}
 use native.Mathlib.Omega.{arith}
 use borrow.Author.Tests.{eqb-false, eqb-true}
-use Rattle.chains.specs.Laws.Uppers.{Passed, passed-more, passed-none}
+use Rattle.upper_sides.specs.Laws.Uppers.{Passed, passed-more, passed-none}
 use borrow.Author.Needs.{needs}
-use Rattle.chains.proofs.next.Statement.{statement}
-use Rattle.chains.proofs.next.Tie as tie
+use Rattle.upper_sides.proofs.next.Statement.{statement}
+use Rattle.upper_sides.proofs.next.Tie as tie
 
 abbrev Inv-loop : tie.InvT-loop
 Inv-loop sides count s from j₀ j = (from ≤ j) × (j ≤ count) × Passed sides s from j

@@ -1,11 +1,11 @@
--- `chains::turn_link` meets its contract: one side more has gone by. Assumes nothing.
+-- `upper_sides::turn_link` meets its contract: one side more has gone by. Assumes nothing.
 use Prim.Native.Nat.{_<_, _^_}
 use native.Mathlib.Omega.{arith}
 use lib.ListN.{length-set}
-use Rattle.chains.specs.Laws.Uppers.{both-less, linking-more}
+use Rattle.upper_sides.specs.Laws.Uppers.{both-less, linking-more}
 use borrow.Author.Needs.{needs}
-use Rattle.chains.proofs.turn_link.Statement.{statement}
-use Rattle.chains.proofs.turn_link.Tie as tie
+use Rattle.upper_sides.proofs.turn_link.Statement.{statement}
+use Rattle.upper_sides.proofs.turn_link.Tie as tie
 
 -- a number of 64 bits
 fits : (b : tie.Start) → b .args .seen < 2 ^ 64

@@ -1,15 +1,15 @@
--- `chains::mark` meets its contract: the images that are not left have their place. Assumes nothing.
+-- `upper_sides::mark` meets its contract: the images that are not left have their place. Assumes nothing.
 use mathlib.Core.Path.{_≡_}
 use Prim.Native.Nat.{_-_, _<_, _^_, _≤_, ℕ}
 use native.Mathlib.Omega.{arith}
 use Rattle.ground.specs.Bits.{bit}
 use Rattle.ground.specs.Laws.Bits.{bit-and}
-use Rattle.chains.specs.Links.{PlacesMarked}
-use Rattle.chains.specs.Laws.Lowest.{lowest-one, without-fits, without-less}
-use Rattle.chains.specs.Laws.Uppers.{marked-more, marked-none}
+use Rattle.upper_sides.specs.Links.{PlacesMarked}
+use Rattle.upper_sides.specs.Laws.Lowest.{lowest-one, without-fits, without-less}
+use Rattle.upper_sides.specs.Laws.Uppers.{marked-more, marked-none}
 use borrow.Author.Needs.{needs}
-use Rattle.chains.proofs.mark.Statement.{statement}
-use Rattle.chains.proofs.mark.Tie as tie
+use Rattle.upper_sides.proofs.mark.Statement.{statement}
+use Rattle.upper_sides.proofs.mark.Tie as tie
 
 abbrev Inv-loop : tie.InvT-loop
 Inv-loop m j links₀ rest₀ links rest = (rest < 2 ^ 64) × ((z : ℕ) → bit rest z ≤ bit m z) × PlacesMarked m j rest links₀ links

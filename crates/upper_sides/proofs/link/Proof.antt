@@ -1,12 +1,12 @@
--- `chains::link` meets its contract: the sides below place i have gone by. Assumes nothing.
+-- `upper_sides::link` meets its contract: the sides below place i have gone by. Assumes nothing.
 use mathlib.Core.Path.{sym, _∙_, _≡_}
 use Prim.Native.Nat.{_-_, _≤_}
 use native.Mathlib.Omega.{arith}
-use Rattle.chains.specs.Links.{Linking}
-use Rattle.chains.specs.Laws.Uppers.{linking-end, linking-none}
+use Rattle.upper_sides.specs.Links.{Linking}
+use Rattle.upper_sides.specs.Laws.Uppers.{linking-end, linking-none}
 use borrow.Author.Needs.{needs}
-use Rattle.chains.proofs.link.Statement.{statement}
-use Rattle.chains.proofs.link.Tie as tie
+use Rattle.upper_sides.proofs.link.Statement.{statement}
+use Rattle.upper_sides.proofs.link.Tie as tie
 
 abbrev Inv-loop : tie.InvT-loop
 Inv-loop sides count links₀ seen₀ i₀ links seen i = (i ≤ count) × Linking sides count i seen links
