@@ -19,7 +19,7 @@ use Rattle.theory.specs.Laws.Nested.{bit-holds, holds-false, holds-true}
 use Rattle.upper_sides.specs.Chains.{Family}
 use Rattle.brought.specs.Choosing.{inLive, inSide, outLive, outSide}
 use Rattle.brought.specs.Chosen.{Rowed, SidesStored}
-use Rattle.brought.specs.Near.{goesIn, goesOut}
+use Rattle.near_images.specs.Near.{goesIn, goesOut}
 use Rattle.brought.specs.Laws.Turned.{bit-rest, rest-lt}
 use Rattle.upper_sides.specs.Laws.Lowest.{one-below}
 use Rattle.upper_sides.specs.Laws.Parts.{bits-le}

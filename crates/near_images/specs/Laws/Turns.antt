@@ -9,7 +9,7 @@ use borrow.Table.Steps.{cases}
 use Rattle.ground.specs.Counts.{one-if}
 use Rattle.ground.specs.Laws.Bits.{bit-above, bit-same, bit-top}
 use Rattle.upper_sides.specs.Chains.{pick}
-use Rattle.brought.specs.Near.{Closest, NearImages, nearImage}
+use Rattle.near_images.specs.Near.{Closest, NearImages, nearImage}
 
 module _ (d : ℕ → ℕ → ℕ) (k : ℕ) where
   pub closest-none : Closest d k 2 1

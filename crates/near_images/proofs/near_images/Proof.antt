@@ -1,13 +1,13 @@
--- `brought::near_images` meets its contract: m has the near images below y. Assumes nothing.
+-- `near_images::near_images` meets its contract: m has the near images below y. Assumes nothing.
 use mathlib.Core.Path.{_≡_}
 use Prim.Native.Nat.{_-_, _≤_}
 use native.Mathlib.Omega.{arith}
 use Rattle.theory.specs.Tables.{cost}
-use Rattle.brought.specs.Near.{NearImages}
-use Rattle.brought.specs.Laws.Turns.{near-none}
+use Rattle.near_images.specs.Near.{NearImages}
+use Rattle.near_images.specs.Laws.Turns.{near-none}
 use borrow.Author.Needs.{needs}
-use Rattle.brought.proofs.near_images.Statement.{statement}
-use Rattle.brought.proofs.near_images.Tie as tie
+use Rattle.near_images.proofs.near_images.Statement.{statement}
+use Rattle.near_images.proofs.near_images.Tie as tie
 
 abbrev Inv-loop : tie.InvT-loop
 Inv-loop t n k b m₀ y₀ m y = (1 ≤ y) × (y ≤ k) × NearImages (cost t n) k b y m

@@ -1,12 +1,12 @@
--- `brought::closest` meets its contract: b is the closest of the images below y. Assumes nothing.
+-- `near_images::closest` meets its contract: b is the closest of the images below y. Assumes nothing.
 use Prim.Native.Nat.{max, _-_, _≤_}
 use native.Mathlib.Omega.{arith}
 use Rattle.theory.specs.Tables.{cost}
-use Rattle.brought.specs.Near.{Closest}
-use Rattle.brought.specs.Laws.Turns.{closest-end, closest-more, closest-none}
+use Rattle.near_images.specs.Near.{Closest}
+use Rattle.near_images.specs.Laws.Turns.{closest-end, closest-more, closest-none}
 use borrow.Author.Needs.{needs}
-use Rattle.brought.proofs.closest.Statement.{statement}
-use Rattle.brought.proofs.closest.Tie as tie
+use Rattle.near_images.proofs.closest.Statement.{statement}
+use Rattle.near_images.proofs.closest.Tie as tie
 
 abbrev Inv-loop : tie.InvT-loop
 Inv-loop t n k b₀ y₀ b y = (2 ≤ y) × (y ≤ max 2 k) × Closest (cost t n) k y b

@@ -21,7 +21,7 @@ use Rattle.theory.specs.Laws.Nested.{find, holds-false, holds-true}
 use Rattle.theory.specs.Laws.OneMore.{brought-le}
 use Rattle.theory.specs.OneMore.{broughtFast}
 use Rattle.theory.specs.Tables.{WellFormed}
-use Rattle.brought.specs.Near.{Closest, NearImages, goesIn, goesOut, nearImage}
+use Rattle.near_images.specs.Near.{Closest, NearImages, goesIn, goesOut, nearImage}
 
 -- what is not within has an image that is not there
 not-within : (k S N : ℕ) → S < 2 ^ k → (bitAnd S N ≡ S → ⊥) → (y : ℕ) × (y < k) × (bit S y ≡ 1) × (bit N y ≡ 0)
