@@ -9,7 +9,7 @@ use borrow.Author.Tests.{le-ltb, lt-ltb, ltb-false, ltb-true}
 use borrow.Table.Steps.{cases}
 use Rattle.theory.specs.LinkTables.{Row, allCosts}
 use Rattle.rows.specs.Rows.{costly}
-use Rattle.grafting.specs.Grafting.{closed, kept}
+use Rattle.path_cuts.specs.Cuts.{closed, kept}
 
 -- what is left of h behind a path
 abbrev pub left : ℕ → List Row → ℕ

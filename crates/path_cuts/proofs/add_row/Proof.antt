@@ -1,9 +1,9 @@
--- `grafting::add_row` meets its contract: stored behind the last row where it has a cost. Assumes nothing.
+-- `path_cuts::add_row` meets its contract: stored behind the last row where it has a cost. Assumes nothing.
 use native.Mathlib.Omega.{arith}
 use borrow.Author.Needs.{needs}
-use Rattle.grafting.specs.Laws.Keeping.{add-none, add-some}
-use Rattle.grafting.proofs.add_row.Statement.{statement}
-use Rattle.grafting.proofs.add_row.Tie as tie
+use Rattle.path_cuts.specs.Laws.Keeping.{add-none, add-some}
+use Rattle.path_cuts.proofs.add_row.Statement.{statement}
+use Rattle.path_cuts.proofs.add_row.Tie as tie
 
 returns : tie.Need-returns
 returns c = add-none _ _ _ _ _ (c .if1 .taken)

@@ -1,11 +1,11 @@
--- `grafting::height_at` meets its contract: the two entries with the first image, less that of the two. Assumes nothing.
+-- `path_cuts::own_cost` meets its contract: the two entries of the new image, less that of the others. Assumes nothing.
 use mathlib.Core.Path.{ap₂, _∙_}
 use Prim.Native.Nat.{_+_, _-_}
 use borrow.Author.Needs.{needs}
 use Rattle.theory.specs.Tables.{cost}
-use Rattle.grafting.specs.Laws.Growing.{seats-height}
-use Rattle.grafting.proofs.height_at.Statement.{statement}
-use Rattle.grafting.proofs.height_at.Tie as tie
+use Rattle.path_cuts.specs.Laws.Seats.{seats-own}
+use Rattle.path_cuts.proofs.own_cost.Statement.{statement}
+use Rattle.path_cuts.proofs.own_cost.Tie as tie
 
 seat-of-requires : tie.Need-seat-of-requires
 seat-of-requires c κs = search needs
@@ -36,11 +36,11 @@ returns c =
     let e = c .before .before .before in
     let s = e .before .before .before .before .before in
     c .less .ensures ∙ ap₂ _-_ (ap₂ _+_ (e .entry .ensures .0) (c .before .before .entry2 .ensures .0)) (c .before .entry3 .ensures .0)
-    ∙ seats-height (cost (s .args .t .now) (s .args .n)) (s .args .o .now) (s .args .p) _ _ (e .before .before .seat-of .ensures .0)
+    ∙ seats-own (cost (s .args .t .now) (s .args .n)) (s .args .o .now) (s .args .p) _ _ (e .before .before .seat-of .ensures .0)
     (e .before .seat-of2 .ensures .0) (s .pre .1 .places .first)
 
-pub height-at-spec : {M : Type 1} → statement M
-height-at-spec =
+pub own-cost-spec : {M : Type 1} → statement M
+own-cost-spec =
     tie.close
     (tie.spec
     seat-of-requires

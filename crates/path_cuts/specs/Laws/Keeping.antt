@@ -15,9 +15,9 @@ use Rattle.rows.specs.Laws.Places.{in-split}
 use Rattle.rows.specs.Laws.PutAll.{costly-append}
 use Rattle.rows.specs.Putting.{rowsFrom}
 use Rattle.rows.specs.Rows.{costly}
-use Rattle.grafting.specs.Grafting.{kept}
-use Rattle.grafting.specs.Laws.Cutting.{kept-append, kept-none, left, left-append}
-use Rattle.grafting.specs.Steps.{AddRow, KeepRoom, KeepRows}
+use Rattle.path_cuts.specs.Cuts.{kept}
+use Rattle.path_cuts.specs.Laws.Cutting.{kept-append, kept-none, left, left-append}
+use Rattle.path_cuts.specs.Steps.{AddRow, KeepRoom, KeepRows}
 
 -- the first i rows are, each with a cost, and of the height this is left; the rows to come are as they were
 pub record Keeping (h add i m : ℕ) (s w : List ℕ) (togo : ℕ) (s′ w′ : List ℕ) : Type 0 where

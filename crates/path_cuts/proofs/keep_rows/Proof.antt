@@ -1,12 +1,12 @@
--- `grafting::keep_rows` meets its contract: the first i rows are kept, and of the height what is left behind them. Assumes nothing.
+-- `path_cuts::keep_rows` meets its contract: the first i rows are kept, and of the height what is left behind them. Assumes nothing.
 use Prim.Native.Nat.{_-_, _<_}
 use native.Mathlib.Omega.{arith}
 use lib.ListN.{length}
 use borrow.Author.Needs.{needs}
 use borrow.Author.Tests.{ltb-false, ltb-true}
-use Rattle.grafting.specs.Laws.Keeping.{Keeping, keeping-end, keeping-more, keeping-places, keeping-start, side-fits}
-use Rattle.grafting.proofs.keep_rows.Statement.{statement}
-use Rattle.grafting.proofs.keep_rows.Tie as tie
+use Rattle.path_cuts.specs.Laws.Keeping.{Keeping, keeping-end, keeping-more, keeping-places, keeping-start, side-fits}
+use Rattle.path_cuts.proofs.keep_rows.Statement.{statement}
+use Rattle.path_cuts.proofs.keep_rows.Tie as tie
 
 abbrev Inv-loop : tie.InvT-loop
 Inv-loop h add m sides₀ lengths₀ togo₀ i₀ sides lengths togo i = Keeping h add i m sides₀ lengths₀ togo sides lengths
