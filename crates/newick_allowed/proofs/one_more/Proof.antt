@@ -1,8 +1,8 @@
--- `newick_bytes::one_more` meets its contract: each return rewrites with the tests that led there. Assumes nothing.
+-- `newick_allowed::one_more` meets its contract: each return rewrites with the tests that led there. Assumes nothing.
 use borrow.Author.Needs.{needs}
 use borrow.Author.Tests.{le-ltb, lt-ltb}
-use Rattle.newick_bytes.proofs.one_more.Statement.{statement}
-use Rattle.newick_bytes.proofs.one_more.Tie as tie
+use Rattle.newick_allowed.proofs.one_more.Statement.{statement}
+use Rattle.newick_allowed.proofs.one_more.Tie as tie
 
 add-result : tie.Need-add-result
 add-result c = search needs

@@ -1,7 +1,7 @@
--- `newick_bytes::may_open` meets its contract: each return rewrites with the tests that led there. Assumes nothing.
+-- `newick_allowed::may_open` meets its contract: each return rewrites with the tests that led there. Assumes nothing.
 use borrow.Author.Needs.{needs}
-use Rattle.newick_bytes.proofs.may_open.Statement.{statement}
-use Rattle.newick_bytes.proofs.may_open.Tie as tie
+use Rattle.newick_allowed.proofs.may_open.Statement.{statement}
+use Rattle.newick_allowed.proofs.may_open.Tie as tie
 
 is-first-requires : tie.Need-is-first-requires
 is-first-requires c κs = search needs

@@ -1,7 +1,7 @@
--- `newick_bytes::is_first` meets its contract: each return rewrites with the tests that led there. Assumes nothing.
+-- `newick_allowed::is_first` meets its contract: each return rewrites with the tests that led there. Assumes nothing.
 use borrow.Author.Tests.{eq-eqb, ne-eqb}
-use Rattle.newick_bytes.proofs.is_first.Statement.{statement}
-use Rattle.newick_bytes.proofs.is_first.Tie as tie
+use Rattle.newick_allowed.proofs.is_first.Statement.{statement}
+use Rattle.newick_allowed.proofs.is_first.Tie as tie
 
 returns : tie.Need-returns
 returns c = rw (eq-eqb _ _ (c .if1 .taken))

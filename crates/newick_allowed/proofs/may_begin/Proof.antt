@@ -1,8 +1,8 @@
--- `newick_bytes::may_begin` meets its contract: each return rewrites with the tests that led there. Assumes nothing.
+-- `newick_allowed::may_begin` meets its contract: each return rewrites with the tests that led there. Assumes nothing.
 use borrow.Author.Needs.{needs}
 use borrow.Author.Tests.{le-leb, lt-leb}
-use Rattle.newick_bytes.proofs.may_begin.Statement.{statement}
-use Rattle.newick_bytes.proofs.may_begin.Tie as tie
+use Rattle.newick_allowed.proofs.may_begin.Statement.{statement}
+use Rattle.newick_allowed.proofs.may_begin.Tie as tie
 
 returns : tie.Need-returns
 returns c = rw (lt-leb _ _ (c .if1 .taken))
