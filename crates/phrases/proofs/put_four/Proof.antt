@@ -1,4 +1,4 @@
--- `sayings::put_four` meets its contract: the words, then four places. Assumes nothing.
+-- `phrases::put_four` meets its contract: the words, then four places. Assumes nothing.
 use mathlib.Core.List.{List, [], _++_, _∷_}
 use Prim.Native.Nat.{ℕ}
 use native.Mathlib.Omega.{arith}
@@ -7,8 +7,8 @@ use Rattle.text.specs.Fields.{field, fields}
 use Rattle.text.specs.Laws.Lengths.{word-fields-fit}
 use Rattle.text.specs.Laws.Putting.{rest-begin, rest-end, rest-fits, rest-step}
 use Rattle.text.specs.Putting.{Fits, Rest}
-use Rattle.sayings.proofs.put_four.Statement.{statement}
-use Rattle.sayings.proofs.put_four.Tie as tie
+use Rattle.phrases.proofs.put_four.Statement.{statement}
+use Rattle.phrases.proofs.put_four.Tie as tie
 
 -- where the call began, as seen from behind the words and behind each place
 abbrev s1 : tie.After-put-word → tie.Start

@@ -1,11 +1,11 @@
--- `sayings::put_above_old` meets its contract, with a column and without. Assumes nothing.
+-- `phrases::put_above_old` meets its contract, with a column and without. Assumes nothing.
 use borrow.Author.Needs.{needs}
 use borrow.Author.Tests.{ne-eqb}
 use Rattle.text.specs.Fields.{fields}
 use Rattle.text.specs.Words.{bytesOf}
-use Rattle.sayings.specs.Said.{sayingText}
-use Rattle.sayings.proofs.put_above_old.Statement.{statement}
-use Rattle.sayings.proofs.put_above_old.Tie as tie
+use Rattle.phrases.specs.Said.{sayingText}
+use Rattle.phrases.proofs.put_above_old.Statement.{statement}
+use Rattle.phrases.proofs.put_above_old.Tie as tie
 
 slice-aggregate-put-one : tie.Need-slice-aggregate-put-one
 slice-aggregate-put-one c = search needs

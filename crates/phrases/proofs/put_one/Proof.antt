@@ -1,4 +1,4 @@
--- `sayings::put_one` meets its contract: the words, then the place. Assumes nothing.
+-- `phrases::put_one` meets its contract: the words, then the place. Assumes nothing.
 use mathlib.Core.List.{[], _++_, _∷_}
 use native.Mathlib.Omega.{arith}
 use borrow.Author.Needs.{needs}
@@ -6,8 +6,8 @@ use Rattle.text.specs.Fields.{field, fields}
 use Rattle.text.specs.Laws.Lengths.{word-fields-fit}
 use Rattle.text.specs.Laws.Putting.{rest-begin, rest-end, rest-fits, rest-step}
 use Rattle.text.specs.Putting.{Fits, Rest}
-use Rattle.sayings.proofs.put_one.Statement.{statement}
-use Rattle.sayings.proofs.put_one.Tie as tie
+use Rattle.phrases.proofs.put_one.Statement.{statement}
+use Rattle.phrases.proofs.put_one.Tie as tie
 
 abbrev begun : tie.After-put-word → tie.Start
 begun c = c .before .before .before .before

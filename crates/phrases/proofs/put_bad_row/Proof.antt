@@ -1,11 +1,11 @@
--- `sayings::put_bad_row` meets its contract, with a row and without. Assumes nothing.
+-- `phrases::put_bad_row` meets its contract, with a row and without. Assumes nothing.
 use borrow.Author.Needs.{needs}
 use borrow.Author.Tests.{ne-eqb}
 use Rattle.text.specs.Fields.{fields}
 use Rattle.text.specs.Words.{bytesOf}
-use Rattle.sayings.specs.Said.{sayingText}
-use Rattle.sayings.proofs.put_bad_row.Statement.{statement}
-use Rattle.sayings.proofs.put_bad_row.Tie as tie
+use Rattle.phrases.specs.Said.{sayingText}
+use Rattle.phrases.proofs.put_bad_row.Statement.{statement}
+use Rattle.phrases.proofs.put_bad_row.Tie as tie
 
 slice-aggregate-put-word : tie.Need-slice-aggregate-put-word
 slice-aggregate-put-word c = search needs
