@@ -21,7 +21,7 @@ use Rattle.links.specs.Links.{Links}
 use Rattle.links.specs.Laws.LinkChecks.{rows-length}
 use Rattle.routes.specs.Outcomes.{upperOutcome}
 use Rattle.routes.specs.Promises.{upper-answer}
-use Rattle.routes.specs.Laws.UpperRows.{uppers-length}
+use Rattle.climbing.specs.Laws.UpperRows.{uppers-length}
 use Rattle.order.specs.Outcome.{OrderAsked, images, orderOutcome}
 use Rattle.order.specs.Promises.{order-accepted, order-wrote}
 use Rattle.tree.specs.Exact.{exactRows, treeCheck}

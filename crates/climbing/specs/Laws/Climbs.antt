@@ -10,8 +10,8 @@ use borrow.Table.Steps.{cases}
 use Rattle.ground.specs.Ascending.{Between}
 use Rattle.ground.specs.Laws.Ascending.{between-from, between-mem}
 use Rattle.theory.specs.Routes.{climb, uppers}
-use Rattle.routes.specs.Laws.UpperRows.{upper-later, upper-most}
-use Rattle.routes.specs.Climbs.{climbFrom}
+use Rattle.climbing.specs.Laws.UpperRows.{upper-later, upper-most}
+use Rattle.climbing.specs.Climbs.{climbFrom}
 
 pub climb-none : (u : List ℕ) (m : ℕ) → climb u m 0 ≡ []
 climb-none u zero = refl

@@ -1,9 +1,9 @@
--- `routes::row_part` meets its contract: the far side holds exactly one image where the bits differ. Assumes nothing.
+-- `climbing::row_part` meets its contract: the far side holds exactly one image where the bits differ. Assumes nothing.
 use borrow.Author.Needs.{needs}
 use borrow.Author.Tests.{eq-eqb, ne-eqb}
-use Rattle.routes.specs.Laws.PathSums.{apart-bits}
-use Rattle.routes.proofs.row_part.Statement.{statement}
-use Rattle.routes.proofs.row_part.Tie as tie
+use Rattle.climbing.specs.Laws.PathSums.{apart-bits}
+use Rattle.climbing.proofs.row_part.Statement.{statement}
+use Rattle.climbing.proofs.row_part.Tie as tie
 
 side-requires : tie.Need-side-requires
 side-requires c κs = search needs

@@ -1,4 +1,4 @@
--- `routes::climb` meets its contract: one row, and then what the climb from its upper row promises. What falls is the number of rows above. Assumes nothing.
+-- `climbing::climb` meets its contract: one row, and then what the climb from its upper row promises. What falls is the number of rows above. Assumes nothing.
 use mathlib.Core.List.{[], _∷_}
 use mathlib.Core.Path.{sym, _∙_, _≡_}
 use Prim.Native.Nat.{ℕ, _-_, _<_, _≤_}
@@ -8,15 +8,15 @@ use lib.ListN.{length, length-set}
 use borrow.Author.Needs.{needs}
 use borrow.Fn.Kinds.{In}
 use borrow.Fn.PlainCycle.{Measures, is, falls, and}
-use Rattle.routes.specs.Climbs.{climbFrom}
-use Rattle.routes.specs.Laws.Climbs.{climb-last, climb-next}
-use Rattle.routes.specs.Laws.UpperRows.{upper-later, upper-most}
-use Rattle.routes.proofs.climb.Reads as climb
-use Rattle.routes.proofs.climb.Kinds as climb-kinds
-use Rattle.routes.proofs.+climb.Lts-climb as climb-lts
-use Rattle.routes.proofs.upper.Reads as upper-reads
-use Rattle.routes.proofs.+climb.{statement}
-use Rattle.routes.proofs.+climb.Tie.{close}
+use Rattle.climbing.specs.Climbs.{climbFrom}
+use Rattle.climbing.specs.Laws.Climbs.{climb-last, climb-next}
+use Rattle.climbing.specs.Laws.UpperRows.{upper-later, upper-most}
+use Rattle.climbing.proofs.climb.Reads as climb
+use Rattle.climbing.proofs.climb.Kinds as climb-kinds
+use Rattle.climbing.proofs.+climb.Lts-climb as climb-lts
+use Rattle.climbing.proofs.upper.Reads as upper-reads
+use Rattle.climbing.proofs.+climb.{statement}
+use Rattle.climbing.proofs.+climb.Tie.{close}
 
 abbrev μ-climb : Measures 2 climb-kinds.ps ℕ
 μ-climb κs a = length (a .0 .now) - a .1 .0

@@ -1,12 +1,12 @@
--- `routes::upper` meets its contract: the first row from k on that contains row r is the first of all later ones. Assumes nothing.
+-- `climbing::upper` meets its contract: the first row from k on that contains row r is the first of all later ones. Assumes nothing.
 use mathlib.Core.Path.{_≡_}
 use Prim.Native.Nat.{suc, _-_, _≤_}
 use lib.ListN.{drop, getD, length}
 use borrow.Author.Needs.{needs}
 use Rattle.theory.specs.Routes.{upperFrom, uppers}
-use Rattle.routes.specs.Laws.UpperRows.{upper-end, upper-here, upper-on, uppers-at}
-use Rattle.routes.proofs.upper.Statement.{statement}
-use Rattle.routes.proofs.upper.Tie as tie
+use Rattle.climbing.specs.Laws.UpperRows.{upper-end, upper-here, upper-on, uppers-at}
+use Rattle.climbing.proofs.upper.Statement.{statement}
+use Rattle.climbing.proofs.upper.Tie as tie
 
 abbrev Inv-loop : tie.InvT-loop
 Inv-loop fars r s k₀ k = (k ≤ length fars) × (upperFrom (suc k) (getD fars r 0) (drop k fars) ≡ getD (uppers fars) r 0)

@@ -1,4 +1,4 @@
--- `routes::put_uppers` meets its contract: the first r places are upper rows, and the others as they were. Assumes nothing.
+-- `climbing::put_uppers` meets its contract: the first r places are upper rows, and the others as they were. Assumes nothing.
 use mathlib.Core.Path.{_≡_}
 use Prim.Native.Nat.{_-_, _≤_}
 use native.Mathlib.Omega.{arith}
@@ -7,9 +7,9 @@ use borrow.Author.Needs.{needs}
 use Rattle.ground.specs.Buffers.{over}
 use Rattle.ground.specs.Laws.Buffers.{over-end, over-more, over-none}
 use Rattle.theory.specs.Routes.{uppers}
-use Rattle.routes.specs.Laws.UpperRows.{upper-most, uppers-length}
-use Rattle.routes.proofs.put_uppers.Statement.{statement}
-use Rattle.routes.proofs.put_uppers.Tie as tie
+use Rattle.climbing.specs.Laws.UpperRows.{upper-most, uppers-length}
+use Rattle.climbing.proofs.put_uppers.Statement.{statement}
+use Rattle.climbing.proofs.put_uppers.Tie as tie
 
 abbrev Inv-loop : tie.InvT-loop
 Inv-loop fars out₀ r₀ out r = (r ≤ length fars) × (length out ≡ length out₀) × (out ≡ over r (uppers fars) out₀)

@@ -1,13 +1,13 @@
--- `routes::path_cost` meets its contract: the sum so far and the path cost of the rest are the whole. Assumes nothing.
+-- `climbing::path_cost` meets its contract: the sum so far and the path cost of the rest are the whole. Assumes nothing.
 use mathlib.Core.Path.{_≡_}
 use Prim.Native.Nat.{_+_, _-_, _≤_}
 use native.Mathlib.Omega.{arith}
 use lib.ListN.{drop, length}
 use borrow.Author.Needs.{needs}
 use Rattle.theory.specs.LinkTables.{path, rowsOf}
-use Rattle.routes.specs.Laws.PathSums.{path-end, path-more}
-use Rattle.routes.proofs.path_cost.Statement.{statement}
-use Rattle.routes.proofs.path_cost.Tie as tie
+use Rattle.climbing.specs.Laws.PathSums.{path-end, path-more}
+use Rattle.climbing.proofs.path_cost.Statement.{statement}
+use Rattle.climbing.proofs.path_cost.Tie as tie
 
 abbrev Inv-loop : tie.InvT-loop
 Inv-loop fars costs i j sum₀ k₀ sum k = (k ≤ length fars) × (sum + path (rowsOf (drop k fars) (drop k costs)) i j ≡ path (rowsOf fars costs) i j)
