@@ -9,10 +9,12 @@ use borrow.Author.Tests.{eqb-false, eqb-true, le-ltb, ltb-false, ltb-true}
 use borrow.Table.Steps.{cases}
 use Rattle.ground.specs.Lowest.{checkAll}
 use Rattle.ground.specs.Laws.Lowest.{all-passed, passed-all}
+use Rattle.ground.specs.Refusals.{_then_}
 use Rattle.ground.specs.Laws.Refusals.{refuseIf-passed}
 use Rattle.ground.specs.declared.Check.the-variants.{Passed}
-use Rattle.theory.specs.Tables.{CostTable, cost}
-use Rattle.cost_writer.specs.Writing.{fitCheck, largeCheck}
+use Rattle.theory.specs.Tables.{CostTable, cost, limit}
+use Rattle.tables.specs.Laws.Formed.{cost-table}
+use Rattle.cost_limits.specs.Checks.{fitCheck, largeCheck, tableChecks}
 
 module _ (L : ℕ) (d : ℕ → ℕ → ℕ) (n : ℕ) where
   fit-passed : fitCheck L d n ≡ Passed → (i j : ℕ) → i < j → j < n → d i j ≤ L
@@ -56,3 +58,9 @@ module _ (L M n : ℕ) (t : List ℕ) where
             c .formed .same {i = i} {j = j} hi hj,
             fit-passed L (cost t n) n e j i (omega (arith, ltb-false i j h, eqb-false i j q)) hi,
           )))
+
+-- what passes under a lower limit passes under that of cost tables, and is within the lower one
+pub passed-both : (L n : ℕ) (t : List ℕ) → L ≤ limit → tableChecks L n t ≡ Passed → (tableChecks limit n t then fitCheck L (cost t n) n) ≡ Passed
+passed-both L n t h e =
+    let c = cost-table L n t .0 e in
+    rw (cost-table limit n t .1 (table-wide L limit n t h c)) (passed-fit L (cost t n) n (λ i j hi hj. c .formed .small {i = i} {j = j} hi hj))

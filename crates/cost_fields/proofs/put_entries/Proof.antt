@@ -1,4 +1,4 @@
--- `cost_writer::put_entries` meets its contract: each row is put behind the one before. Assumes nothing.
+-- `cost_fields::put_entries` meets its contract: each row is put behind the one before. Assumes nothing.
 use mathlib.Core.Path.{refl, _∙_, _≡_}
 use Prim.Native.Nat.{_*_, _+_, _-_, _≤_}
 use native.Mathlib.Omega.{arith}
@@ -9,10 +9,10 @@ use Rattle.packer.specs.Gathering.{Put}
 use Rattle.packer.specs.Laws.Putting.{room-then}
 use Rattle.stored_costs.specs.Entries.{entriesTo}
 use Rattle.stored_costs.specs.Laws.Entries.{row-within}
-use Rattle.cost_writer.specs.Laws.Putting.{length-rows-bits, rows-put-end, rows-put-more, rows-put-none}
+use Rattle.cost_fields.specs.Laws.Putting.{length-rows-bits, rows-put-end, rows-put-more, rows-put-none}
 use borrow.Author.Needs.{needs}
-use Rattle.cost_writer.proofs.put_entries.Statement.{statement}
-use Rattle.cost_writer.proofs.put_entries.Tie as tie
+use Rattle.cost_fields.proofs.put_entries.Statement.{statement}
+use Rattle.cost_fields.proofs.put_entries.Tie as tie
 
 abbrev Inv-loop : tie.InvT-loop
 Inv-loop w n t out₀ g₀ i₀ out g i = (i ≤ n) × (length out ≡ length out₀) × Put (fieldBits (fieldsOf w (entriesTo (cost t n) n i))) out₀ out g₀ g

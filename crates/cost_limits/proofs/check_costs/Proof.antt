@@ -1,9 +1,9 @@
--- `cost_writer::check_costs` meets its contract: what passes under the lower limit passes under both. Assumes nothing.
+-- `cost_limits::check_costs` meets its contract: what passes under the lower limit passes under both. Assumes nothing.
 use mathlib.Core.Path.{sym, _∙_}
 use borrow.Author.Needs.{needs}
-use Rattle.cost_writer.specs.Laws.Accepted.{passed-both}
-use Rattle.cost_writer.proofs.check_costs.Statement.{statement}
-use Rattle.cost_writer.proofs.check_costs.Tie as tie
+use Rattle.cost_limits.specs.Laws.Fitting.{passed-both}
+use Rattle.cost_limits.proofs.check_costs.Statement.{statement}
+use Rattle.cost_limits.proofs.check_costs.Tie as tie
 
 check-table-requires : tie.Need-check-table-requires
 check-table-requires c κs = search needs

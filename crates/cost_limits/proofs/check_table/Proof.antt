@@ -1,10 +1,10 @@
--- `cost_writer::check_table` meets its contract: the first refusal is the answer. Assumes nothing.
+-- `cost_limits::check_table` meets its contract: the first refusal is the answer. Assumes nothing.
 use mathlib.Core.Path.{sym, _∙_}
 use borrow.Author.Needs.{needs}
 use Rattle.ground.specs.Laws.Refusals.{then-goes, then-stops}
 use Rattle.tables.specs.Laws.Formed.{size-passed}
-use Rattle.cost_writer.proofs.check_table.Statement.{statement}
-use Rattle.cost_writer.proofs.check_table.Tie as tie
+use Rattle.cost_limits.proofs.check_table.Statement.{statement}
+use Rattle.cost_limits.proofs.check_table.Tie as tie
 
 check-size-requires : tie.Need-check-size-requires
 check-size-requires c κs = search needs

@@ -1,4 +1,4 @@
--- `cost_writer::put_form` meets its contract: the mark and n, the entries and the fill bits, one behind the other, make the form. Assumes nothing.
+-- `cost_fields::put_form` meets its contract: the mark and n, the entries and the fill bits, one behind the other, make the form. Assumes nothing.
 use Prim.Native.Nat.{_*_}
 use native.Mathlib.Omega.{arith}
 use lib.ListN.{length}
@@ -6,10 +6,10 @@ use Rattle.theory.specs.Tables.{cost}
 use Rattle.packer.specs.Gathering.{Room}
 use Rattle.packer.specs.Laws.Putting.{room-begun, room-then}
 use Rattle.stored_costs.specs.Entries.{entryCount}
-use Rattle.cost_writer.specs.Laws.Putting.{form-put, length-rows-bits}
+use Rattle.cost_fields.specs.Laws.Putting.{form-put, length-rows-bits}
 use borrow.Author.Needs.{needs}
-use Rattle.cost_writer.proofs.put_form.Statement.{statement}
-use Rattle.cost_writer.proofs.put_form.Tie as tie
+use Rattle.cost_fields.proofs.put_form.Statement.{statement}
+use Rattle.cost_fields.proofs.put_form.Tie as tie
 
 abbrev begun : tie.After-start → tie.Start
 begun c = c .before .before .before .before

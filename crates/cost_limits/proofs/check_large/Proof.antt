@@ -1,7 +1,7 @@
--- `cost_writer::check_large` meets its contract. Assumes nothing.
+-- `cost_limits::check_large` meets its contract. Assumes nothing.
 use borrow.Author.Needs.{needs}
-use Rattle.cost_writer.proofs.check_large.Statement.{statement}
-use Rattle.cost_writer.proofs.check_large.Tie as tie
+use Rattle.cost_limits.proofs.check_large.Statement.{statement}
+use Rattle.cost_limits.proofs.check_large.Tie as tie
 
 entry-requires : tie.Need-entry-requires
 entry-requires c κs = search needs

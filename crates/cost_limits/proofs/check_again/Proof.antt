@@ -1,11 +1,11 @@
--- `cost_writer::check_again` meets its contract: the first refusal is the answer. Assumes nothing.
+-- `cost_limits::check_again` meets its contract: the first refusal is the answer. Assumes nothing.
 use mathlib.Core.Path.{sym, _∙_}
 use borrow.Author.Needs.{needs}
 use Rattle.ground.specs.Laws.Refusals.{then-goes, then-stops}
 use Rattle.theory.specs.Tables.{limit}
 use Rattle.tables.specs.Laws.Formed.{cost-table}
-use Rattle.cost_writer.proofs.check_again.Statement.{statement}
-use Rattle.cost_writer.proofs.check_again.Tie as tie
+use Rattle.cost_limits.proofs.check_again.Statement.{statement}
+use Rattle.cost_limits.proofs.check_again.Tie as tie
 
 check-table-requires : tie.Need-check-table-requires
 check-table-requires c κs = search needs

@@ -1,4 +1,4 @@
--- `cost_writer::put_row` meets its contract: each entry is put behind the one before. Assumes nothing.
+-- `cost_fields::put_row` meets its contract: each entry is put behind the one before. Assumes nothing.
 use mathlib.Core.Path.{refl, _∙_, _≡_}
 use Prim.Native.Nat.{ℕ, _+_, _-_, _≤_}
 use native.Mathlib.Omega.{arith}
@@ -9,10 +9,10 @@ use Rattle.bits.specs.Laws.OneWidth.{field-end}
 use Rattle.bits.specs.Listed.{listed}
 use Rattle.packer.specs.Gathering.{Put}
 use Rattle.packer.specs.Laws.Putting.{room-then}
-use Rattle.cost_writer.specs.Laws.Putting.{length-listed-bits, row-put-end, row-put-more, row-put-none}
+use Rattle.cost_fields.specs.Laws.Putting.{length-listed-bits, row-put-end, row-put-more, row-put-none}
 use borrow.Author.Needs.{needs}
-use Rattle.cost_writer.proofs.put_row.Statement.{statement}
-use Rattle.cost_writer.proofs.put_row.Tie as tie
+use Rattle.cost_fields.proofs.put_row.Statement.{statement}
+use Rattle.cost_fields.proofs.put_row.Tie as tie
 
 abbrev Inv-loop : tie.InvT-loop
 Inv-loop w n t i out₀ count g₀ k₀ out g k =

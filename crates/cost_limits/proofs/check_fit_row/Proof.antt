@@ -1,13 +1,13 @@
--- `cost_writer::check_fit_row` meets its contract: what is left answers as the whole does. Assumes nothing.
+-- `cost_limits::check_fit_row` meets its contract: what is left answers as the whole does. Assumes nothing.
 use mathlib.Core.Path.{_≡_, refl}
 use Prim.Native.Nat.{_+_, _-_, _≤_}
 use borrow.Author.Needs.{needs}
 use Rattle.ground.specs.Lowest.{checkAll}
 use Rattle.ground.specs.Laws.Lowest.{all-ends, all-goes, all-stops}
 use Rattle.theory.specs.Tables.{cost}
-use Rattle.cost_writer.specs.Writing.{largeCheck}
-use Rattle.cost_writer.proofs.check_fit_row.Statement.{statement}
-use Rattle.cost_writer.proofs.check_fit_row.Tie as tie
+use Rattle.cost_limits.specs.Checks.{largeCheck}
+use Rattle.cost_limits.proofs.check_fit_row.Statement.{statement}
+use Rattle.cost_limits.proofs.check_fit_row.Tie as tie
 
 abbrev Inv-loop : tie.InvT-loop
 Inv-loop most n t i j₀ j = (j ≤ n) × (checkAll (largeCheck most (cost t n) i) (i + 1) (n - (i + 1)) ≡ checkAll (largeCheck most (cost t n) i) j (n - j))
