@@ -18,7 +18,7 @@ use Rattle.newick_text.specs.Noting.{fallen, imageBit, lowerPlace, mark, marked
 use Rattle.newick_text.specs.Order.{fall, fallFrom, firstOf}
 use Rattle.newick_text.specs.Laws.Vertices.{Bushy, Named, Once}
 use Rattle.newick_text.specs.Laws.Sizes.{size-side}
-use Rattle.newick_reader.specs.Laws.Marks.{New, behind-new, image-is, inside-new, marked-side, none-named}
+use Rattle.newick_table.specs.Laws.Marks.{New, behind-new, image-is, inside-new, marked-side, none-named}
 
 -- ## Where a fall can be
 

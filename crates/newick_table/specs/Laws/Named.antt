@@ -17,7 +17,7 @@ use Rattle.newick_text.specs.Tables.{names}
 use Rattle.newick_text.specs.Noting.{mark, marked}
 use Rattle.newick_text.specs.Laws.Lists.{is-in-append}
 use Rattle.newick_text.specs.Laws.Numbers.{eqb-turn}
-use Rattle.newick_reader.specs.Laws.Marks.{added-bit}
+use Rattle.newick_table.specs.Laws.Marks.{added-bit}
 
 one-of-them : (x y z : Bool) → ((x || y) || z) ≡ (x || (y || z))
 one-of-them true y z = refl
