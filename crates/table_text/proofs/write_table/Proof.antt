@@ -1,17 +1,17 @@
--- `listing_text::write_table` meets its contract: the exact reading leaves a link table, or refuses with 7. Assumes nothing.
+-- `table_text::write_table` meets its contract: the exact reading leaves a link table, or refuses with 7. Assumes nothing.
 use mathlib.Core.List.{List}
 use mathlib.Core.Path.{sym, _≡_}
 use Prim.Native.Nat.{ℕ}
 use native.Mathlib.Omega.{arith}
 use lib.ListN.{length-replicate, replicate}
 use borrow.Author.Needs.{needs}
-use Rattle.listing_text.specs.Laws.Accepted.{RowsRead, table-read, table-refused, text-read, text-refused}
+use Rattle.table_text.specs.Laws.Accepted.{RowsRead, table-read, table-refused, text-read, text-refused}
 use Rattle.listing_lines.specs.Laws.Lengths.{refused-fits}
 use Rattle.listing_lines.specs.Lines.{refusedLine}
-use Rattle.listing_text.specs.TableText.{tableText}
+use Rattle.table_text.specs.TableText.{tableText}
 use Rattle.text.specs.Laws.Pieces.{put-same}
-use Rattle.listing_text.proofs.write_table.Statement.{statement}
-use Rattle.listing_text.proofs.write_table.Tie as tie
+use Rattle.table_text.proofs.write_table.Statement.{statement}
+use Rattle.table_text.proofs.write_table.Tie as tie
 
 slice-aggregate-exact-by : tie.Need-slice-aggregate-exact-by
 slice-aggregate-exact-by c = search needs

@@ -29,8 +29,8 @@ use Rattle.tree.specs.Promises.{exact-answer}
 use Rattle.tree.specs.Readings.{exactCheck, exactOutcome, outcome}
 use Rattle.tree.specs.Laws.Exact.{exact-check, table-sized}
 use Rattle.listing_lines.specs.Lines.{readingText, refusedLine}
-use Rattle.listing_text.specs.LastImage.{Other}
-use Rattle.listing_text.specs.TableText.{tableText}
+use Rattle.table_text.specs.LastImage.{Other}
+use Rattle.table_text.specs.TableText.{tableText}
 
 -- ## Upper rows and order of a table that was read
 

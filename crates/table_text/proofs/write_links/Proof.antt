@@ -1,4 +1,4 @@
--- `listing_text::write_links` meets its contract: both calls accept, so that upper rows and order stand in the local arrays. Assumes nothing.
+-- `table_text::write_links` meets its contract: both calls accept, so that upper rows and order stand in the local arrays. Assumes nothing.
 use mathlib.Core.List.{List}
 use mathlib.Core.Path.{ap, sym, _∙_, _≡_}
 use Prim.Native.Nat.{ℕ, _≤_}
@@ -8,10 +8,10 @@ use lib.Seq.{length-take-le}
 use borrow.Author.Needs.{needs}
 use Rattle.theory.specs.Routes.{uppers}
 use Rattle.order.specs.Outcome.{images}
-use Rattle.listing_text.specs.Laws.Accepted.{links-few, order-left, uppers-left}
+use Rattle.table_text.specs.Laws.Accepted.{links-few, order-left, uppers-left}
 use Rattle.listing_lines.specs.Laws.Lengths.{reading-most}
-use Rattle.listing_text.proofs.write_links.Statement.{statement}
-use Rattle.listing_text.proofs.write_links.Tie as tie
+use Rattle.table_text.proofs.write_links.Statement.{statement}
+use Rattle.table_text.proofs.write_links.Tie as tie
 
 slice-aggregate-upper-rows : tie.Need-slice-aggregate-upper-rows
 slice-aggregate-upper-rows c = search needs
