@@ -1,8 +1,8 @@
--- `newick_scan::image_bit` meets its contract: each return rewrites with the test that led there. Assumes nothing.
+-- `newick_notes::image_bit` meets its contract: each return rewrites with the test that led there. Assumes nothing.
 use borrow.Author.Needs.{needs}
 use borrow.Author.Tests.{le-ltb, lt-ltb}
-use Rattle.newick_scan.proofs.image_bit.Statement.{statement}
-use Rattle.newick_scan.proofs.image_bit.Tie as tie
+use Rattle.newick_notes.proofs.image_bit.Statement.{statement}
+use Rattle.newick_notes.proofs.image_bit.Tie as tie
 
 returns : tie.Need-returns
 returns c = rw (lt-ltb _ _ (c .if1 .taken))

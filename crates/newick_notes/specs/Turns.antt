@@ -8,8 +8,8 @@ use lib.ListN.{getD, length, take}
 use Rattle.ground.specs.Sums.{when}
 use Rattle.tree.specs.LocalRows.{rowsIn}
 use Rattle.newick_text.specs.Noting.{imageBit, lowerPlace, mark}
-use Rattle.newick_scan.specs.declared.Noted.{Noted}
-use Rattle.newick_scan.specs.Stacks.{Stacks, pushed}
+use Rattle.newick_notes.specs.declared.Noted.{Noted}
+use Rattle.newick_notes.specs.Stacks.{Stacks, pushed}
 
 -- the fields, in their order
 abbrev pub noted : ℕ → ℕ → ℕ → ℕ → ℕ → ℕ → ℕ → Noted

@@ -1,10 +1,10 @@
--- `newick_scan::fall` meets its contract: each return rewrites with the test that led there. Assumes nothing.
+-- `newick_notes::fall` meets its contract: each return rewrites with the test that led there. Assumes nothing.
 use borrow.Author.Needs.{needs}
 use mathlib.Core.Path.{sym}
 use borrow.Author.Tests.{le-ltb, lt-ltb}
-use Rattle.newick_scan.specs.Laws.Lower.{lower-none}
-use Rattle.newick_scan.proofs.fall.Statement.{statement}
-use Rattle.newick_scan.proofs.fall.Tie as tie
+use Rattle.newick_notes.specs.Laws.Lower.{lower-none}
+use Rattle.newick_notes.proofs.fall.Statement.{statement}
+use Rattle.newick_notes.proofs.fall.Tie as tie
 
 lower-place-requires : tie.Need-lower-place-requires
 lower-place-requires c κs = search needs

@@ -1,7 +1,7 @@
--- `newick_scan::complete` meets its contract: the row is stored by `store`, the place is that of `fall`. Assumes nothing.
+-- `newick_notes::complete` meets its contract: the row is stored by `store`, the place is that of `fall`. Assumes nothing.
 use borrow.Author.Needs.{needs}
-use Rattle.newick_scan.proofs.complete.Statement.{statement}
-use Rattle.newick_scan.proofs.complete.Tie as tie
+use Rattle.newick_notes.proofs.complete.Statement.{statement}
+use Rattle.newick_notes.proofs.complete.Tie as tie
 
 store-requires : tie.Need-store-requires
 store-requires c κs = search needs

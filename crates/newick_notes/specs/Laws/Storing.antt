@@ -8,8 +8,8 @@ use lib.Seq.{take-all, take-append-le}
 use Rattle.theory.specs.LinkTables.{Row}
 use Rattle.tree.specs.LocalRows.{rowsIn}
 use Rattle.tree.specs.Laws.LocalRows.{rowsIn-length, stored-more}
-use Rattle.newick_scan.specs.Turns.{Stored}
-use Rattle.newick_scan.specs.Able.{Room}
+use Rattle.newick_notes.specs.Turns.{Stored}
+use Rattle.newick_notes.specs.Able.{Room}
 
 pub stored-room : (f v : List ℕ) (k S c : ℕ) → k < 128 → Room k f v → Stored f v k S c (set f k S) (set v k c) (k + 1)
 stored-room f v k S c h m = record {

@@ -1,4 +1,4 @@
--- `newick_scan::mark` meets its contract: each return rewrites with the tests that led there; a bit that is 0 can be added. Assumes nothing.
+-- `newick_notes::mark` meets its contract: each return rewrites with the tests that led there; a bit that is 0 can be added. Assumes nothing.
 use borrow.Author.Needs.{needs}
 use native.Mathlib.Omega.{arith}
 use mathlib.Core.Path.{_≡_}
@@ -6,8 +6,8 @@ use borrow.Author.Tests.{eq-eqb, le-ltb, lt-ltb}
 use Rattle.ground.specs.Laws.Bits.{bit-add-fits, bit-lt}
 use Prim.Native.Nat.{_-_}
 use Rattle.ground.specs.Bits.{bit}
-use Rattle.newick_scan.proofs.mark.Statement.{statement}
-use Rattle.newick_scan.proofs.mark.Tie as tie
+use Rattle.newick_notes.proofs.mark.Statement.{statement}
+use Rattle.newick_notes.proofs.mark.Tie as tie
 
 returns : tie.Need-returns
 returns c = rw (lt-ltb _ _ (c .if1 .taken))

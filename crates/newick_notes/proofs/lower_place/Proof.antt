@@ -1,9 +1,9 @@
--- `newick_scan::lower_place` meets its contract: each return rewrites with the tests that led there. Assumes nothing.
+-- `newick_notes::lower_place` meets its contract: each return rewrites with the tests that led there. Assumes nothing.
 use native.Mathlib.Omega.{arith}
 use mathlib.Core.Path.{sym}
-use Rattle.newick_scan.specs.Laws.Lower.{lower-first, lower-none, lower-second}
-use Rattle.newick_scan.proofs.lower_place.Statement.{statement}
-use Rattle.newick_scan.proofs.lower_place.Tie as tie
+use Rattle.newick_notes.specs.Laws.Lower.{lower-first, lower-none, lower-second}
+use Rattle.newick_notes.proofs.lower_place.Statement.{statement}
+use Rattle.newick_notes.proofs.lower_place.Tie as tie
 
 returns : tie.Need-returns
 returns c = rw (c .if1 .taken)

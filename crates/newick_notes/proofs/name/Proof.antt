@@ -1,8 +1,8 @@
--- `newick_scan::name` meets its contract: each return rewrites with the test that led there. Assumes nothing.
+-- `newick_notes::name` meets its contract: each return rewrites with the test that led there. Assumes nothing.
 use borrow.Author.Needs.{needs}
 use borrow.Author.Tests.{eq-eqb, ne-eqb}
-use Rattle.newick_scan.proofs.name.Statement.{statement}
-use Rattle.newick_scan.proofs.name.Tie as tie
+use Rattle.newick_notes.proofs.name.Statement.{statement}
+use Rattle.newick_notes.proofs.name.Tie as tie
 
 returns : tie.Need-returns
 returns c = rw (ne-eqb _ _ (c .if1 .taken))

@@ -1,8 +1,8 @@
--- `newick_scan::store` meets its contract: a row is stored where there is room. Assumes nothing.
+-- `newick_notes::store` meets its contract: a row is stored where there is room. Assumes nothing.
 use borrow.Author.Needs.{needs}
-use Rattle.newick_scan.specs.Laws.Storing.{stored-full, stored-room}
-use Rattle.newick_scan.proofs.store.Statement.{statement}
-use Rattle.newick_scan.proofs.store.Tie as tie
+use Rattle.newick_notes.specs.Laws.Storing.{stored-full, stored-room}
+use Rattle.newick_notes.proofs.store.Statement.{statement}
+use Rattle.newick_notes.proofs.store.Tie as tie
 
 mul-fars : tie.Need-mul-fars
 mul-fars c = search needs
