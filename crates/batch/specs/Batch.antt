@@ -1,15 +1,16 @@
 -- What a batch answers and writes, by recursion over its tables: each is stored in the form. Assumes nothing.
 use mathlib.Core.Bool.{not}
-use mathlib.Core.List.{List, [], _++_, _∷_}
+use mathlib.Core.List.{List, [], _∷_}
 use Prim.Native.Nat.{ℕ, _+_, _-_}
 use lib.Dec.{eqb}
-use lib.ListN.{drop, length, take}
+use lib.ListN.{drop, length}
 use Rattle.ground.specs.Buffers.{front}
 use Rattle.ground.specs.Outcomes.{Outcome}
 use Rattle.ground.specs.Refusals.{ifPassed, refusal, refuseIf}
 use Rattle.ground.specs.declared.Check.{Check}
-use Rattle.stored_links.specs.Form.{linkBytes, linkUsed}
-use Rattle.batch.specs.Tables.{Table, leftOverChecks, nextChecks, tables}
+use Rattle.stored_links.specs.Form.{linkUsed}
+use Rattle.joined_tables.specs.Bytes.{batchBytes}
+use Rattle.joined_tables.specs.Tables.{Table, leftOverChecks, nextChecks, tables}
 use Rattle.batch.specs.declared.Batched.{Batched}
 use Rattle.batch.specs.declared.Batched.the-variants.{Bytes}
 use Rattle.bits.specs.declared.Form.{Form}
@@ -30,12 +31,6 @@ batchFrom form k used (t ∷ ts) l v room =
 abbrev pub batchAnswer : Form → List ℕ → List ℕ → List ℕ → List ℕ → ℕ → Batched
 batchAnswer form ns counts l v room =
     numbered 0 (refuseIf (not (eqb (length ns) (length counts))) (refusal 2 0 0 0 0)) (batchFrom form 0 0 (tables ns counts) l v room)
-
--- the tables' stored forms, joined
-unfoldable pub batchBytes : Form → List Table → List ℕ → List ℕ → List ℕ
-batchBytes form [] l v = []
-batchBytes form (t ∷ ts) l v =
-    linkBytes form (t .0) (take (t .1) l) (take (t .1) v) ++ batchBytes form ts (drop (t .1) l) (drop (t .1) v)
 
 -- m at the front of the lent bytes d where the answer is a count of bytes; where it is a refusal they are as they were
 abbrev pub frontBy : Batched → List ℕ → List ℕ → List ℕ

@@ -9,8 +9,9 @@ use Rattle.bits.specs.Forms.{bytesOf, filled, fieldBits, fieldBytes, packed}
 use Rattle.links.specs.BadRows.{badRow, missing}
 use Rattle.stored_links.specs.Examples.{costsA, farsA, newStoredA, storedA}
 use Rattle.stored_links.specs.Form.{linkBytes, linkFields, newLinks, oldLinks, rowsTo}
-use Rattle.batch.specs.Batch.{batchAnswer, batchBytes, batchFrom}
-use Rattle.batch.specs.Tables.{tables}
+use Rattle.batch.specs.Batch.{batchAnswer, batchFrom}
+use Rattle.joined_tables.specs.Bytes.{batchBytes}
+use Rattle.joined_tables.specs.Tables.{tables}
 use Rattle.batch.specs.declared.Batched.the-variants.{Bytes}
 use Rattle.batch.specs.declared.Batched.the-variants as batched
 

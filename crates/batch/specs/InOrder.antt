@@ -19,7 +19,7 @@ use Rattle.links.specs.InOrder.{count-order, countSteps}
 use Rattle.stored_links.specs.Form.{linkUsed}
 use Rattle.link_writer.specs.InOrder.{fit-order, fitSteps}
 use Rattle.batch.specs.Batch.{batchAnswer, batchFrom, batchOutcome}
-use Rattle.batch.specs.Tables.{Table, leftOverChecks, nextChecks, runOutChecks, tables}
+use Rattle.joined_tables.specs.Tables.{Table, leftOverChecks, nextChecks, runOutChecks, tables}
 use Rattle.batch.specs.declared.Batched.the-variants.{Bytes}
 use Rattle.batch.specs.declared.Batched.the-variants as batched
 

@@ -1,6 +1,4 @@
 -- The laws, from one table of a batch up to reading it back.
-pub mod Next
 pub mod Answers
 pub mod Steps
-pub mod Joined
 pub mod ReadBack

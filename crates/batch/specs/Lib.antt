@@ -1,8 +1,7 @@
 -- What the batch writer answers and writes.
-pub mod Tables
 pub mod Batch
+pub mod Tables
 pub mod ReadBack
-pub mod Fitting
 -- Its checks by their numbers, in order.
 pub mod InOrder
 -- What is true of it.

@@ -5,7 +5,7 @@ use Prim.Native.Nat.{ℕ, _*_, _+_, _-_, _≤_}
 use lib.ListN.{drop, length, take}
 use Rattle.stored_links.specs.Form.{linkUsed}
 use Rattle.stored_links.specs.Outcomes.{readEither}
-use Rattle.batch.specs.Tables.{Table}
+use Rattle.joined_tables.specs.Tables.{Table}
 use Rattle.bits.specs.declared.Form.{Form}
 use Rattle.stored_links.specs.Stored.{readInto}
 

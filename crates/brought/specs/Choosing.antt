@@ -7,7 +7,7 @@ use Prim.Native.Nat.{ℕ, _*_, _+_, _-_, _<_, _^_}
 use lib.ListN.{getD, length, set}
 use Rattle.ground.specs.Counts.{one-if}
 use Rattle.brought.specs.Chosen.{SidesStored, slotOf, storedOf, isStored}
-use Rattle.brought.specs.Near.{goesIn, goesOut}
+use Rattle.near_images.specs.Near.{goesIn, goesOut}
 
 -- image k outside
 abbrev pub outSide : List ℕ → ℕ → ℕ

@@ -9,7 +9,7 @@ use lib.Dec.{eqb}
 use lib.ListN.{getD, length}
 use Rattle.ground.specs.Counts.{one-if}
 use Rattle.theory.specs.FarSides.{FarSide, Nested}
-use Rattle.chains.specs.Chains.{pick}
+use Rattle.upper_sides.specs.Chains.{pick}
 
 -- some images each, ascending, and few
 pub record Rising (f : List ℕ) (count : ℕ) : Type 0 where

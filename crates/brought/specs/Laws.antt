@@ -1,6 +1,4 @@
--- Rows that cannot stay, the chains of the others, and the loops that choose them.
-pub mod Turns
-pub mod Dead
+-- The loops that choose the rows that can stay, the chains of their sides, and the values.
 pub mod Turned
 pub mod Stores
 pub mod Choosing

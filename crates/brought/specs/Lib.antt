@@ -1,5 +1,4 @@
--- What the contracts of `brought` cite: the rows that can stay, the sides that are asked for them, and the values.
-pub mod Near
+-- What the contracts of `brought` cite: the sides that are asked for the rows that can stay, and the values.
 pub mod Chosen
 pub mod Choosing
 pub mod Answers

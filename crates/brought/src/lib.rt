@@ -1,96 +1,12 @@
 // What image k brings to the rows over the first k images: which of them can stay, the sides that are asked for these, and the values.
 ghost use mathlib.Core.Path.{_≡_};
 ghost use Prim.Native.Nat.{_+_, _-_, _<_, _≤_};
-ghost use lib.Dec.{ltb};
 ghost use lib.ListN.{length};
 ghost use Rattle.ground.specs.Counts.{one-if};
 ghost use Rattle.theory.specs.Tables.{limit, cost, CostTable};
-ghost use Rattle.chains.specs.Chains.{pick};
 ghost use Rattle.brought.specs.Answers.{AllBrought};
 ghost use Rattle.brought.specs.Choosing.{inSide, inLive, SidePut, Room, Outs, Ins};
 ghost use Rattle.brought.specs.Chosen.{oneImage, isStored, slotOf, storedOf, Rising, Rowed};
-ghost use Rattle.brought.specs.Near.{Closest, NearImages, nearImage, goesOut, goesIn};
-
-// Of b and y the one that is nearer to k, as seen from image 0.
-fn closer(t: &[u32], n: usize, k: usize, b: usize, y: usize) -> usize
-    requires { ⌜ CostTable limit n (now t) × (k < n) × (b < n) × (y < n) ⌝ }
-    ensures { λ r. ⌜ r ≡ pick (ltb (cost (now (t .entry)) n k y + cost (now (t .entry)) n 0 b)
-        (cost (now (t .entry)) n k b + cost (now (t .entry)) n 0 y)) y b ⌝ }
-{
-    let x = tables::entry(t, n, k, y) + tables::entry(t, n, 0, b);
-    let w = tables::entry(t, n, k, b) + tables::entry(t, n, 0, y);
-    if x < w { y } else { b }
-}
-
-// The image that is nearest to k, as seen from image 0.
-fn closest(t: &[u32], n: usize, k: usize) -> usize
-    requires { ⌜ CostTable limit n (now t) × (1 ≤ k) × (k < n) ⌝ }
-    ensures { λ r. ⌜ Closest (cost (now (t .entry)) n) k k r ⌝ }
-{
-    let mut b = 1;
-    let mut y = 2;
-    while y < k {
-        b = closer(t, n, k, b, y);
-        y += 1;
-    }
-    b
-}
-
-// Whether y is b or on the near side of where k and b part from image 0.
-fn is_near(t: &[u32], n: usize, k: usize, b: usize, y: usize) -> bool
-    requires { ⌜ CostTable limit n (now t) × (k < n) × (b < n) × (y < n) ⌝ }
-    ensures { λ r. ⌜ r ≡ nearImage (cost (now (t .entry)) n) k b y ⌝ }
-{
-    if y == b {
-        return true;
-    }
-    let x = tables::entry(t, n, k, 0) + tables::entry(t, n, b, y);
-    let w = tables::entry(t, n, k, b) + tables::entry(t, n, 0, y);
-    x < w
-}
-
-// The near images below y, and y if it is one.
-fn with_near(t: &[u32], n: usize, k: usize, b: usize, y: usize, m: u64) -> u64
-    requires { ⌜ CostTable limit n (now t) × (k < n) × (b < n) × (1 ≤ y) × (y < n) × NearImages (cost (now t) n) k b y m ⌝ }
-    ensures { λ r. ⌜ NearImages (cost (now (t .entry)) n) k b (y + 1) r ⌝ }
-{
-    if is_near(t, n, k, b, y) {
-        return ground::bit_alone(y) + m;
-    }
-    m
-}
-
-// The near images, as a number.
-fn near_images(t: &[u32], n: usize, k: usize, b: usize) -> u64
-    requires { ⌜ CostTable limit n (now t) × (1 ≤ k) × (k < n) × (b < n) ⌝ }
-    ensures { λ r. ⌜ NearImages (cost (now (t .entry)) n) k b k r ⌝ }
-{
-    let mut m = 0;
-    let mut y = 1;
-    while y < k {
-        m = with_near(t, n, k, b, y, m);
-        y += 1;
-    }
-    m
-}
-
-// Whether the row s may stay with image k outside.
-fn goes_out(b: usize, near: u64, s: u64) -> bool
-    requires { ⌜ b < 64 ⌝ }
-    ensures { λ r. ⌜ r ≡ goesOut b near s ⌝ }
-{
-    if ground::side(s, b) == 0 {
-        return true;
-    }
-    s & near == s
-}
-
-// Whether it may stay with image k inside.
-fn goes_in(near: u64, s: u64) -> bool
-    ensures { λ r. ⌜ r ≡ goesIn near s ⌝ }
-{
-    s & near == near
-}
 
 // Whether a side has one image alone.
 fn is_alone(s: u64) -> bool
@@ -120,7 +36,7 @@ fn slot(live: bool, s: u64, place: usize) -> usize
     ensures { λ r. ⌜ (r ≡ slotOf live s place) × (r < 192) ⌝ }
 {
     if is_alone(s) {
-        return chains::lowest(s);
+        return upper_sides::lowest(s);
     }
     if live {
         return 64 + place;
@@ -166,7 +82,15 @@ fn choose_out(
     let mut i = 0;
     while i < count {
         let s = fars[i];
-        m = store(goes_out(b, near, s), s, m, i, sides, outs, best);
+        m = store(
+            near_images::goes_out(b, near, s),
+            s,
+            m,
+            i,
+            sides,
+            outs,
+            best,
+        );
         i += 1;
     }
     m
@@ -195,7 +119,15 @@ fn choose_in(
     while 0 < i {
         i -= 1;
         let s = fars[i];
-        m = store(goes_in(near, s), full - s, m, i, sides, ins, best);
+        m = store(
+            near_images::goes_in(near, s),
+            full - s,
+            m,
+            i,
+            sides,
+            ins,
+            best,
+        );
     }
     m
 }
@@ -218,8 +150,8 @@ pub fn brought(
         × (length (now sides) ≡ 128) × (length (now steps) ≡ 384) × (length (now best) ≡ 192) ⌝ }
     ensures { λ r. ⌜ AllBrought limit (cost (now (t .entry)) n) k (now (fars .entry)) count r (now (outs .exit)) (now (ins .exit)) (now (best .exit)) ⌝ }
 {
-    let b = closest(t, n, k);
-    let near = near_images(t, n, k, b);
+    let b = near_images::closest(t, n, k);
+    let near = near_images::near_images(t, n, k, b);
     let low = choose_out(b, near, fars, count, sides, outs, best);
     let m = choose_in(k, near, fars, count, low, sides, ins, best);
     sides[m] = ground::bit_alone(k) - 1;

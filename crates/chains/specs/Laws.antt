@@ -1,10 +1,4 @@
--- Least values over parts, the lowest one of a number, chains of sides, and the walks.
-pub mod Parts
-pub mod Lowest
-pub mod Chain
-pub mod Ends
-pub mod Places
-pub mod Uppers
+-- The walks up and down a chain.
 pub mod Climbs
 pub mod Descents
 pub mod Walked

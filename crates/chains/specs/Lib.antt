@@ -1,6 +1,4 @@
--- What the contracts of `chains` cite: chains of sides, the way along one, a walk, and what image k brings to each side.
-pub mod Chains
-pub mod Links
+-- What the contracts of `chains` cite: a walk up a chain, and what image k brings to each side.
 pub mod Walks
 pub mod Values
 -- How the code meets them.

@@ -4,7 +4,7 @@ use mathlib.Core.Path.{_≡_}
 use Prim.Native.Nat.{ℕ, _*_, _+_, _-_, _<_}
 use lib.ListN.{getD, length}
 use Rattle.ground.specs.Bits.{bit}
-use Rattle.chains.specs.Chains.{depthAt, gapOn, heldAt, nearOn}
+use Rattle.upper_sides.specs.Chains.{depthAt, gapOn, heldAt, nearOn}
 
 -- three numbers are kept of a side j that holds z, in the order of the chain: the least over it, what it adds beside the side before
 -- it, and its place

@@ -1,16 +1,13 @@
 // What one image more, k, brings to all sides of a reading at once. A side is a number whose ones are the images on the other side
 // of k. For an image z the sides that hold z grow, so that one walk up and down them gives each what k brings with z.
 ghost use mathlib.Core.Path.{_≡_};
-ghost use Prim.Native.Nat.{_+_, _-_, _*_, _^_, _<_, _≤_, min};
-ghost use lib.Bits.{bitAnd};
-ghost use lib.Count.{trailingZeros};
-ghost use lib.Dec.{eqb};
+ghost use Prim.Native.Nat.{_+_, _*_, _^_, _<_, _≤_, min};
 ghost use lib.ListN.{getD, length, set};
 ghost use Rattle.ground.specs.Bits.{bit};
 ghost use Rattle.ground.specs.Least.{leastOn};
 ghost use Rattle.theory.specs.Tables.{limit, cost, CostTable};
-ghost use Rattle.chains.specs.Chains.{ahead, gapOn, Chained, Family};
-ghost use Rattle.chains.specs.Links.{FirstContaining, PlacesMarked, Linking, Linked};
+ghost use Rattle.upper_sides.specs.Chains.{ahead, gapOn, Chained, Family};
+ghost use Rattle.upper_sides.specs.Links.{Linked};
 ghost use Rattle.chains.specs.Walks.{Climbed, Up};
 ghost use Rattle.chains.specs.Values.{Least, Brought};
 
@@ -42,21 +39,6 @@ fn place_of(x: u32) -> usize
     x as usize
 }
 
-// The place of the lowest one of m.
-pub fn lowest(m: u64) -> usize
-    ensures { λ r. ⌜ r ≡ trailingZeros 64 m ⌝ }
-{
-    u64::trailing_zeros(m) as usize
-}
-
-// m without its lowest one.
-fn without_lowest(m: u64) -> u64
-    requires { ⌜ 0 < m ⌝ }
-    ensures { λ r. ⌜ r ≡ bitAnd m (m - 1) ⌝ }
-{
-    m & (m - 1)
-}
-
 // Image y takes its turn at the least of limit + d(p,y) - d(q,y) so far.
 fn turn_ahead(t: &[u32], n: usize, p: usize, q: usize, y: usize, best: u32) -> u32
     requires { ⌜ CostTable limit n (now t) × (p < n) × (q < n) × (y < n) ⌝ }
@@ -77,73 +59,14 @@ fn level(t: &[u32], n: usize, k: usize, z: usize, m: u64, near: u32) -> Both
     let mut gap = theory::CAP;
     let mut rest = m;
     while rest != 0 {
-        let y = lowest(rest);
+        let y = upper_sides::lowest(rest);
         low = turn_ahead(t, n, k, z, y, low);
         gap = turn_ahead(t, n, z, k, y, gap);
-        rest = without_lowest(rest);
+        rest = upper_sides::without_lowest(rest);
     }
     Both {
         near: low,
         apart: gap,
-    }
-}
-
-// Whether the side s contains m.
-fn contains(s: u64, m: u64) -> bool
-    ensures { λ r. ⌜ r ≡ eqb (bitAnd m s) m ⌝ }
-{
-    m & s == m
-}
-
-// The first place from `from` on whose side contains s, or the number of sides where there is none.
-fn next(sides: &[u64], count: usize, s: u64, from: usize) -> usize
-    requires { ⌜ (count ≤ length (now sides)) × (from ≤ count) ⌝ }
-    ensures { λ r. ⌜ FirstContaining (now (sides .entry)) count s from r ⌝ }
-{
-    let mut j = from;
-    while j < count {
-        if contains(sides[j], s) {
-            return j;
-        }
-        j += 1;
-    }
-    j
-}
-
-// Every image of m has its first side at place j.
-fn mark(m: u64, j: usize, links: &mut [u8])
-    requires { ⌜ (j < 128) × (length (now links) ≡ 192) ⌝ }
-    ensures { λ _. ⌜ PlacesMarked m j 0 (now (links .entry)) (now (links .exit)) ⌝ }
-{
-    let mut rest = m;
-    while rest != 0 {
-        links[128 + lowest(rest)] = ground::byte(j);
-        rest = without_lowest(rest);
-    }
-}
-
-// Side i gets its upper side, and the images that none of the sides before it holds their first; all images seen so far.
-fn turn_link(sides: &[u64], count: usize, i: usize, seen: u64, links: &mut [u8]) -> u64
-    requires { ⌜ (length (now sides) ≡ 128) × (i < count) × (count ≤ 128) × Linking (now sides) count i seen (now links) ⌝ }
-    ensures { λ r. ⌜ Linking (now (sides .entry)) count (i + 1) r (now (links .exit)) ⌝ }
-{
-    let s = sides[i];
-    links[i] = ground::byte(next(sides, count, s, i + 1));
-    let both = seen | s;
-    mark(both - seen, i, links);
-    both
-}
-
-// The upper side of each side, the place of the first later one that contains it; and from place 128 on the first side of each image.
-fn link(sides: &[u64], count: usize, links: &mut [u8])
-    requires { ⌜ (length (now sides) ≡ 128) × (count ≤ 128) × (length (now links) ≡ 192) ⌝ }
-    ensures { λ _. ⌜ Linked (now (sides .entry)) count (now (links .exit)) ⌝ }
-{
-    let mut seen = 0;
-    let mut i = 0;
-    while i < count {
-        seen = turn_link(sides, count, i, seen, links);
-        i += 1;
     }
 }
 
@@ -260,7 +183,7 @@ pub fn images(
     ensures { λ _. ⌜ Brought limit (cost (now (t .entry)) n) k (now (sides .entry)) count (now (best .exit)) ⌝ }
 {
     let mut links = [0u8; 192];
-    link(sides, count, &mut links);
+    upper_sides::link(sides, count, &mut links);
     let mut z = 0;
     while z < k {
         turn_image(t, n, k, z, sides, count, &links, steps, best);

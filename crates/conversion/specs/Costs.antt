@@ -15,7 +15,8 @@ use Rattle.bits.specs.declared.Form.{Form}
 use Rattle.stored_costs.specs.Form.{costForm, costFormAt, costUsed}
 use Rattle.stored_costs.specs.Said.{imagesOf, storedTable}
 use Rattle.stored_costs.specs.Reading.{tableChecks}
-use Rattle.cost_writer.specs.Writing.{fitCheck, storeChecks, storedIf}
+use Rattle.cost_limits.specs.Checks.{fitCheck}
+use Rattle.cost_writer.specs.Writing.{storeChecks, storedIf}
 
 -- the images of the table that s begins with, in the form that it tells, and the table
 abbrev pub imagesSaid : List ℕ → ℕ

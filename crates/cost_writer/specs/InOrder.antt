@@ -12,7 +12,8 @@ use Rattle.theory.specs.Tables.{cost, limit}
 use Rattle.tables.specs.InOrder.{costs-order, costsSteps, size-order, sizeSteps}
 use Rattle.bits.specs.declared.Form.{Form}
 use Rattle.stored_costs.specs.Form.{costUsed}
-use Rattle.cost_writer.specs.Writing.{fitCheck, largeCheck, storeChecks, writeChecks}
+use Rattle.cost_limits.specs.Checks.{fitCheck, largeCheck}
+use Rattle.cost_writer.specs.Writing.{storeChecks, writeChecks}
 
 -- 17, 3
 abbrev pub storeSteps : Form → ℕ → (ℕ → ℕ → ℕ) → ℕ → List Step

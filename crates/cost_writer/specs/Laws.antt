@@ -1,5 +1,3 @@
--- How the entries are put, when it is accepted, and what was read written again.
-pub mod Putting
-pub mod Fitting
+-- When it is accepted, and what was read written again.
 pub mod Accepted
 pub mod Again

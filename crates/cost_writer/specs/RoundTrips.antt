@@ -15,7 +15,7 @@ use Rattle.bits.specs.declared.Edition.{Edition}
 use Rattle.bits.specs.declared.Form.{Form}
 use Rattle.cost_writer.specs.Laws.Accepted.{passed-write}
 use Rattle.cost_writer.specs.Laws.Again.{read-again}
-use Rattle.cost_writer.specs.Laws.Fitting.{table-wide}
+use Rattle.cost_limits.specs.Laws.Fitting.{table-wide}
 use Rattle.cost_writer.specs.Writing.{writeChecks, writeOutcome}
 use Rattle.stored_costs.specs.Form.{costBytes, costForm, costFormAt, costUsed}
 use Rattle.stored_costs.specs.Said.{storedTable}

@@ -9,11 +9,9 @@ pub mod OwnRows
 pub mod Sound
 pub mod Grafted
 pub mod Reading
--- A path cut, and its rows without cost left out.
-pub mod Cutting
+-- Room for the path and for the table.
 pub mod Room
 -- The code.
 pub mod Closing
-pub mod Keeping
 pub mod OwnTable
 pub mod Growing

@@ -4,7 +4,7 @@ use mathlib.Core.Bool.{cond}
 use Prim.Native.Nat.{suc, zero, ℕ, _+_, _-_, _^_}
 use lib.Dec.{leb}
 use Rattle.theory.specs.LinkTables.{Row}
-use Rattle.grafting.specs.Grafting.{height}
+use Rattle.path_cuts.specs.Cuts.{height}
 
 -- the images at the places q to m, where q is above 0
 unfoldable pub side : (ℕ → ℕ) → ℕ → ℕ → ℕ

@@ -1,7 +1,5 @@
--- Rows in local arrays, one image more, and the rows of the reading.
-pub mod LocalRows
+-- The rows of the reading, and those over one image more.
 pub mod Growing
-pub mod Putting
 pub mod Held
 pub mod Rowed
 pub mod Grown

@@ -1,7 +1,6 @@
--- What the contracts of `growing` cite: rows in local arrays, one image more, and the reading of the first images.
-pub mod LocalRows
+-- What one image more makes of the old rows.
 pub mod Growing
-pub mod Putting
+-- What the contracts of `growing` cite: the reading of the first images.
 pub mod Held
 -- How the code meets them.
 pub mod Laws

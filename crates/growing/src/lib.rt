@@ -1,86 +1,9 @@
 // One image more: the rows that a reading has with it, from those that it had before. Images are counted from 0.
 ghost use mathlib.Core.Path.{_≡_};
-ghost use Prim.Native.Nat.{_+_, _-_, _*_, _<_, _≤_, min};
+ghost use Prim.Native.Nat.{_+_, _<_, _≤_};
 ghost use lib.ListN.{length};
-ghost use Rattle.ground.specs.Counts.{one-if};
-ghost use Rattle.theory.specs.OneMore.{stays};
 ghost use Rattle.theory.specs.Tables.{limit, cost, CostTable};
-ghost use Rattle.growing.specs.Growing.{Turned};
 ghost use Rattle.growing.specs.Held.{RowsHeld};
-ghost use Rattle.growing.specs.Putting.{loweredIn, Given, PutAll, PutRoom};
-
-// The cost c, lowered by the value w, from which two limits are taken off; below them it is 0 and nothing is taken off.
-fn cost_more(c: u32, w: u32) -> u32
-    ensures { λ r. ⌜ r ≡ min c (w - 2 * limit) ⌝ }
-{
-    let floor = 2 * theory::LIMIT;
-    if w < floor {
-        return 0;
-    }
-    ground::lower(c, w - floor)
-}
-
-// 1 for a row over n images that stays, an own link or one with a cost above 0; otherwise 0.
-fn stay(n: usize, s: u64, c: u32) -> usize
-    ensures { λ r. ⌜ (r ≡ one-if (stays n (s, c))) × (r ≤ 1) ⌝ }
-{
-    if theory::is_inner(n, s) {
-        if 0 < c {
-            return 1;
-        }
-        return 0;
-    }
-    1
-}
-
-// The row of the far side s over the images up to k, its cost c lowered by the value w, stored at the place `at`; the count of rows
-// goes on if it stays.
-fn turn_row(
-    k: usize,
-    s: u64,
-    c: u32,
-    w: u32,
-    at: usize,
-    fars: &mut [u64],
-    costs: &mut [u32],
-) -> usize
-    requires { ⌜ (k < 64) × (at < length (now fars)) × (at < length (now costs)) ⌝ }
-    ensures { λ r. ⌜ Turned k s (min c (w - 2 * limit)) at (now (fars .entry)) (now (costs .entry)) r (now (fars .exit)) (now (costs .exit)) ⌝ }
-{
-    let v = cost_more(c, w);
-    fars[at] = s;
-    costs[at] = v;
-    at + stay(k + 1, s, v)
-}
-
-// The old rows f and v with image k on the side that `add` puts it, behind the rows up to the place `at`; the new count of rows. What
-// image k brings to them stands in `best`, at the places `slots`.
-fn put_rows(
-    k: usize,
-    add: u64,
-    f: &[u64],
-    v: &[u32],
-    count: usize,
-    slots: &[u8],
-    best: &[u32],
-    at: usize,
-    fars: &mut [u64],
-    costs: &mut [u32],
-) -> usize
-    requires { ⌜ (k < 64) × Given add (now f) (now v) (now slots) (now best) count × PutRoom k
-        (loweredIn limit add (now f) (now v) (now slots) (now best) count) at (now fars) (now costs) ⌝ }
-    ensures { λ r. ⌜ PutAll k (loweredIn limit add (now (f .entry)) (now (v .entry)) (now (slots .entry)) (now (best .entry)) count) at
-        (now (fars .entry)) (now (costs .entry)) r (now (fars .exit)) (now (costs .exit)) ⌝ }
-{
-    let mut place = at;
-    let mut i = 0;
-    while i < count {
-        let slot = ground::wide(slots[i]);
-        place = turn_row(k, add + f[i], v[i], best[slot], place, fars, costs);
-        i += 1;
-    }
-    place
-}
 
 // The rows over one image more, k, from the rows f and v over the first k: the old rows with image k outside, its own link, the old
 // rows with image k inside. They ascend by themselves, and no more than two are added (Law C3). `steps` and `best` are lent for the
@@ -106,7 +29,7 @@ pub fn grow(
     let own = brought::brought(t, n, k, f, count, &mut outs, &mut ins, fars, steps, best);
     let value = best[own];
     let image = ground::bit_alone(k);
-    let outside = put_rows(k, 0, f, v, count, &outs, best, 0, fars, costs);
-    let middle = turn_row(k, image, 2 * theory::LIMIT, value, outside, fars, costs);
-    put_rows(k, image, f, v, count, &ins, best, middle, fars, costs)
+    let outside = lowered_rows::put_rows(k, 0, f, v, count, &outs, best, 0, fars, costs);
+    let middle = lowered_rows::turn_row(k, image, 2 * theory::LIMIT, value, outside, fars, costs);
+    lowered_rows::put_rows(k, image, f, v, count, &ins, best, middle, fars, costs)
 }

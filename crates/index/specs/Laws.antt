@@ -1,7 +1,6 @@
 -- When the call is accepted.
 pub mod Passed
--- The lists of both sides, and the index over one image more.
-pub mod Sides
+-- The index over one image more.
 pub mod Grown
 -- What the answer says.
 pub mod Value

@@ -1,6 +1,5 @@
--- What the contracts of `index` cite: the answer of the call, and the lists that its loops go over.
+-- What the contracts of `index` cite: the answer of the call.
 pub mod Call
-pub mod Sides
 -- What the promise is worth: what the index is, what its sign says, where it ends, and how far it moves.
 pub mod IndexIs
 pub mod AtZero

@@ -22,7 +22,8 @@ use Rattle.tree.specs.Readings.{exactCheck}
 use Rattle.mending.specs.Leaving.{mend}
 use Rattle.leaving.specs.Laws.Replay.{numbered-on, replay-goes, replay-none, replay-stops}
 use Rattle.leaving.specs.Outcome.{outcome, replayOutcome}
-use Rattle.leaving.specs.Replay.{Standing, eventCheck, replay}
+use Rattle.events.specs.Checks.{eventCheck}
+use Rattle.leaving.specs.Replay.{Standing, replay}
 
 -- 8, 1 of one event
 abbrev pub eventSteps : ℕ → ℕ → List Step

@@ -3,16 +3,12 @@
 use mathlib.Core.List.{List, [], map, _∷_}
 use Prim.Native.Nat.{suc, ℕ, _%_, _*_, _-_, _/_}
 use Rattle.ground.specs.Ranges.{from}
-use Rattle.ground.specs.Refusals.{ifPassed, _then_}
+use Rattle.ground.specs.Refusals.{ifPassed}
 use Rattle.ground.specs.declared.Check.{Check}
 use Rattle.ground.specs.declared.Check.the-variants.{Passed, Refused}
-use Rattle.theory.specs.Checks.{imageCheck, imagesCheck}
 use Rattle.theory.specs.LinkTables.{Row}
 use Rattle.mending.specs.Leaving.{leave, mend}
-
--- 8 for an unknown image, then 1 if two would be left
-abbrev pub eventCheck : ℕ → ℕ → Check
-eventCheck n e = imageCheck n e then imagesCheck (n - 1)
+use Rattle.events.specs.Checks.{eventCheck}
 
 -- where a replay stands: so many images, and these rows; the event that was refused, 0 where none was, and its refusal
 pub record Standing : Type 0 where

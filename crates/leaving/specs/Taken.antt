@@ -7,7 +7,8 @@ use Rattle.ground.specs.declared.Check.the-variants.{Passed, Refused}
 use Rattle.ground.specs.declared.Refusal.{Refusal}
 use Rattle.theory.specs.Readings.{Exact}
 use Rattle.theory.specs.Tables.{WellFormed}
-use Rattle.leaving.specs.Replay.{Standing, after, eventCheck}
+use Rattle.events.specs.Checks.{eventCheck}
+use Rattle.leaving.specs.Replay.{Standing, after}
 
 -- how a replay ended: with all events, or at the one that was refused
 pub data Ended (k : ℕ) (taken left : List ℕ) (p : Standing) : Type 0 where

@@ -13,7 +13,7 @@ ghost use Rattle.tables.specs.Checks.{sizeCheck};
 ghost use Rattle.tree.specs.LocalRows.{rowsIn};
 ghost use Rattle.tree.specs.Readings.{outputsRoomCheck};
 ghost use Rattle.leaving.specs.Outcome.{outcome, replayOutcome};
-ghost use Rattle.leaving.specs.Replay.{eventCheck, replay};
+ghost use Rattle.leaving.specs.Replay.{replay};
 ghost use Rattle.leaving.specs.Standing.{SoundRows, Stands};
 
 // What the replay answers: the images that are left, the number of their rows, and the event that was refused, 0 where none was or
@@ -23,18 +23,6 @@ pub struct Replayed {
     pub rows: usize,
     pub event: usize,
     pub stop: Check,
-}
-
-// Refusal 8 for an unknown image, then 1 if two would be left.
-fn check_event(n: usize, e: usize) -> Check
-    requires { ⌜ 3 ≤ n ⌝ }
-    ensures { λ r. ⌜ r ≡ eventCheck n e ⌝ }
-{
-    let c = ground::refuse_if(ground::is_outside(1, n, e), 8, 0, 0);
-    let Check::Passed = c else {
-        return c;
-    };
-    theory::check_images(n - 1)
 }
 
 // The events one after another, over n images whose rows stand in the first `count` places; a refusal ends it. The rows that are left stand
@@ -49,7 +37,7 @@ fn run(n: usize, fars: &mut [u64], costs: &mut [u32], count: usize, events: &[u8
     let mut i = 0;
     while i < events.len() {
         let e = ground::wide(events[i]);
-        let c = check_event(images, e);
+        let c = events::check_event(images, e);
         let Check::Passed = c else {
             return Replayed {
                 images,

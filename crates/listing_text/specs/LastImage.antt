@@ -1,6 +1,6 @@
 -- The last image of a listing's order line. Images are 1 to n here, as in the listing. Assumes nothing.
 use mathlib.Core.List.{List}
-use Prim.Native.Nat.{suc, ℕ, _≤_}
+use Prim.Native.Nat.{suc, ℕ}
 use Rattle.theory.specs.Tables.{cost}
 use Rattle.far_end.specs.FarEnd.{farEnd}
 use Rattle.listing_text.specs.declared.Last.{Last}
@@ -10,8 +10,3 @@ use Rattle.listing_text.specs.declared.Last.the-variants.{FarEnd, ImageN
 abbrev pub lastImage : Last → ℕ → List ℕ → ℕ
 lastImage FarEnd n t = suc (farEnd (cost t n) n)
 lastImage ImageN n t = n
-
--- one of n images, other than image 1
-pub record Other (n last : ℕ) : Type 0 where
-  pub low : 2 ≤ last
-  pub high : last ≤ n

@@ -1,7 +1,6 @@
 -- Which image is last.
 pub mod LastImage
--- What the calls below gave, and the text that follows.
-pub mod Accepted
+-- What the reader of stored tables gave, and the text that follows.
 pub mod Stored
 -- What stands behind the table.
 pub mod Behind

@@ -1,6 +1,5 @@
 -- What a listing is.
 pub mod LastImage
-pub mod TableText
 pub mod Listing
 -- What the promises are worth: what is printed, the order line, refusals in order, bytes that cannot matter; and examples, computed.
 pub mod Promises

@@ -11,7 +11,7 @@ use Rattle.stored_costs.specs.Reading.{tableChecks}
 use Rattle.listing_lines.specs.Lines.{room}
 use Rattle.listing_text.specs.declared.Last.{Last}
 use Rattle.listing_text.specs.LastImage.{lastImage}
-use Rattle.listing_text.specs.TableText.{tableText, textIf}
+use Rattle.table_text.specs.TableText.{tableText, textIf}
 
 -- the images of the stored table that the bytes say in the form that they tell, and the table
 abbrev pub imagesSaid : List ℕ → ℕ

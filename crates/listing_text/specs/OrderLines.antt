@@ -17,8 +17,9 @@ use Rattle.far_end.specs.Laws.FarEnd.{far-end-is, far-end-only}
 use Rattle.order.specs.Outcome.{images, orderOutcome}
 use Rattle.order.specs.Promises.{order-accepted, order-wrote}
 use Rattle.tree.specs.Exact.{exactRows}
-use Rattle.listing_text.specs.LastImage.{Other, lastImage}
-use Rattle.listing_text.specs.Laws.Accepted.{order-asked, order-left}
+use Rattle.table_text.specs.LastImage.{Other}
+use Rattle.listing_text.specs.LastImage.{lastImage}
+use Rattle.table_text.specs.Laws.Accepted.{order-asked, order-left}
 use Rattle.listing_text.specs.Laws.LastImage.{last-other}
 use Rattle.listing_lines.specs.Lines.{header, orderLine, readingText, rowLines}
 use Rattle.listing_text.specs.Listing.{Listed, imagesSaid, listingText, tableSaid}

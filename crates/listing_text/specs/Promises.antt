@@ -27,7 +27,7 @@ use Rattle.listing_text.specs.LastImage.{lastImage}
 use Rattle.listing_text.specs.Laws.Behind.{textBy, textIn}
 use Rattle.listing_lines.specs.Lines.{refusedLine, room}
 use Rattle.listing_text.specs.Listing.{Listed, imagesSaid, listingText, storedChecks, storedText, tableSaid, textWith}
-use Rattle.listing_text.specs.TableText.{linksText, textIf}
+use Rattle.table_text.specs.TableText.{linksText, textIf}
 use Rattle.listing_text.specs.declared.Last.{Last}
 
 -- the checks of a listing in their order: 9, 1, 9, 11, 4, and those of the exact reading

@@ -19,7 +19,7 @@ use Rattle.listing_text.specs.Laws.LastImage.{last-other}
 use Rattle.listing_text.specs.Listing.{Listed, imagesSaid, listingText, storedChecks, tableSaid}
 use Rattle.listing_text.specs.OrderLines.{from-one, rowsShown, shown}
 use Rattle.listing_text.specs.Promises.{listed-front, listing-refused, listing-table, listingChecks, orderSaid}
-use Rattle.listing_text.specs.TableText.{tableText, textIf}
+use Rattle.table_text.specs.TableText.{tableText, textIf}
 use Rattle.listing_text.specs.declared.Last.{Last}
 use Rattle.listing_text.specs.declared.Last.the-variants.{FarEnd, ImageN}
 

@@ -5,7 +5,8 @@ use Prim.Native.Nat.{ℕ, _*_, _+_, _-_}
 use lib.Dec.{eqb, leb, ltb}
 use lib.ListN.{getD}
 use Rattle.newick_text.specs.Bytes.{isDigit}
-use Rattle.newick_bytes.specs.Tests.{begun, grown, more, opened, pick}
+use Rattle.newick_allowed.specs.Tests.{begun, grown, more, opened}
+use Rattle.newick_bytes.specs.Tests.{pick}
 use Rattle.newick_bytes.specs.declared.Seen.{Seen}
 use Rattle.newick_bytes.specs.declared.Seen.the-variants.{Blank, Closed, Cost, Dead, Done, Ended, Image, Start, Vertex}
 

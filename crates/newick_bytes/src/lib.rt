@@ -4,7 +4,6 @@ ghost use mathlib.Core.Path.{_≡_};
 ghost use Prim.Native.Nat.{_<_, _≤_};
 ghost use lib.ListN.{length};
 ghost use Rattle.newick_bytes.specs.Seen.{Bounded, isDeadSeen, isDoneSeen};
-ghost use Rattle.newick_bytes.specs.Tests.{begun, firstPlace, grown, more, opened};
 ghost use Rattle.newick_bytes.specs.Next.{blankNext, closed, costNext, digitNext, endedNext, headNext};
 ghost use Rattle.newick_bytes.specs.Next.{imageBegun, imageNext, nextSeen, startNext, vertexNext};
 ghost use Rattle.newick_bytes.specs.Outer.{nextOuter, vertexOuter};
@@ -39,26 +38,6 @@ pub enum Seen {
     Dead,
 }
 
-// Whether image 1 must follow.
-fn is_first(depth: usize, count: usize) -> bool
-    ensures { λ r. ⌜ r ≡ firstPlace depth count ⌝ }
-{
-    if depth == 1 {
-        return count == 0;
-    }
-    false
-}
-
-// One vertex more, 3 for more than two.
-fn one_more(count: usize) -> usize
-    ensures { λ r. ⌜ r ≡ more count ⌝ }
-{
-    if count < 3 {
-        return count + 1;
-    }
-    3
-}
-
 fn after_start(b: usize) -> Seen
     ensures { λ r. ⌜ r ≡ startNext b ⌝ }
 {
@@ -68,37 +47,11 @@ fn after_start(b: usize) -> Seen
     Seen::Dead
 }
 
-// Whether a bracket may open: not in the first place, and not as the 63rd.
-fn may_open(depth: usize, count: usize) -> bool
-    ensures { λ r. ⌜ r ≡ opened depth count ⌝ }
-{
-    if is_first(depth, count) {
-        return false;
-    }
-    depth < 62
-}
-
-// Whether an image may begin with the byte: 1 to 9, and in the first place 1.
-fn may_begin(depth: usize, count: usize, b: usize) -> bool
-    ensures { λ r. ⌜ r ≡ begun depth count b ⌝ }
-{
-    if b < 49 {
-        return false;
-    }
-    if 57 < b {
-        return false;
-    }
-    if is_first(depth, count) {
-        return b == 49;
-    }
-    true
-}
-
 // An image begins.
 fn begin_image(depth: usize, count: usize, b: usize) -> Seen
     ensures { λ r. ⌜ r ≡ imageBegun depth count b ⌝ }
 {
-    if may_begin(depth, count, b) {
+    if newick_allowed::may_begin(depth, count, b) {
         return Seen::Image {
             x: b - 48,
             depth,
@@ -116,7 +69,7 @@ fn after_vertex(depth: usize, count: usize, b: usize, outer: &mut [usize]) -> Se
     if b != 40 {
         return begin_image(depth, count, b);
     }
-    if may_open(depth, count) {
+    if newick_allowed::may_open(depth, count) {
         outer[depth - 1] = count;
         return Seen::Vertex {
             depth: depth + 1,
@@ -124,19 +77,6 @@ fn after_vertex(depth: usize, count: usize, b: usize, outer: &mut [usize]) -> Se
         };
     }
     Seen::Dead
-}
-
-// Whether an image may have a second digit.
-fn may_grow(x: usize, depth: usize, count: usize) -> bool
-    ensures { λ r. ⌜ r ≡ grown x depth count ⌝ }
-{
-    if x < 1 {
-        return false;
-    }
-    if 10 <= x {
-        return false;
-    }
-    !is_first(depth, count)
 }
 
 // Behind the first or the second digit of an image.
@@ -150,7 +90,7 @@ fn after_image(x: usize, depth: usize, count: usize, b: usize) -> Seen
     if !newick_text::is_digit(b) {
         return Seen::Dead;
     }
-    if may_grow(x, depth, count) {
+    if newick_allowed::may_grow(x, depth, count) {
         return Seen::Image {
             x: 10 * x + (b - 48),
             depth,
@@ -229,7 +169,7 @@ fn after_cost(x: usize, depth: usize, count: usize, b: usize, outer: &[usize]) -
     requires { ⌜ (1 ≤ depth) × (depth ≤ 62) × (length (now outer) ≡ 64) ⌝ }
     ensures { λ r. ⌜ r ≡ costNext x depth count b (now (outer .entry)) ⌝ }
 {
-    let held = one_more(count);
+    let held = newick_allowed::one_more(count);
     if b == 44 {
         return Seen::Vertex { depth, count: held };
     }

@@ -9,7 +9,7 @@ use Rattle.theory.specs.Tables.{limit}
 use Rattle.tree.specs.Exact.{exactRows, treeCheck}
 use Rattle.listing_lines.specs.Lines.{newline, room}
 use Rattle.listing_text.specs.Listing.{storedText}
-use Rattle.listing_text.specs.TableText.{textIf}
+use Rattle.table_text.specs.TableText.{textIf}
 use Rattle.newick_text.specs.LinkTrees.{newick}
 
 -- the Newick text of the link table T, and a newline

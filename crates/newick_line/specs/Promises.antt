@@ -24,7 +24,7 @@ use Rattle.listing_text.specs.Ignored.{longestTable, stored-ignores}
 use Rattle.listing_text.specs.InOrder.{listing-order, listingSteps}
 use Rattle.listing_text.specs.Listing.{imagesSaid, storedChecks, tableSaid}
 use Rattle.listing_text.specs.Promises.{listing-table, listingChecks, stored-said, text-then}
-use Rattle.listing_text.specs.TableText.{textIf}
+use Rattle.table_text.specs.TableText.{textIf}
 use Rattle.newick_text.specs.Laws.Reading.{read-written}
 use Rattle.newick_text.specs.LinkTrees.{newick}
 use Rattle.newick_text.specs.Reading.{readChecks, treeIn}

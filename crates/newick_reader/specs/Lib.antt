@@ -1,5 +1,4 @@
--- What the contracts of `newick_reader` cite: costs that count as one bad cost, the answer, and what the notes of a text say.
-pub mod Capping
+-- What the contracts of `newick_reader` cite: the answer, and what the notes of a text make of it.
 pub mod Outcomes
 pub mod Notes
 pub mod InOrder

@@ -1,7 +1,5 @@
-pub mod Lower
 pub mod Adding
 pub mod Opening
-pub mod Storing
 pub mod Telling
 pub mod Stepping
 pub mod Byte

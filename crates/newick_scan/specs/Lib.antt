@@ -1,6 +1,4 @@
 -- What the contracts of `newick_scan` cite: what a byte makes of what was noted, and the answer.
-pub mod Stacks
-pub mod Turns
 pub mod Noting
 pub mod Able
 pub mod Says

@@ -6,9 +6,9 @@ use Prim.Native.Nat.{ℕ}
 use lib.Dec.{eqb}
 use Rattle.newick_bytes.specs.declared.Seen.{Seen}
 use Rattle.newick_bytes.specs.declared.Seen.the-variants.{Blank, Closed, Cost, Dead, Done, Ended, Image, Start, Vertex}
-use Rattle.newick_scan.specs.declared.Noted.{Noted}
-use Rattle.newick_scan.specs.Stacks.{Stacks}
-use Rattle.newick_scan.specs.Turns.{Begun, Completed, closed, namedBy}
+use Rattle.newick_notes.specs.declared.Noted.{Noted}
+use Rattle.newick_notes.specs.Stacks.{Stacks}
+use Rattle.newick_notes.specs.Turns.{Begun, Completed, closed, namedBy}
 
 -- all that was noted, with the two arrays of rows
 pub record Kept : Type 0 where

@@ -6,8 +6,8 @@ use lib.ListN.{getD}
 use Rattle.newick_text.specs.Trees.{Head, closed, named, none}
 use Rattle.newick_text.specs.States.{Open, State, costing, dead, depth, done, ended, head, outermost, start, vertex, within}
 use Rattle.newick_text.specs.Noting.{notedFar}
-use Rattle.newick_scan.specs.declared.Noted.{Noted}
-use Rattle.newick_scan.specs.Stacks.{Stacks}
+use Rattle.newick_notes.specs.declared.Noted.{Noted}
+use Rattle.newick_notes.specs.Stacks.{Stacks}
 use Rattle.newick_scan.specs.Noting.{Kept}
 use Rattle.newick_scan.specs.Notes.{called, fallenOpen, headed, inside, lastOpen, markedOpen, namesOpen, notedOpen, placeOpen}
 use Rattle.newick_scan.specs.Says.{Told, ToldTree}

@@ -3,8 +3,9 @@ use mathlib.Core.Path.{refl, _≡_}
 use Rattle.text.specs.Decimal.{decimal, digits}
 use Rattle.text.specs.Fields.{field, fields}
 use Rattle.text.specs.Words.{bytesOf}
-use Rattle.sayings.specs.Said.{saidOf, sayingText}
-use Rattle.sayings.specs.Saying.{sayingIn}
+use Rattle.phrases.specs.Said.{sayingText}
+use Rattle.sayings.specs.Said.{saidOf}
+use Rattle.phrases.specs.Saying.{sayingIn}
 use Rattle.sayings.specs.Sayings.{sayings, sayingsFrom12, sayingsFrom16, sayingsFrom4, sayingsFrom8}
 use Rattle.refusal_text.specs.Text.{aboutTable, refusalText}
 

@@ -1,7 +1,4 @@
--- How the code meets the answers.
-pub mod PathSums
-pub mod UpperRows
-pub mod Climbs
+-- When the calls are accepted.
 pub mod Accepted
 -- Which rows contain which, and which hold an image.
 pub mod Containing

@@ -1,8 +1,7 @@
--- What the contracts of `routes` cite: the checks in their order, what the calls leave, and the climb.
+-- What the contracts of `routes` cite: the checks in their order, and what the calls leave.
 pub mod Orders
 pub mod Outcomes
 pub mod Asked
-pub mod Climbs
 -- What the promises are worth.
 pub mod Promises
 -- Its checks by their numbers, in order.

@@ -25,9 +25,9 @@ use Rattle.routes.specs.Laws.Containing.{last-row, upper-none, upper-sma
 use Rattle.routes.specs.Laws.Holding.{route-ascends, route-ends, route-first, route-held, route-starts}
 use Rattle.routes.specs.Orders.{pathChecks, routeChecks, upperChecks}
 use Rattle.routes.specs.Outcomes.{pathOutcome, routeOutcome, upperOutcome}
-use Rattle.routes.specs.Laws.UpperRows.{upper-contains, upper-later, upper-most, uppers-length}
+use Rattle.climbing.specs.Laws.UpperRows.{upper-contains, upper-later, upper-most, uppers-length}
 use Rattle.routes.specs.Asked.{PathAsked, RouteAsked, UppersAsked}
-use Rattle.routes.specs.Climbs.{heldBy}
+use Rattle.climbing.specs.Climbs.{heldBy}
 
 -- ## Which calls are accepted: exactly those with a link table, room and images in range
 

@@ -1,16 +1,9 @@
 -- What is said of each refusal: words, and behind them its places. Each list goes on with the next, so that the code can part them too. A refusal
 -- more is one line more in sayingsFrom16. Assumes nothing.
-use mathlib.Core.Bool.{cond}
 use mathlib.Core.List.{List, [], _∷_}
 use Prim.Native.Nat.{ℕ}
-use lib.Dec.{eqb}
-use Rattle.sayings.specs.Saying.{Saying, says}
-
--- 17, which has no column where the number is a cost in a row of a link table
-abbrev pub aboveOld : ℕ → ℕ → Saying
-aboveOld a b =
-    says 17 (cond (eqb b 0) "number above the old limits: row" "number above the old limits: row and column")
-    (cond (eqb b 0) (a ∷ []) (a ∷ b ∷ []))
+use Rattle.phrases.specs.Saying.{Saying, says}
+use Rattle.phrases.specs.ByPlace.{aboveOld, badRow}
 
 unfoldable pub sayingsFrom16 : ℕ → ℕ → List Saying
 sayingsFrom16 a b =
@@ -19,10 +12,6 @@ sayingsFrom16 a b =
     ∷ says 18 "outside the Newick profile: byte" (a ∷ [])
     ∷ says 22 "siblings out of order: byte" (a ∷ [])
     ∷ []
-
--- 12, which the index call gives without a row
-abbrev pub badRow : ℕ → Saying
-badRow a = says 12 (cond (eqb a 0) "bad far side or bad row" "bad far side or bad row: row") (cond (eqb a 0) [] (a ∷ []))
 
 unfoldable pub sayingsFrom12 : ℕ → ℕ → List Saying
 sayingsFrom12 a b =

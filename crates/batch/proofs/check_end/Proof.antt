@@ -4,7 +4,7 @@ use lib.ListN.{drop}
 use Rattle.ground.specs.Laws.Buffers.{rest-part}
 use Rattle.ground.specs.Laws.Refusals.{if-goes, if-stops}
 use Rattle.batch.specs.declared.Batched.the-variants as batched
-use Rattle.batch.specs.Tables.{leftOverChecks}
+use Rattle.joined_tables.specs.Tables.{leftOverChecks}
 use borrow.Author.Needs.{needs}
 use Rattle.batch.proofs.check_end.Statement.{statement}
 use Rattle.batch.proofs.check_end.Tie as tie

@@ -4,10 +4,10 @@ use Prim.Native.Nat.{ℕ, _+_, _-_, _≤_}
 use native.Mathlib.Omega.{arith}
 use lib.ListN.{drop, length, length-drop}
 use Rattle.batch.specs.Batch.{batchFrom}
-use Rattle.batch.specs.Fitting.{NextFits}
-use Rattle.batch.specs.Laws.Next.{next-length, next-passed, next-room}
+use Rattle.joined_tables.specs.Fitting.{NextFits}
+use Rattle.joined_tables.specs.Laws.Next.{next-length, next-passed, next-room}
 use Rattle.batch.specs.Laws.Steps.{answer-end, answer-goes, answer-start, answer-stops, answerAt}
-use Rattle.batch.specs.Tables.{tables}
+use Rattle.joined_tables.specs.Tables.{tables}
 use borrow.Author.Needs.{needs}
 use Rattle.batch.proofs.check_tables.Statement.{statement}
 use Rattle.stored_links.specs.Form.{linkForm}

@@ -20,10 +20,11 @@ use Rattle.ground.specs.declared.Refusal.{Refusal}
 use Rattle.ground.specs.Laws.Refusals.{if-accepted}
 use Rattle.theory.specs.Tables.{limit}
 use Rattle.stored_links.specs.Form.{linkBytes, linkUsed}
-use Rattle.batch.specs.Batch.{batchAnswer, batchBytes, batchFrom, batchOutcome, frontBy, numbered}
-use Rattle.batch.specs.Fitting.{BatchFits}
-use Rattle.batch.specs.Laws.Next.{left-over-passed, length-next, next-passed, passed-next}
-use Rattle.batch.specs.Tables.{Table, leftOverChecks, nextChecks, tables}
+use Rattle.batch.specs.Batch.{batchAnswer, batchFrom, batchOutcome, frontBy, numbered}
+use Rattle.joined_tables.specs.Bytes.{batchBytes}
+use Rattle.joined_tables.specs.Fitting.{BatchFits}
+use Rattle.joined_tables.specs.Laws.Next.{left-over-passed, length-next, next-passed, passed-next}
+use Rattle.joined_tables.specs.Tables.{Table, leftOverChecks, nextChecks, tables}
 use Rattle.batch.specs.declared.Batched.{Batched}
 use Rattle.batch.specs.declared.Batched.the-variants.{Bytes}
 use Rattle.bits.specs.declared.Form.{Form}

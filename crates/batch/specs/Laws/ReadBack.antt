@@ -9,11 +9,12 @@ use Rattle.ground.specs.Outcomes.{Outcome}
 use Rattle.stored_links.specs.Form.{linkBytes, linkForm, linkUsed}
 use Rattle.stored_links.specs.Laws.Told.{either-written, form-limit}
 use Rattle.stored_links.specs.Outcomes.{readEither}
-use Rattle.batch.specs.Batch.{batchAnswer, batchBytes, batchOutcome}
-use Rattle.batch.specs.Fitting.{BatchFits}
+use Rattle.batch.specs.Batch.{batchAnswer, batchOutcome}
+use Rattle.joined_tables.specs.Bytes.{batchBytes}
+use Rattle.joined_tables.specs.Fitting.{BatchFits}
 use Rattle.batch.specs.Laws.Answers.{accepted-writes, batch-accepted}
-use Rattle.batch.specs.Laws.Next.{length-next}
-use Rattle.batch.specs.Tables.{Table, tables}
+use Rattle.joined_tables.specs.Laws.Next.{length-next}
+use Rattle.joined_tables.specs.Tables.{Table, tables}
 use Rattle.batch.specs.declared.Batched.{Batched}
 use Rattle.batch.specs.declared.Batched.the-variants.{Bytes}
 use Rattle.bits.specs.declared.Edition.{Edition}

@@ -20,14 +20,14 @@ use Rattle.ground.specs.Laws.Bits.{bit-ext, bit-none, bit-pow, bit-pow-other}
 use Rattle.ground.specs.Least.{leastOn}
 use Rattle.theory.specs.OneMore.{broughtFast}
 use Rattle.theory.specs.Tables.{WellFormed}
-use Rattle.chains.specs.Chains.{Family}
+use Rattle.upper_sides.specs.Chains.{Family}
 use Rattle.chains.specs.Values.{Brought, Least}
-use Rattle.chains.specs.Laws.Lowest.{drop-lowest, lowest-below, lowest-one}
+use Rattle.upper_sides.specs.Laws.Lowest.{drop-lowest, lowest-below, lowest-one}
 use Rattle.brought.specs.Answers.{AllBrought}
 use Rattle.brought.specs.Choosing.{Ins, Outs, Same, inLive, inSide, outLive, outSide}
 use Rattle.brought.specs.Chosen.{Rowed, Slot, SidesStored, oneImage, by-image, nowhere, stored, storedOf}
-use Rattle.brought.specs.Near.{Closest, NearImages}
-use Rattle.brought.specs.Laws.Dead.{b-below, in-dead, near-b, out-dead}
+use Rattle.near_images.specs.Near.{Closest, NearImages}
+use Rattle.near_images.specs.Laws.Dead.{b-below, in-dead, near-b, out-dead}
 use Rattle.brought.specs.Laws.BothWays.{both-fit}
 use Rattle.brought.specs.Laws.Choosing.{of-none}
 use Rattle.brought.specs.Laws.Sides.{family}

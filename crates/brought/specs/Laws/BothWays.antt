@@ -17,7 +17,7 @@ use Rattle.ground.specs.Laws.Bits.{bit-and}
 use Rattle.ground.specs.Laws.Tests.{or-cases}
 use Rattle.brought.specs.Chosen.{Rising, storedOf, isStored}
 use Rattle.brought.specs.Choosing.{inLive, inSide, outLive, outSide}
-use Rattle.brought.specs.Near.{goesIn, goesOut}
+use Rattle.near_images.specs.Near.{goesIn, goesOut}
 use Rattle.brought.specs.Laws.Choosing.{of-none, one-most}
 use Rattle.brought.specs.Laws.Stores.{Took, left, put, took}
 

@@ -16,13 +16,13 @@ use Rattle.ground.specs.Laws.Bits.{bit-and, bit-full, bit-lt}
 use Rattle.ground.specs.Laws.Tests.{or-cases}
 use Rattle.theory.specs.FarSides.{Nested, Within}
 use Rattle.theory.specs.Laws.Nested.{bit-holds, holds-false, holds-true}
-use Rattle.chains.specs.Chains.{Family}
+use Rattle.upper_sides.specs.Chains.{Family}
 use Rattle.brought.specs.Choosing.{inLive, inSide, outLive, outSide}
 use Rattle.brought.specs.Chosen.{Rowed, SidesStored}
-use Rattle.brought.specs.Near.{goesIn, goesOut}
+use Rattle.near_images.specs.Near.{goesIn, goesOut}
 use Rattle.brought.specs.Laws.Turned.{bit-rest, rest-lt}
-use Rattle.chains.specs.Laws.Lowest.{one-below}
-use Rattle.chains.specs.Laws.Parts.{bits-le}
+use Rattle.upper_sides.specs.Laws.Lowest.{one-below}
+use Rattle.upper_sides.specs.Laws.Parts.{bits-le}
 
 -- bit by bit
 and-bits : (S N : ℕ) → bitAnd S N ≡ S → (x : ℕ) → bit S x ≤ bit N x

@@ -13,7 +13,7 @@ use Rattle.ground.specs.Least.{On, leastOn}
 use Rattle.ground.specs.Laws.Least.{le-leastOn, leastOn-cap, leastOn-le}
 use Rattle.theory.specs.FarSides.{FarSide}
 use Rattle.theory.specs.OneMore.{broughtFast, broughtNear, broughtSide}
-use Rattle.chains.specs.Laws.Parts.{bit-minus}
+use Rattle.upper_sides.specs.Laws.Parts.{bit-minus}
 
 leastOn-alike : (n : ℕ) (s t : ℕ → ℕ) (g h cap : ℕ) (f e : ℕ → ℕ) → ((a : ℕ) → On n s g a → On n t h a) → ((a : ℕ) → On n t h a → On n s g a)
     → ((a : ℕ) → a < n → f a ≡ e a)

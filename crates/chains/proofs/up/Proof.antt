@@ -7,11 +7,11 @@ use Rattle.ground.specs.Bits.{bit}
 use Rattle.theory.specs.Tables.{cost, limit}
 use Rattle.theory.specs.Laws.FourPoint.{well-formed-less}
 use Rattle.chains.specs.Walks.{Up}
-use Rattle.chains.specs.Laws.Chain.{chained-less}
+use Rattle.upper_sides.specs.Laws.Chain.{chained-less}
 use Rattle.chains.specs.Laws.Climbs.{up-none, up-past}
-use Rattle.chains.specs.Laws.Ends.{near-own}
-use Rattle.chains.specs.Links.{Holder}
-use Rattle.chains.specs.Laws.Uppers.{first-holder, upper-holder}
+use Rattle.upper_sides.specs.Laws.Ends.{near-own}
+use Rattle.upper_sides.specs.Links.{Holder}
+use Rattle.upper_sides.specs.Laws.Uppers.{first-holder, upper-holder}
 use borrow.Author.Needs.{needs}
 use Rattle.chains.proofs.up.Statement.{statement}
 use Rattle.chains.proofs.up.Tie as tie

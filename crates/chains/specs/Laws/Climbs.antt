@@ -11,11 +11,11 @@ use borrow.Table.Steps.{cases}
 use Rattle.ground.specs.Bits.{bit}
 use Rattle.ground.specs.Least.{leastOn}
 use Rattle.ground.specs.Laws.Least.{leastOn-cap}
-use Rattle.chains.specs.Chains.{Chained, ahead, depthAt, gapOn, heldAt, nearOn}
+use Rattle.upper_sides.specs.Chains.{Chained, ahead, depthAt, gapOn, heldAt, nearOn}
 use Rattle.chains.specs.Walks.{Up}
-use Rattle.chains.specs.Laws.Chain.{depth-in, depth-none, depth-out, held-fits, held-in, held-none, held-out, held-within, near-more}
-use Rattle.chains.specs.Laws.Parts.{bits-le}
-use Rattle.chains.specs.Laws.Places.{depth-le, depth-lt}
+use Rattle.upper_sides.specs.Laws.Chain.{depth-in, depth-none, depth-out, held-fits, held-in, held-none, held-out, held-within, near-more}
+use Rattle.upper_sides.specs.Laws.Parts.{bits-le}
+use Rattle.upper_sides.specs.Laws.Places.{depth-le, depth-lt}
 
 -- three numbers kept of the side of depth i
 abbrev pub kept3 : List ℕ → ℕ → ℕ → ℕ → ℕ → List ℕ

@@ -14,11 +14,11 @@ use Rattle.ground.specs.Laws.Least.{leastOn-cap}
 use Rattle.ground.specs.Least.{lowerIf}
 use Rattle.theory.specs.OneMore.{broughtSide}
 use Rattle.theory.specs.Tables.{WellFormed}
-use Rattle.chains.specs.Chains.{Chained, Family, apartOn, depthAt, heldAt, nearOn}
+use Rattle.upper_sides.specs.Chains.{Chained, Family, apartOn, depthAt, heldAt, nearOn}
 use Rattle.chains.specs.Walks.{Climbed}
-use Rattle.chains.specs.Laws.Chain.{apart-more, depth-in, depth-none, held-in}
-use Rattle.chains.specs.Laws.Ends.{apart-all, side-sum}
-use Rattle.chains.specs.Laws.Places.{depth-last, depth-le, held-last, last-again, last-gap, last-holds, last-in, last-le, lastAt}
+use Rattle.upper_sides.specs.Laws.Chain.{apart-more, depth-in, depth-none, held-in}
+use Rattle.upper_sides.specs.Laws.Ends.{apart-all, side-sum}
+use Rattle.upper_sides.specs.Laws.Places.{depth-last, depth-le, held-last, last-again, last-gap, last-holds, last-in, last-le, lastAt}
 
 -- the least value of the side j, lowered by what image k brings with z where z is in it
 abbrev pub lowered : ℕ → (ℕ → ℕ → ℕ) → ℕ → ℕ → List ℕ → ℕ → ℕ → ℕ

@@ -16,11 +16,11 @@ use Rattle.ground.specs.Least.{leastOn}
 use Rattle.ground.specs.Laws.Least.{le-leastOn, leastOn-cap, leastOn-le}
 use Rattle.theory.specs.OneMore.{broughtFast, broughtSide}
 use Rattle.theory.specs.Tables.{WellFormed}
-use Rattle.chains.specs.Chains.{Chained}
+use Rattle.upper_sides.specs.Chains.{Chained}
 use Rattle.chains.specs.Values.{Brought, Least}
-use Rattle.chains.specs.Laws.Chain.{held-none}
+use Rattle.upper_sides.specs.Laws.Chain.{held-none}
 use Rattle.chains.specs.Laws.Descents.{Down, DownTo, down-end, lowered}
-use Rattle.chains.specs.Laws.Ends.{near-own, side-sum}
+use Rattle.upper_sides.specs.Laws.Ends.{near-own, side-sum}
 
 module _ (L : ℕ) (d : ℕ → ℕ → ℕ) (k z : ℕ) (w : WellFormed L d (suc k)) (hz : z < k) where
   side-cap : broughtSide L d k (bit (2 ^ z)) z ≤ 4 * L

@@ -11,7 +11,7 @@ use Rattle.stored_costs.specs.Laws.Told.{form-small, told-small}
 use Rattle.stored_costs.specs.Reading.{tableChecks}
 use Rattle.stored_costs.specs.Stored.{Readable}
 use Rattle.cost_writer.specs.Laws.Accepted.{together-passed, together-refused}
-use Rattle.cost_writer.specs.Writing.{fitCheck}
+use Rattle.cost_limits.specs.Checks.{fitCheck}
 use Rattle.conversion.specs.Costs.{entryChecks, imagesSaid, tableSaid}
 use borrow.Author.Needs.{needs}
 use Rattle.conversion.proofs.convert_costs.Statement.{statement}

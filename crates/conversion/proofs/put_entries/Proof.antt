@@ -15,7 +15,7 @@ use Rattle.stored_costs.specs.Form.{costEnd}
 use Rattle.stored_costs.specs.Said.{entryOf}
 use Rattle.stored_costs.specs.Laws.Sizes.{count-le, end-le}
 use Rattle.stored_costs.specs.Sizes.{lastEntryEnd}
-use Rattle.cost_writer.specs.Laws.Putting.{length-listed-bits, row-put-more, row-put-none}
+use Rattle.cost_fields.specs.Laws.Putting.{length-listed-bits, row-put-more, row-put-none}
 use borrow.Author.Needs.{needs}
 use Rattle.conversion.proofs.put_entries.Statement.{statement}
 use Rattle.conversion.proofs.put_entries.Tie as tie

@@ -8,7 +8,7 @@ use Rattle.packer.specs.Laws.Putting.{room-begun, room-then}
 use Rattle.stored_costs.specs.Entries.{entryCount}
 use Rattle.stored_costs.specs.Said.{entryOf, storedTable}
 use Rattle.stored_costs.specs.Laws.Tables.{table-entries}
-use Rattle.cost_writer.specs.Laws.Putting.{form-put, length-listed-bits}
+use Rattle.cost_fields.specs.Laws.Putting.{form-put, length-listed-bits}
 use borrow.Author.Needs.{needs}
 use Rattle.conversion.proofs.put_form.Statement.{statement}
 use Rattle.conversion.proofs.put_form.Tie as tie

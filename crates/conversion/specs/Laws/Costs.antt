@@ -16,7 +16,7 @@ use Rattle.stored_costs.specs.Form.{costBytes, costForm, costFormAt}
 use Rattle.stored_costs.specs.Laws.Enough.{TableStored, table-said}
 use Rattle.stored_costs.specs.Reading.{tableChecks}
 use Rattle.cost_writer.specs.Laws.Accepted.{passed-store, store-passed}
-use Rattle.cost_writer.specs.Laws.Fitting.{table-narrow}
+use Rattle.cost_limits.specs.Laws.Fitting.{table-narrow}
 use Rattle.cost_writer.specs.Writing.{storeChecks, storedIf}
 use Rattle.conversion.specs.Costs.{Begins, EntriesFit, costChecks, costsConverted, imagesSaid, tableSaid, usedIn}
 

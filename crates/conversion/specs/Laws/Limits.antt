@@ -24,8 +24,8 @@ use Rattle.stored_costs.specs.Said.{entryOf, fillOf, imagesOf, storedTable}
 use Rattle.stored_costs.specs.Laws.Enough.{readable-table, table-readable}
 use Rattle.stored_costs.specs.Laws.Tables.{table-cost, table-formed}
 use Rattle.stored_costs.specs.Reading.{bodyChecks, storedCheck, tableChecks}
-use Rattle.cost_writer.specs.Laws.Fitting.{passed-fit}
-use Rattle.cost_writer.specs.Writing.{fitCheck, largeCheck}
+use Rattle.cost_limits.specs.Laws.Fitting.{passed-fit}
+use Rattle.cost_limits.specs.Checks.{fitCheck, largeCheck}
 use Rattle.conversion.specs.Costs.{entryChecks}
 
 -- the same places with the number 17

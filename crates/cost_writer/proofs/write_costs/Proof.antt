@@ -8,7 +8,7 @@ use Rattle.tables.specs.Laws.Formed.{cost-table}
 use Rattle.stored_costs.specs.Form.{costForm}
 use Rattle.stored_costs.specs.Laws.Told.{form-limit, form-small}
 use Rattle.cost_writer.specs.Laws.Accepted.{together-passed, together-refused}
-use Rattle.cost_writer.specs.Writing.{fitCheck, tableChecks}
+use Rattle.cost_limits.specs.Checks.{fitCheck, tableChecks}
 use borrow.Author.Needs.{needs}
 use Rattle.cost_writer.proofs.write_costs.Statement.{statement}
 use Rattle.cost_writer.proofs.write_costs.Tie as tie

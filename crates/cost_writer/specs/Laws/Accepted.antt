@@ -16,8 +16,9 @@ use Rattle.ground.specs.declared.Written.the-variants as written
 use Rattle.theory.specs.Tables.{CostTable, cost, limit}
 use Rattle.tables.specs.Checks.{costsCheck, sizeCheck}
 use Rattle.tables.specs.Laws.Formed.{cost-table}
-use Rattle.cost_writer.specs.Laws.Fitting.{passed-fit, table-narrow, table-wide}
-use Rattle.cost_writer.specs.Writing.{fitCheck, storeChecks, storedIf, tableChecks, writeChecks}
+use Rattle.cost_limits.specs.Laws.Fitting.{passed-fit, table-narrow, table-wide}
+use Rattle.cost_limits.specs.Checks.{fitCheck, tableChecks}
+use Rattle.cost_writer.specs.Writing.{storeChecks, storedIf, writeChecks}
 use Rattle.stored_costs.specs.Form.{costUsed}
 use Rattle.bits.specs.declared.Form.{Form}
 
@@ -41,12 +42,6 @@ module _ (form : Form) (n : ℕ) (t : List ℕ) (room : ℕ) where
 
   pub passed-write : form .limit ≤ limit → CostTable (form .limit) n t → costUsed form n ≤ room → writeChecks form n t room ≡ Passed
   passed-write l c h = rw (cost-table limit n t .1 (table-wide (form .limit) limit n t l c)) (passed-store c h)
-
--- what passes under a lower limit passes under that of cost tables, and is within the lower one
-pub passed-both : (L n : ℕ) (t : List ℕ) → L ≤ limit → tableChecks L n t ≡ Passed → (tableChecks limit n t then fitCheck L (cost t n) n) ≡ Passed
-passed-both L n t h e =
-    let c = cost-table L n t .0 e in
-    rw (cost-table limit n t .1 (table-wide L limit n t h c)) (passed-fit L (cost t n) n (λ i j hi hj. c .formed .small {i = i} {j = j} hi hj))
 
 -- ## As the code asks: whatever a and b check together, and then the room
 

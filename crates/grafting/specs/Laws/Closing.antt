@@ -12,8 +12,8 @@ use Rattle.rows.specs.Laws.Places.{in-at}
 use Rattle.rows.specs.Laws.PutAll.{costly-append, costly-total, putAll-append, putAll-length, putAll-total}
 use Rattle.rows.specs.Putting.{CloseRow, PutRoom, rowsFrom}
 use Rattle.rows.specs.Rows.{costly, putAll}
-use Rattle.grafting.specs.Grafting.{closed}
-use Rattle.grafting.specs.Laws.Cutting.{closed-append, closed-length, costly-few, cut-total, left, left-append}
+use Rattle.path_cuts.specs.Cuts.{closed}
+use Rattle.path_cuts.specs.Laws.Cutting.{closed-append, closed-length, costly-few, cut-total, left, left-append}
 use Rattle.grafting.specs.Steps.{CloseRoom, CloseRows}
 
 -- the first i rows are, and of the height this is left

@@ -24,7 +24,8 @@ use Rattle.recognition.specs.Recognition.{Places, Recognised, placed}
 use Rattle.rows.specs.Laws.Put.{Costs}
 use Rattle.rows.specs.Laws.PutAll.{costly-sum, putAll-between, putAll-costs, putAll-keeps, putAll-sum}
 use Rattle.rows.specs.Rows.{costIf, costly}
-use Rattle.grafting.specs.Grafting.{closedTo, grafted, height, ownRows, pathTo, tableTo}
+use Rattle.path_cuts.specs.Cuts.{height}
+use Rattle.grafting.specs.Grafting.{closedTo, grafted, ownRows, pathTo, tableTo}
 use Rattle.grafting.specs.Laws.Heights.{height-is, height-self}
 use Rattle.grafting.specs.Laws.OwnRows.{own-between, own-costs, own-sum, own-there}
 use Rattle.grafting.specs.Laws.Sound.{Sound, grafted-sound, on-path, sound-uncrossed, when-closed}

@@ -21,23 +21,17 @@ use Rattle.recognition.specs.Recognition.{Places, placed}
 use Rattle.recognition.specs.Seats.{seat}
 use Rattle.rows.specs.Laws.PutAll.{costly-append, costly-total}
 use Rattle.rows.specs.Rows.{costly, putAll}
-use Rattle.grafting.specs.Grafting.{closed, grafted, height, kept, ownCost, pathTo}
+use Rattle.path_cuts.specs.Cuts.{closed, height, kept, ownCost}
+use Rattle.grafting.specs.Grafting.{grafted, pathTo}
 use Rattle.grafting.specs.Held.{OwnTable, PathHeld, TableGrafted, TableHeld}
-use Rattle.grafting.specs.Laws.Cutting.{closed-all, costly-closed, costly-few, costly-kept}
+use Rattle.path_cuts.specs.Laws.Cutting.{closed-all, costly-closed, costly-few, costly-kept}
 use Rattle.grafting.specs.Laws.Room.{few, path-length, path-more, path-none, path-sides, table-more, table-none, total}
 use Rattle.grafting.specs.Laws.Sides.{side-fits, side-out}
 use Rattle.grafting.specs.Sides.{side}
-use Rattle.grafting.specs.Steps.{AddRow, CloseRoom, CloseRows, KeepRoom, KeepRows}
+use Rattle.path_cuts.specs.Steps.{AddRow, KeepRoom, KeepRows}
+use Rattle.grafting.specs.Steps.{CloseRoom, CloseRows}
 
 -- ## By the places of the order
-
-module _ (d : ℕ → ℕ → ℕ) (l : List ℕ) (p x z : ℕ) (b : x ≡ seat l p) (c : z ≡ seat l (p + 1)) (f : seat l 0 ≡ 0) where
-  pub seats-height : d 0 x + d 0 z - d x z ≡ height (placed d (seat l)) p (suc p)
-  unfolding height
-  seats-height = rw (b, c, add-one p, f)
-
-  pub seats-own : d 0 z + d x z - d 0 x ≡ ownCost (placed d (seat l)) p
-  seats-own = rw (b, c, add-one p, f)
 
 pub seats-bit : (l : List ℕ) (p z : ℕ) → z ≡ seat l (p + 1) → 2 ^ z ≡ 2 ^ seat l (suc p)
 seats-bit l p z c = rw (c, add-one p)

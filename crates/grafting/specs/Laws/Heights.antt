@@ -8,7 +8,7 @@ use borrow.Table.Steps.{cases}
 use Rattle.theory.specs.FourPoint.{FourPoint}
 use Rattle.theory.specs.Laws.FourPoint.{four-low}
 use Rattle.theory.specs.Tables.{WellFormed}
-use Rattle.grafting.specs.Grafting.{height, ownCost}
+use Rattle.path_cuts.specs.Cuts.{height, ownCost}
 use Rattle.recognition.specs.Recognition.{Recognised}
 use Rattle.recognition.specs.Laws.Recognition.{recognised-condition}
 

@@ -12,7 +12,8 @@ use Rattle.ground.specs.Ranges.{from}
 use Rattle.ground.specs.Sums.{sum, when}
 use Rattle.theory.specs.LinkTables.{Row}
 use Rattle.theory.specs.Tables.{WellFormed}
-use Rattle.grafting.specs.Grafting.{closed, height, kept, ownCost, pathTo}
+use Rattle.path_cuts.specs.Cuts.{closed, height, kept, ownCost}
+use Rattle.grafting.specs.Grafting.{pathTo}
 use Rattle.grafting.specs.Sides.{closedRow, pathRow, side}
 use Rattle.recognition.specs.Recognition.{Recognised}
 use Rattle.grafting.specs.Laws.Heights.{height-first, height-next, height-own, height-step}

@@ -13,8 +13,9 @@ use Rattle.theory.specs.LinkTables.{Row, allCosts, far}
 use Rattle.theory.specs.Tables.{WellFormed, limit}
 use Rattle.rows.specs.Laws.PutAll.{costly-append, costly-total, putAll-append, putAll-length, putAll-total}
 use Rattle.rows.specs.Rows.{costly, putAll}
-use Rattle.grafting.specs.Grafting.{closed, closedTo, height, kept, ownCost, ownRows, pathTo, tableTo}
-use Rattle.grafting.specs.Laws.Cutting.{costly-few, cut-few, cut-total}
+use Rattle.path_cuts.specs.Cuts.{closed, height, kept, ownCost}
+use Rattle.grafting.specs.Grafting.{closedTo, ownRows, pathTo, tableTo}
+use Rattle.path_cuts.specs.Laws.Cutting.{costly-few, cut-few, cut-total}
 use Rattle.grafting.specs.Laws.OwnRows.{own-free, own-length}
 use Rattle.grafting.specs.Laws.Sides.{side-more, side-own}
 use Rattle.grafting.specs.Sides.{side}

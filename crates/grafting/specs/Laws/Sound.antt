@@ -23,7 +23,8 @@ use Rattle.theory.specs.Tables.{WellFormed}
 use Rattle.recognition.specs.Recognition.{Places, Recognised, placed}
 use Rattle.rows.specs.Laws.PutAll.{putAll-sides}
 use Rattle.rows.specs.Rows.{costly}
-use Rattle.grafting.specs.Grafting.{closed, closedTo, grafted, height, ownRows, pathTo, tableTo}
+use Rattle.path_cuts.specs.Cuts.{closed, height}
+use Rattle.grafting.specs.Grafting.{closedTo, grafted, ownRows, pathTo, tableTo}
 use Rattle.grafting.specs.Laws.OwnRows.{own-row}
 use Rattle.grafting.specs.Laws.Path.{closed-rows, path-is}
 use Rattle.grafting.specs.Laws.Sides.{side-far}

@@ -14,7 +14,8 @@ use Rattle.ground.specs.Tests.{one-of}
 use Rattle.theory.specs.FarSides.{holds}
 use Rattle.theory.specs.LinkTables.{Row, path}
 use Rattle.theory.specs.Tables.{WellFormed}
-use Rattle.grafting.specs.Grafting.{closed, closedTo, height, pathTo}
+use Rattle.path_cuts.specs.Cuts.{closed, height}
+use Rattle.grafting.specs.Grafting.{closedTo, pathTo}
 use Rattle.grafting.specs.Sides.{above, side}
 use Rattle.recognition.specs.Recognition.{Places, Recognised}
 use Rattle.grafting.specs.Laws.Heights.{height-first, height-next, height-step}

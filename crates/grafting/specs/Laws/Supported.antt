@@ -10,7 +10,7 @@ use Rattle.ground.specs.Bits.{bit}
 use Rattle.ground.specs.Least.{On}
 use Rattle.theory.specs.Index.{AtLeast}
 use Rattle.theory.specs.Tables.{WellFormed}
-use Rattle.grafting.specs.Grafting.{height}
+use Rattle.path_cuts.specs.Cuts.{height}
 use Rattle.grafting.specs.Sides.{side}
 use Rattle.recognition.specs.Recognition.{Places, Recognised, placed}
 use Rattle.grafting.specs.Laws.Heights.{height-down, height-is, height-next, height-same, height-three, height-up}

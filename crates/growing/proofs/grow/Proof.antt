@@ -10,7 +10,7 @@ use Rattle.theory.specs.Readings.{measured}
 use Rattle.theory.specs.Tables.{WellFormed, cost, limit}
 use Rattle.brought.specs.Chosen.{Rowed}
 use Rattle.growing.specs.Growing.{stayed}
-use Rattle.growing.specs.Putting.{loweredIn}
+use Rattle.lowered_rows.specs.Putting.{loweredIn}
 use Rattle.growing.specs.Laws.Growing.{lowered-stayed}
 use Rattle.growing.specs.Laws.Grown.{held-more, room-inside, room-outside, room-own}
 use Rattle.growing.specs.Laws.Rowed.{held-few, held-given, held-rowed}

@@ -17,11 +17,13 @@ use Rattle.theory.specs.Laws.RowsGrow.{rows-most}
 use Rattle.theory.specs.LinkTables.{Row}
 use Rattle.theory.specs.Readings.{measured}
 use Rattle.theory.specs.Tables.{WellFormed}
-use Rattle.growing.specs.Growing.{Turned, stayed}
-use Rattle.growing.specs.Laws.Growing.{step-stayed, turned}
-use Rattle.growing.specs.LocalRows.{rowsIn}
-use Rattle.growing.specs.Laws.LocalRows.{rowsIn-length, rowsIn-none}
-use Rattle.growing.specs.Putting.{PutAll, PutRoom}
+use Rattle.lowered_rows.specs.Turning.{Turned}
+use Rattle.growing.specs.Growing.{stayed}
+use Rattle.lowered_rows.specs.Laws.Turning.{turned}
+use Rattle.growing.specs.Laws.Growing.{step-stayed}
+use Rattle.lowered_rows.specs.LocalRows.{rowsIn}
+use Rattle.lowered_rows.specs.Laws.LocalRows.{rowsIn-length, rowsIn-none}
+use Rattle.lowered_rows.specs.Putting.{PutAll, PutRoom}
 use Rattle.growing.specs.Held.{RowsHeld}
 
 module _ (L : ℕ) (d : ℕ → ℕ → ℕ) where

@@ -11,7 +11,7 @@ use borrow.Author.Tests.{eqb-false, eqb-true}
 use borrow.Table.Steps.{cases}
 use Rattle.ground.specs.Buffers.{over}
 use Rattle.ground.specs.Laws.Buffers.{over-at}
-use Rattle.growing.specs.LocalRows.{rowsIn}
+use Rattle.lowered_rows.specs.LocalRows.{rowsIn}
 use Rattle.growing.specs.Held.{RowsHeld}
 
 pub rowsIn-mem : (f v : List ℕ) (i n : ℕ) → i < n → List·Memᴰ (getD f i 0, getD v i 0) (rowsIn f v n)

@@ -19,8 +19,8 @@ use Rattle.brought.specs.Answers.{Valued}
 use Rattle.brought.specs.Chosen.{Rowed}
 use Rattle.growing.specs.Held.{RowsHeld}
 use Rattle.growing.specs.Laws.Held.{rowsIn-mem, with-image}
-use Rattle.growing.specs.Laws.LocalRows.{rowsIn-fars, rowsIn-length}
-use Rattle.growing.specs.Putting.{Given}
+use Rattle.lowered_rows.specs.Laws.LocalRows.{rowsIn-fars, rowsIn-length}
+use Rattle.lowered_rows.specs.Putting.{Given}
 
 -- what ascends, place by place
 between-first : (m k : ℕ) (l : List ℕ) (j : ℕ) → Between m l k → j < length l → m ≤ getD l j 0

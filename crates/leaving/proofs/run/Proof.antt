@@ -9,7 +9,7 @@ use Rattle.ground.specs.declared.Check.the-variants.{Passed}
 use Rattle.tree.specs.LocalRows.{rowsIn}
 use Rattle.leaving.specs.Laws.Events.{Running, next-rows, running-end, running-more, running-none, running-stops}
 use Rattle.leaving.specs.Laws.Sound.{sound-mendable}
-use Rattle.leaving.specs.Replay.{eventCheck}
+use Rattle.events.specs.Checks.{eventCheck}
 use Rattle.leaving.proofs.run.Statement.{statement}
 use Rattle.leaving.proofs.run.Tie as tie
 

@@ -13,9 +13,11 @@ use Rattle.theory.specs.Tables.{limit}
 use Rattle.tree.specs.LocalRows.{rowsIn}
 use Rattle.mending.specs.Leaving.{mend}
 use Rattle.mending.specs.Mending.{Kept}
-use Rattle.leaving.specs.Laws.Replay.{event-passed, replay-goes, replay-none, replay-stops}
+use Rattle.events.specs.Laws.{event-passed}
+use Rattle.leaving.specs.Laws.Replay.{replay-goes, replay-none, replay-stops}
 use Rattle.leaving.specs.Laws.Sound.{sound-kept}
-use Rattle.leaving.specs.Replay.{eventCheck, replay}
+use Rattle.events.specs.Checks.{eventCheck}
+use Rattle.leaving.specs.Replay.{replay}
 use Rattle.leaving.specs.Standing.{SoundRows, Stands}
 
 -- i events taken

@@ -4,27 +4,18 @@ use mathlib.Core.Path.{ap, refl, sym, _∙_, _≡_}
 use Prim.Native.Nat.{suc, zero, ℕ, _+_, _-_, _<_, _≤_}
 use native.Mathlib.Omega.{arith}
 use lib.ListN.{length}
-use Rattle.ground.specs.Refusals.{outside, refusal}
-use Rattle.ground.specs.Laws.Refusals.{outside-false, refuseIf-passed, then-passed}
 use Rattle.ground.specs.declared.Check.{Check}
 use Rattle.ground.specs.declared.Check.the-variants.{Passed, Refused}
 use Rattle.ground.specs.declared.Refusal.{Refusal}
-use Rattle.theory.specs.Checks.{imageCheck, imagesCheck}
-use Rattle.theory.specs.Laws.Checks.{images-passed}
 use Rattle.mending.specs.Laws.Mended.{leave-formed, mended-exact}
 use Rattle.mending.specs.Leaving.{leave, mend}
 use Rattle.theory.specs.LinkTables.{Row}
 use Rattle.theory.specs.Readings.{Exact}
-use Rattle.leaving.specs.Replay.{Standing, after, eventCheck, replay}
+use Rattle.events.specs.Checks.{eventCheck}
+use Rattle.events.specs.Laws.{event-passed}
+use Rattle.leaving.specs.Replay.{Standing, after, replay}
 use Rattle.leaving.specs.Taken.{Ended, Taken, all, at}
 use Rattle.theory.specs.Tables.{WellFormed}
-
--- an event that passes: an image of 1..n, and three or more are left
-pub event-passed : (n e : ℕ) → eventCheck n e ≡ Passed → (1 ≤ e) × (e ≤ n) × (3 ≤ n - 1)
-event-passed n e p =
-    let q = then-passed (imageCheck n e) (imagesCheck (n - 1)) p in
-    let a = outside-false 1 n e (refuseIf-passed (outside 1 n e) (refusal 8 0 0 0 0) (q .0)) in
-    (a .0, a .1, images-passed (n - 1) (q .1) .0)
 
 -- ## One event
 

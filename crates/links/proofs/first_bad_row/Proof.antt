@@ -1,4 +1,5 @@
 -- `links::first_bad_row` meets its contract: no row below k is bad. Assumes nothing.
+use mathlib.Core.Path.{sym, _∙_}
 use Prim.Native.Nat.{_-_, _≤_}
 use lib.ListN.{length}
 use borrow.Author.Count.{below-more, below-none}
@@ -22,7 +23,7 @@ is-bad-row-requires : tie.Need-is-bad-row-requires Inv-loop μ-loop
 is-bad-row-requires c κs = search needs
 
 returns : tie.Need-returns Inv-loop μ-loop
-returns c = first-here _ _ _ (search needs) (c .before .before .before .loop .inv .1) (cc)
+returns c = first-here _ _ _ (search needs) (c .before .before .before .loop .inv .1) (sym (c .before .is-bad-row .ensures) ∙ c .if1 .taken)
 
 add-k : tie.Need-add-k Inv-loop μ-loop
 add-k c = search needs
@@ -31,7 +32,7 @@ loop-less : tie.Need-loop-less Inv-loop μ-loop
 loop-less c = search needs
 
 loop-again : tie.Need-loop-again Inv-loop μ-loop
-loop-again c = (search needs, below-more _ _ (c .before .before .before .loop .inv .1) (cc))
+loop-again c = (search needs, below-more _ _ (c .before .before .before .loop .inv .1) (sym (c .before .is-bad-row .ensures) ∙ c .if1 .left))
 
 returns-2 : tie.Need-returns-2 Inv-loop μ-loop
 returns-2 c = first-none _ _ _ (search needs) (search needs) (c .before .loop .inv .1)

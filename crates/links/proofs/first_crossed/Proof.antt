@@ -1,4 +1,5 @@
 -- `links::first_crossed` meets its contract: no row below j crosses row k. Assumes nothing.
+use mathlib.Core.Path.{sym, _∙_}
 use Prim.Native.Nat.{_-_, _≤_}
 use lib.ListN.{getD}
 use borrow.Author.Count.{below-more, below-none}
@@ -34,7 +35,7 @@ is-crossing-requires : tie.Need-is-crossing-requires Inv-loop μ-loop
 is-crossing-requires c κs = search needs
 
 returns : tie.Need-returns Inv-loop μ-loop
-returns c = first-here _ _ _ (search needs) (c .before .before .before .before .before .loop .inv .1) (cc)
+returns c = first-here _ _ _ (search needs) (c .before .before .before .before .before .loop .inv .1) (sym (c .before .is-crossing .ensures) ∙ c .if1 .taken)
 
 add-j : tie.Need-add-j Inv-loop μ-loop
 add-j c = search needs
@@ -43,7 +44,7 @@ loop-less : tie.Need-loop-less Inv-loop μ-loop
 loop-less c = search needs
 
 loop-again : tie.Need-loop-again Inv-loop μ-loop
-loop-again c = (search needs, below-more _ _ (c .before .before .before .before .before .loop .inv .1) (cc))
+loop-again c = (search needs, below-more _ _ (c .before .before .before .before .before .loop .inv .1) (sym (c .before .is-crossing .ensures) ∙ c .if1 .left))
 
 returns-2 : tie.Need-returns-2 Inv-loop μ-loop
 returns-2 c = first-none _ _ _ (search needs) (search needs) (c .before .loop .inv .1)

@@ -1,4 +1,5 @@
 -- `links::first_missing` meets its contract: no image below i lacks its own link. Assumes nothing.
+use mathlib.Core.Path.{sym, _∙_}
 use Prim.Native.Nat.{_-_, _≤_}
 use borrow.Author.Count.{below-more, below-none}
 use borrow.Author.Needs.{needs}
@@ -21,7 +22,7 @@ is-missing-requires : tie.Need-is-missing-requires Inv-loop μ-loop
 is-missing-requires c κs = search needs
 
 returns : tie.Need-returns Inv-loop μ-loop
-returns c = first-here _ _ _ (search needs) (c .before .before .before .loop .inv .1) (cc)
+returns c = first-here _ _ _ (search needs) (c .before .before .before .loop .inv .1) (sym (c .before .is-missing .ensures) ∙ c .if1 .taken)
 
 add-i : tie.Need-add-i Inv-loop μ-loop
 add-i c = search needs
@@ -30,7 +31,7 @@ loop-less : tie.Need-loop-less Inv-loop μ-loop
 loop-less c = search needs
 
 loop-again : tie.Need-loop-again Inv-loop μ-loop
-loop-again c = (search needs, below-more _ _ (c .before .before .before .loop .inv .1) (cc))
+loop-again c = (search needs, below-more _ _ (c .before .before .before .loop .inv .1) (sym (c .before .is-missing .ensures) ∙ c .if1 .left))
 
 returns-2 : tie.Need-returns-2 Inv-loop μ-loop
 returns-2 c = first-none _ _ _ (search needs) (search needs) (c .before .loop .inv .1)

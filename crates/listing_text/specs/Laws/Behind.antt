@@ -14,7 +14,7 @@ use Rattle.stored_costs.specs.Laws.Behind.{Reaching, checks-behind, images-behi
 use Rattle.stored_costs.specs.Laws.Enough.{enough-room, table-readable}
 use Rattle.stored_costs.specs.Reading.{tableChecks}
 use Rattle.listing_text.specs.Listing.{storedText}
-use Rattle.listing_text.specs.TableText.{textIf}
+use Rattle.table_text.specs.TableText.{textIf}
 
 -- by the check, what is said of the table that the bytes s say in the form
 abbrev pub textBy : (ℕ → List ℕ → List ℕ) → Form → Check → List ℕ → List ℕ

@@ -4,7 +4,8 @@ use Prim.Native.Nat.{ℕ}
 use native.Mathlib.Omega.{arith}
 use Rattle.theory.specs.Tables.{CostTable, cost, limit}
 use Rattle.far_end.specs.Laws.FarEnd.{far-end-is}
-use Rattle.listing_text.specs.LastImage.{Other, lastImage}
+use Rattle.table_text.specs.LastImage.{Other}
+use Rattle.listing_text.specs.LastImage.{lastImage}
 use Rattle.listing_text.specs.declared.Last.{Last}
 use Rattle.listing_text.specs.declared.Last.the-variants.{FarEnd, ImageN}
 

@@ -14,7 +14,7 @@ use Rattle.newick_text.specs.Trees as trees
 use Rattle.newick_text.specs.States.{Open, State, addTo, atOne, blank, costing, dead, depth, done, ended, head, outermost, start, value, vertex, within}
 use Rattle.newick_text.specs.Bytes.{begins, close, digitOf, grows, isDigit, onlyIf, opens, second, step}
 use Rattle.ground.specs.Laws.Tests.{and-r}
-use Rattle.newick_bytes.specs.Tests.{opened}
+use Rattle.newick_allowed.specs.Tests.{opened}
 use Rattle.newick_bytes.specs.Outer.{nextOuter, vertexOuter}
 use Rattle.newick_bytes.specs.Kept.{Stacked, narrow, outers, stack, top}
 use Rattle.newick_bytes.specs.Laws.Shows.{first-is, outers-add, outers-length}

@@ -9,7 +9,7 @@ use borrow.Author.Tests.{leb-true}
 use Rattle.ground.specs.Laws.Tests.{and-l, and-r}
 use Rattle.newick_text.specs.Bytes.{isDigit}
 use Rattle.newick_bytes.specs.Seen.{Bounded}
-use Rattle.newick_bytes.specs.Tests.{begun, firstPlace}
+use Rattle.newick_allowed.specs.Tests.{begun, firstPlace}
 use Rattle.newick_bytes.specs.Next.{nextSeen}
 use Rattle.newick_bytes.specs.Outer.{nextOuter}
 use Rattle.newick_bytes.specs.declared.Seen.{Seen}

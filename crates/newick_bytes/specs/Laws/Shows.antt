@@ -13,7 +13,8 @@ use Rattle.newick_text.specs.Trees as trees
 use Rattle.newick_text.specs.States.{Open, State, addTo, atOne, blank, costing, dead, depth, done, ended, head, outermost, start, value, vertex, within}
 use Rattle.newick_text.specs.Bytes.{begins, close, digitOf, grows, isDigit, onlyIf, opens, second, step}
 use Rattle.newick_text.specs.Laws.Adding.{size-add}
-use Rattle.newick_bytes.specs.Tests.{firstPlace, more, pick}
+use Rattle.newick_allowed.specs.Tests.{firstPlace, more}
+use Rattle.newick_bytes.specs.Tests.{pick}
 use Rattle.newick_bytes.specs.Next.{closed, costNext, nextSeen, vertexNext}
 use Rattle.newick_bytes.specs.Kept.{Stacked, capped, narrow, outers, stack, top}
 use Rattle.newick_bytes.specs.declared.Seen.{Seen}

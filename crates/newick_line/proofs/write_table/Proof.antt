@@ -5,7 +5,7 @@ use Prim.Native.Nat.{ℕ}
 use native.Mathlib.Omega.{arith}
 use lib.ListN.{length-replicate, replicate}
 use borrow.Author.Needs.{needs}
-use Rattle.listing_text.specs.Laws.Accepted.{RowsRead, table-read, table-refused}
+use Rattle.table_text.specs.Laws.Accepted.{RowsRead, table-read, table-refused}
 use Rattle.listing_lines.specs.Laws.Lengths.{refused-fits}
 use Rattle.listing_lines.specs.Lines.{refusedLine}
 use Rattle.newick_line.specs.Laws.Read.{line-read, line-refused}

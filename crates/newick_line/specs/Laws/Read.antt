@@ -10,7 +10,7 @@ use Rattle.theory.specs.LinkTables.{rowsOf}
 use Rattle.theory.specs.Tables.{limit}
 use Rattle.tree.specs.Exact.{exactRows, treeCheck}
 use Rattle.listing_lines.specs.Lines.{refusedLine}
-use Rattle.listing_text.specs.Laws.Accepted.{RowsRead}
+use Rattle.table_text.specs.Laws.Accepted.{RowsRead}
 use Rattle.newick_line.specs.Line.{lineOf, tableLine}
 
 pub line-refused : (n : ℕ) (t : List ℕ) (q : Refusal) → treeCheck limit n t ≡ Refused q → tableLine n t ≡ refusedLine q

@@ -5,7 +5,7 @@ use mathlib.Core.List.{List}
 use Rattle.theory.specs.LinkTables.{Row}
 use native.Mathlib.Omega.{arith}
 use lib.ListN.{length}
-use Rattle.newick_reader.specs.Notes.{nameChecks, notedTable, rowChecks}
+use Rattle.newick_table.specs.Notes.{nameChecks, notedTable, rowChecks}
 use Rattle.newick_reader.specs.Laws.Outcomes.{first-goes, first-stops, marked-some, names-passed}
 use borrow.Author.Needs.{needs}
 use Rattle.newick_reader.proofs.finish.Statement.{statement}

@@ -3,8 +3,8 @@ use mathlib.Core.Path.{ap, _∙_, _≡_}
 use Prim.Native.Nat.{_≤_}
 use native.Mathlib.Omega.{arith}
 use Rattle.tree.specs.Laws.Writing.{rows-over}
-use Rattle.newick_reader.specs.Notes.{notedTable, rowChecks}
-use Rattle.newick_reader.specs.Laws.Collecting.{collect-few}
+use Rattle.newick_table.specs.Notes.{notedTable, rowChecks}
+use Rattle.newick_table.specs.Laws.Collecting.{collect-few}
 use Rattle.newick_reader.specs.Laws.Outcomes.{rows-go, rows-stop}
 use borrow.Author.Needs.{needs}
 use Rattle.newick_reader.proofs.store.Statement.{statement}

@@ -18,7 +18,7 @@ use Rattle.theory.specs.LinkTables.{Row}
 use Rattle.theory.specs.Outcomes.{LeftRows}
 use Rattle.tree.specs.Writing.{RowsWritten}
 use Rattle.links.specs.Laws.FirstChecks.{first-passed}
-use Rattle.newick_reader.specs.Notes.{nameChecks, unnamed}
+use Rattle.newick_table.specs.Notes.{nameChecks, unnamed}
 use Rattle.newick_reader.specs.Outcomes.{rowsIf}
 use Rattle.newick_reader.specs.declared.NewickTree.{NewickTree}
 use Rattle.newick_reader.specs.declared.NewickTree.the-variants.{Table}

@@ -13,7 +13,7 @@ use Rattle.newick_text.specs.States.{start}
 use Rattle.newick_text.specs.Ends.{isDone, lived}
 use Rattle.newick_text.specs.Laws.Place.{first-impossible}
 use Rattle.newick_scan.specs.Says.{Says}
-use Rattle.newick_scan.specs.declared.Noted.{Noted}
+use Rattle.newick_notes.specs.declared.Noted.{Noted}
 use Rattle.newick_scan.specs.declared.Scanned.{Scanned}
 use Rattle.newick_scan.specs.declared.Scanned.the-variants.{Stopped, Whole}
 use Rattle.newick_reader.specs.Notes.{noteOutcome}

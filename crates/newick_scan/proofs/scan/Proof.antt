@@ -5,7 +5,7 @@ use Prim.Native.Nat.{_-_}
 use native.Mathlib.Omega.{arith}
 use lib.ListN.{length}
 use Rattle.newick_bytes.specs.Laws.Reached.{reached-bounded}
-use Rattle.newick_scan.specs.Stacks.{stacks}
+use Rattle.newick_notes.specs.Stacks.{stacks}
 use Rattle.newick_scan.specs.Noting.{kept}
 use Rattle.newick_scan.specs.Laws.Scans.{Scans, scans-able, scans-more, scans-none, scans-short, scans-stop, scans-whole}
 use Rattle.newick_scan.proofs.scan.Statement.{statement}

@@ -15,9 +15,10 @@ use Rattle.newick_bytes.specs.Kept.{narrow}
 use Rattle.newick_bytes.specs.Laws.Small.{fine-bounded}
 use Rattle.newick_bytes.specs.declared.Seen.{Seen}
 use Rattle.newick_bytes.specs.declared.Seen.the-variants.{Blank, Closed, Cost, Dead, Done, Ended, Image, Start, Vertex}
-use Rattle.newick_scan.specs.Stacks.{Sized, pushed}
+use Rattle.newick_notes.specs.Stacks.{Sized, pushed}
 use Rattle.newick_scan.specs.Noting.{EndsBy, Kept, Noting}
-use Rattle.newick_scan.specs.Able.{AbleIn, Room}
+use Rattle.newick_notes.specs.Able.{Room}
+use Rattle.newick_scan.specs.Able.{AbleIn}
 use Rattle.newick_scan.specs.Notes.{markedOpen}
 use Rattle.newick_scan.specs.Reading.{Held, Notes}
 use Rattle.newick_scan.specs.Laws.Adding.{headed-most, marked-most}

@@ -15,7 +15,7 @@ use Rattle.newick_text.specs.Trees.{Head, Siblings, add, behind, bracket, close
 use Rattle.newick_text.specs.Tables.{names}
 use Rattle.newick_text.specs.Noting.{fallen, imageBit, lastFar, lowerPlace, mark, marked, noted, notedFar}
 use Rattle.newick_scan.specs.Notes.{called, headed, inside}
-use Rattle.newick_scan.specs.Laws.Lower.{lower-assoc, lower-none}
+use Rattle.newick_notes.specs.Laws.Lower.{lower-assoc, lower-none}
 
 -- ## The images named
 

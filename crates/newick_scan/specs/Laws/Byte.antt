@@ -16,7 +16,7 @@ use Rattle.newick_text.specs.Spelled.{spelled}
 use Rattle.newick_text.specs.Laws.Live.{Live, dead-not, only}
 use Rattle.newick_bytes.specs.Kept.{narrow}
 use Rattle.newick_bytes.specs.Laws.Shows.{depth-add}
-use Rattle.newick_scan.specs.Stacks.{Sized}
+use Rattle.newick_notes.specs.Stacks.{Sized}
 use Rattle.newick_scan.specs.Noting.{Closes, Completes, Kept, Noting, kept}
 use Rattle.newick_scan.specs.Notes.{placeOpen}
 use Rattle.newick_scan.specs.Reading.{Notes}

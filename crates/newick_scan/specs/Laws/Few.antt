@@ -7,9 +7,9 @@ use lib.Dec.{eqb, ltb}
 use borrow.Table.Steps.{cases}
 use Rattle.newick_bytes.specs.declared.Seen.{Seen}
 use Rattle.newick_bytes.specs.declared.Seen.the-variants.{Blank, Closed, Cost, Dead, Done, Ended, Image, Start, Vertex}
-use Rattle.newick_scan.specs.declared.Noted.{Noted}
-use Rattle.newick_scan.specs.Stacks.{Stacks}
-use Rattle.newick_scan.specs.Turns.{begun, closed, namedBy}
+use Rattle.newick_notes.specs.declared.Noted.{Noted}
+use Rattle.newick_notes.specs.Stacks.{Stacks}
+use Rattle.newick_notes.specs.Turns.{begun, closed, namedBy}
 use Rattle.newick_scan.specs.Noting.{EndsBy, Kept, Noting}
 
 names-of : (r w : Noted) → r ≡ w → r .names ≡ w .names

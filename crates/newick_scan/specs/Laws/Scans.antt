@@ -22,8 +22,8 @@ use Rattle.newick_bytes.specs.declared.Seen.{Seen}
 use Rattle.newick_bytes.specs.declared.Seen.the-variants.{Start}
 use Rattle.newick_bytes.specs.Laws.Reached.{Reached, dead-here, reached-more, reached-none, run-more, stopped-end, stopped-here, whole-end}
 use Rattle.newick_scan.specs.declared.Scanned.the-variants.{Stopped, Whole}
-use Rattle.newick_scan.specs.Stacks.{Sized, Stacks}
-use Rattle.newick_scan.specs.Turns as turns
+use Rattle.newick_notes.specs.Stacks.{Sized, Stacks}
+use Rattle.newick_notes.specs.Turns as turns
 use Rattle.newick_scan.specs.Noting.{Kept, Noting, kept}
 use Rattle.newick_scan.specs.Able.{Able}
 use Rattle.newick_scan.specs.Says.{Says, ToldTree}

@@ -18,15 +18,15 @@ use Rattle.newick_text.specs.Noting.{fallen, lastFar, lowerPlace, mark, marked,
 use Rattle.newick_text.specs.Laws.Live.{Live, only}
 use Rattle.newick_bytes.specs.Kept.{narrow}
 use Rattle.newick_bytes.specs.Laws.Shows.{depth-some}
-use Rattle.newick_scan.specs.declared.Noted.{Noted}
-use Rattle.newick_scan.specs.Stacks.{Sized}
-use Rattle.newick_scan.specs.Turns as turns
-use Rattle.newick_scan.specs.Turns.{Completed, closed, fallenWith, namedBy}
+use Rattle.newick_notes.specs.declared.Noted.{Noted}
+use Rattle.newick_notes.specs.Stacks.{Sized}
+use Rattle.newick_notes.specs.Turns as turns
+use Rattle.newick_notes.specs.Turns.{Completed, closed, fallenWith, namedBy}
 use Rattle.newick_scan.specs.Noting.{Kept, Noting, kept}
 use Rattle.newick_scan.specs.Notes.{fallenOpen, inside, lastOpen, markedOpen, notedOpen, placeOpen}
 use Rattle.newick_scan.specs.Reading.{Notes}
 use Rattle.newick_scan.specs.Laws.Opening.{fallen-open, held-add, held-push, held-top, last-open, marked-open, names-open, noted-open}
-use Rattle.newick_scan.specs.Laws.Storing.{take-more}
+use Rattle.newick_notes.specs.Laws.Storing.{take-more}
 use Rattle.newick_scan.specs.Laws.Telling.{like-told, none-told}
 
 -- ## A vertex begins

@@ -10,13 +10,13 @@ use Rattle.newick_text.specs.Trees.{none}
 use Rattle.newick_text.specs.Tables.{names}
 use Rattle.newick_text.specs.States.{Open, within}
 use Rattle.newick_text.specs.Noting.{fallen, marked, noted}
-use Rattle.newick_scan.specs.declared.Noted.{Noted}
+use Rattle.newick_notes.specs.declared.Noted.{Noted}
 use Rattle.newick_scan.specs.Noting.{Kept}
-use Rattle.newick_scan.specs.Able.{Room}
+use Rattle.newick_notes.specs.Able.{Room}
 use Rattle.newick_scan.specs.Notes.{fallenOpen, notedOpen}
 use Rattle.newick_scan.specs.Says.{Told}
 use Rattle.newick_scan.specs.Reading.{ToldOpen}
-use Rattle.newick_scan.specs.Laws.Lower.{lower-none}
+use Rattle.newick_notes.specs.Laws.Lower.{lower-none}
 
 pub told-room : (n m p : ℕ) (T : List Row) (w : Noted) (f v : List ℕ) → Told n m p T w f v → Room (w .rows) f v
 told-room n m p T w f v t =

@@ -3,11 +3,12 @@ use mathlib.Core.List.{List}
 use mathlib.Core.Path.{ap, subst, sym, _≡_}
 use Prim.Native.Nat.{ℕ}
 use Rattle.newick_bytes.specs.declared.Seen.{Seen}
-use Rattle.newick_scan.specs.declared.Noted.{Noted}
-use Rattle.newick_scan.specs.Stacks.{Stacks}
-use Rattle.newick_scan.specs.Turns.{Completed}
+use Rattle.newick_notes.specs.declared.Noted.{Noted}
+use Rattle.newick_notes.specs.Stacks.{Stacks}
+use Rattle.newick_notes.specs.Turns.{Completed}
 use Rattle.newick_scan.specs.Noting.{Kept, Noting}
-use Rattle.newick_scan.specs.Able.{AbleIn, Closing}
+use Rattle.newick_notes.specs.Able.{Closing}
+use Rattle.newick_scan.specs.Able.{AbleIn}
 
 pub able-at : {s s′ : Seen} (w : Noted) (a : Stacks) → s ≡ s′ → AbleIn s w a → AbleIn s′ w a
 able-at w a e h = subst (λ (k : Seen). AbleIn k w a) e h

@@ -24,7 +24,7 @@ use Rattle.links.specs.Checks.{sizeChecks}
 use Rattle.links.specs.Laws.LinkChecks.{link-checks, rows-length, sizes-passed}
 use Rattle.links.specs.Links.{Links}
 use Rattle.routes.specs.Laws.Accepted.{few-rows}
-use Rattle.routes.specs.Laws.UpperRows.{upper-later, upper-most, uppers-length}
+use Rattle.climbing.specs.Laws.UpperRows.{upper-later, upper-most, uppers-length}
 use Rattle.routes.specs.Orders.{upperChecks}
 use Rattle.routes.specs.Outcomes.{upperOutcome}
 use Rattle.text.specs.Putting.{Fits}

@@ -1,4 +1,7 @@
 -- `order::is_better` meets its contract. Assumes nothing.
+use mathlib.Core.Path.{ap₂, _∙_}
+use Prim.Native.Nat.{_+_}
+use lib.Dec.{ltb}
 use borrow.Author.Needs.{needs}
 use borrow.Author.Tests.{eq-eqb, ne-eqb}
 use Rattle.order.proofs.is_better.Statement.{statement}
@@ -23,7 +26,10 @@ is-less-requires : tie.Need-is-less-requires
 is-less-requires c κs = search needs
 
 returns-2 : tie.Need-returns-2
-returns-2 c = rw (ne-eqb _ _ (c .before .before .before .before .before .if1 .left)) (cc)
+returns-2 c =
+    let fb = c .before in let xb = fb .before in let fw = xb .before in let xw = fw .before in
+    rw (ne-eqb _ _ (xw .before .if1 .left))
+    (c .is-less .ensures ∙ ap₂ ltb (ap₂ _+_ (xw .entry .ensures .0) (fb .entry4 .ensures .0)) (ap₂ _+_ (xb .entry3 .ensures .0) (fw .entry2 .ensures .0)))
 
 pub is-better-spec : {M : Type 1} → statement M
 is-better-spec =

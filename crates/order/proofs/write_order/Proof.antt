@@ -1,6 +1,8 @@
 -- `order::write_order` meets its contract: from place i on the order stands, and what it placed is marked. Assumes nothing.
-use mathlib.Core.Path.{ap}
+use mathlib.Core.Path.{ap, _∙_}
+use Prim.Native.Nat.{_^_}
 use native.Mathlib.Omega.{arith}
+use lib.Bits.{bitOr}
 use lib.ListN.{length, length-set}
 use borrow.Author.Needs.{needs}
 use Rattle.theory.specs.Tables.{cost}
@@ -29,7 +31,9 @@ put-requires c κs = let p = c .before .before .before .before .before .pre in (
 loop-holds : tie.Need-loop-holds Inv-loop μ-loop
 loop-holds c =
     let s = c .before .before .before .before .before .before .before .before in
-    walked-begins _ _ _ _ _ _ (s .args .out .now) (s .pre .0 .some) (s .pre .2) (s .pre .3) (cc) (c .before .before .put .ensures)
+    let m = c .before .before .before .before in
+    walked-begins _ _ _ _ _ _ (s .args .out .now) (s .pre .0 .some) (s .pre .2) (s .pre .3)
+    (m .mark2 .ensures ∙ ap (λ placed. bitOr placed (2 ^ s .args .last)) (m .before .mark .ensures)) (c .before .before .put .ensures)
 
 next-left-requires : tie.Need-next-left-requires Inv-loop μ-loop
 next-left-requires c κs = search needs

@@ -11,8 +11,9 @@ use Rattle.text.specs.Words.{bytesOf}
 use Rattle.sayings.specs.Laws.Parted.{parted-differ}
 use Rattle.sayings.specs.Laws.Phrases.{phrases-differ}
 use Rattle.sayings.specs.Laws.Said.{known}
-use Rattle.sayings.specs.Said.{saidOf, sayingText}
-use Rattle.sayings.specs.Saying.{sayingIn}
+use Rattle.phrases.specs.Said.{sayingText}
+use Rattle.sayings.specs.Said.{saidOf}
+use Rattle.phrases.specs.Saying.{sayingIn}
 use Rattle.sayings.specs.Sayings.{sayings}
 use Rattle.refusal_text.specs.Laws.About.{about-accepted, about-none, about-one}
 use Rattle.refusal_text.specs.Text.{refusalText}

@@ -6,7 +6,7 @@ use borrow.Author.Needs.{needs}
 use Rattle.ground.specs.Laws.Refusals.{if-goes, if-stops}
 use Rattle.theory.specs.Tables.{limit}
 use Rattle.routes.specs.Laws.Accepted.{path-passed}
-use Rattle.routes.specs.Laws.PathSums.{path-fits}
+use Rattle.climbing.specs.Laws.PathSums.{path-fits}
 use Rattle.ground.specs.declared.Answer.the-variants.{Value}
 use Rattle.ground.specs.declared.Answer.the-variants as answer
 use Rattle.routes.proofs.path.Statement.{statement}

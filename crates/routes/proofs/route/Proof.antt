@@ -10,8 +10,8 @@ use Rattle.ground.specs.Laws.Outcomes.{written-goes, written-stops}
 use Rattle.theory.specs.FarSides.{own}
 use Rattle.theory.specs.Tables.{limit}
 use Rattle.routes.specs.Laws.Accepted.{few-rows, own-place, route-passed}
-use Rattle.routes.specs.Climbs.{climbFrom}
-use Rattle.routes.specs.Laws.Climbs.{climb-most}
+use Rattle.climbing.specs.Climbs.{climbFrom}
+use Rattle.climbing.specs.Laws.Climbs.{climb-most}
 use Rattle.routes.proofs.route.Statement.{statement}
 use Rattle.routes.specs.Asked.{RouteAsked}
 use Rattle.routes.proofs.route.Tie as tie

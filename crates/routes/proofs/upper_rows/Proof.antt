@@ -8,7 +8,7 @@ use Rattle.ground.specs.Laws.Outcomes.{written-goes, written-stops}
 use Rattle.theory.specs.Routes.{uppers}
 use Rattle.theory.specs.Tables.{limit}
 use Rattle.routes.specs.Laws.Accepted.{few-rows, upper-passed}
-use Rattle.routes.specs.Laws.UpperRows.{uppers-length}
+use Rattle.climbing.specs.Laws.UpperRows.{uppers-length}
 use Rattle.routes.proofs.upper_rows.Statement.{statement}
 use Rattle.routes.specs.Asked.{UppersAsked}
 use Rattle.routes.proofs.upper_rows.Tie as tie

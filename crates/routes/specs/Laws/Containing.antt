@@ -23,7 +23,7 @@ use Rattle.links.specs.Laws.LinkChecks.{link-rows}
 use Rattle.links.specs.Laws.RowTests.{GoodRow, mem-rows}
 use Rattle.links.specs.Laws.Searches.{place-at}
 use Rattle.routes.specs.Laws.Accepted.{few-rows, own-place}
-use Rattle.routes.specs.Laws.UpperRows.{upper-contains, upper-first, upper-later, upper-most}
+use Rattle.climbing.specs.Laws.UpperRows.{upper-contains, upper-first, upper-later, upper-most}
 
 -- the own link of image 0 contains every far side
 pub full-contains-all : (n S : ℕ) → 3 ≤ n → FarSide n S → contains (own n 0) S ≡ true

@@ -21,11 +21,11 @@ use Rattle.theory.specs.Laws.Nested.{bit-holds, holds-true}
 use Rattle.theory.specs.Routes.{climb, route, uppers}
 use Rattle.links.specs.Links.{Links}
 use Rattle.routes.specs.Laws.Accepted.{few-rows, own-place}
-use Rattle.routes.specs.Laws.Climbs.{climb-between, climb-last, climb-next, climb-none, ends-with}
+use Rattle.climbing.specs.Laws.Climbs.{climb-between, climb-last, climb-next, climb-none, ends-with}
 use Rattle.routes.specs.Laws.Containing.{contains-holds, full-contains-all, last-place, last-row}
 use Rattle.routes.specs.Laws.Containing.{later-contains, own-at, row-side, rows-ascend, upper-none}
-use Rattle.routes.specs.Laws.UpperRows.{upper-contains, upper-first, upper-later, upper-most}
-use Rattle.routes.specs.Climbs.{heldBy}
+use Rattle.climbing.specs.Laws.UpperRows.{upper-contains, upper-first, upper-later, upper-most}
+use Rattle.climbing.specs.Climbs.{heldBy}
 
 -- ## The rows that hold an image
 

@@ -3,8 +3,8 @@ use borrow.Author.Needs.{needs}
 use borrow.Author.Tests.{ne-eqb}
 use Rattle.text.specs.Fields.{fields}
 use Rattle.text.specs.Words.{bytesOf}
-use Rattle.sayings.specs.Said.{sayingText}
-use Rattle.sayings.specs.Saying.{sayingIn}
+use Rattle.phrases.specs.Said.{sayingText}
+use Rattle.phrases.specs.Saying.{sayingIn}
 use Rattle.sayings.specs.Sayings.{sayingsFrom4}
 use Rattle.sayings.proofs.put_from_4.Statement.{statement}
 use Rattle.sayings.proofs.put_from_4.Tie as tie

@@ -3,8 +3,9 @@ use borrow.Author.Needs.{needs}
 use borrow.Author.Tests.{ne-eqb}
 use Rattle.text.specs.Fields.{fields}
 use Rattle.text.specs.Words.{bytesOf}
-use Rattle.sayings.specs.Said.{saidOf, sayingText}
-use Rattle.sayings.specs.Saying.{sayingIn}
+use Rattle.phrases.specs.Said.{sayingText}
+use Rattle.sayings.specs.Said.{saidOf}
+use Rattle.phrases.specs.Saying.{sayingIn}
 use Rattle.sayings.specs.Sayings.{sayings}
 use Rattle.sayings.proofs.put_said.Statement.{statement}
 use Rattle.sayings.proofs.put_said.Tie as tie

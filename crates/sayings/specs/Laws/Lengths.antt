@@ -10,9 +10,10 @@ use Rattle.text.specs.Fields.{fields}
 use Rattle.text.specs.Laws.Lengths.{fields-most}
 use Rattle.text.specs.Words.{bytesOf}
 use Rattle.sayings.specs.Laws.Said.{allPass, by-zeros, said-passes}
-use Rattle.sayings.specs.Saying.{Saying, sayingIn}
+use Rattle.phrases.specs.Saying.{Saying, sayingIn}
 use Rattle.sayings.specs.Sayings.{sayings, sayingsFrom12, sayingsFrom16, sayingsFrom4, sayingsFrom8}
-use Rattle.sayings.specs.Said.{saidOf, sayingText}
+use Rattle.phrases.specs.Said.{sayingText}
+use Rattle.sayings.specs.Said.{saidOf}
 
 -- with the longest numbers it is no longer than what the room of a text leaves behind the table and before the zero byte
 abbrev short : Saying → Bool

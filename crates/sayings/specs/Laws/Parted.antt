@@ -8,8 +8,8 @@ use borrow.Author.Tests.{eqb-false, eqb-true}
 use borrow.Table.Steps.{cases}
 use Rattle.text.specs.Fields.{fields}
 use Rattle.text.specs.Words.{bytesOf}
-use Rattle.sayings.specs.Saying.{Saying}
-use Rattle.sayings.specs.Said.{sayingText}
+use Rattle.phrases.specs.Saying.{Saying}
+use Rattle.phrases.specs.Said.{sayingText}
 
 abbrev pub parted : List ℕ → List ℕ → Bool
 parted [] m = false

@@ -9,8 +9,9 @@ use Rattle.ground.specs.Laws.Tests.{and-l, and-r, or-r}
 use Rattle.text.specs.Words.{bytesOf}
 use Rattle.sayings.specs.Laws.Parted.{apart, apart-same, parted}
 use Rattle.sayings.specs.Laws.Said.{allPass, known, known-passes, knownIn, said-number, said-passes}
-use Rattle.sayings.specs.Saying.{Saying, sayingIn, unknown}
-use Rattle.sayings.specs.Sayings.{aboveOld, badRow, sayings, sayingsFrom12, sayingsFrom16, sayingsFrom4, sayingsFrom8}
+use Rattle.phrases.specs.Saying.{Saying, sayingIn, unknown}
+use Rattle.phrases.specs.ByPlace.{aboveOld, badRow}
+use Rattle.sayings.specs.Sayings.{sayings, sayingsFrom12, sayingsFrom16, sayingsFrom4, sayingsFrom8}
 use Rattle.sayings.specs.Said.{saidOf}
 
 -- the two shapes of a saying begin alike, so that no comparison has to know the shape

@@ -8,7 +8,7 @@ use lib.Dec.{eqb}
 use borrow.Author.Tests.{eqb-true}
 use borrow.Table.Steps.{cases}
 use Rattle.ground.specs.Laws.Tests.{and-l, and-r}
-use Rattle.sayings.specs.Saying.{Saying, sayingIn, unknown}
+use Rattle.phrases.specs.Saying.{Saying, sayingIn, unknown}
 use Rattle.sayings.specs.Sayings.{sayings}
 
 abbrev pub allPass : (Saying → Bool) → List Saying → Bool

@@ -12,8 +12,9 @@ use Rattle.text.specs.Laws.Zeros.{fields-no-zero, no-zero-join}
 use Rattle.text.specs.Words.{bytesOf}
 use Rattle.text.specs.Zeros.{noZero}
 use Rattle.sayings.specs.Laws.Said.{allPass, by-zeros, said-passes}
-use Rattle.sayings.specs.Said.{saidOf, sayingText}
-use Rattle.sayings.specs.Saying.{Saying, sayingIn}
+use Rattle.phrases.specs.Said.{sayingText}
+use Rattle.sayings.specs.Said.{saidOf}
+use Rattle.phrases.specs.Saying.{Saying, sayingIn}
 use Rattle.sayings.specs.Sayings.{sayings, sayingsFrom12, sayingsFrom16, sayingsFrom4, sayingsFrom8}
 
 abbrev some : Saying → Bool

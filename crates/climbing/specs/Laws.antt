@@ -1,0 +1,4 @@
+-- How the code meets the answers.
+pub mod PathSums
+pub mod UpperRows
+pub mod Climbs

@@ -1,0 +1,2 @@
+-- How the entries are put.
+pub mod Putting

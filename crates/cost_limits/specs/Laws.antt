@@ -1,0 +1,2 @@
+-- What passes under the limit of a form.
+pub mod Fitting

@@ -1,0 +1,4 @@
+-- What the contracts of `cost_limits` cite: the checks.
+pub mod Checks
+-- What is true of them.
+pub mod Laws

@@ -1,0 +1,41 @@
+-- `index_more::turn_side` meets its contract. Assumes nothing.
+use mathlib.Core.Path.{_∙_}
+use native.Mathlib.Omega.{arith}
+use borrow.Author.Needs.{needs}
+use Rattle.index_more.proofs.turn_side.Statement.{statement}
+use Rattle.index_more.proofs.turn_side.Tie as tie
+
+entry-requires : tie.Need-entry-requires
+entry-requires c κs = search needs
+
+entry-requires-2 : tie.Need-entry-requires-2
+entry-requires-2 c κs = search needs
+
+add-lower : tie.Need-add-lower
+add-lower c = search needs
+
+sub-lower : tie.Need-sub-lower
+sub-lower c = search needs
+
+add-lower-2 : tie.Need-add-lower-2
+add-lower-2 c = search needs
+
+lower-requires : tie.Need-lower-requires
+lower-requires c κs = search needs
+
+returns : tie.Need-returns
+returns c =
+    let p = c .before .before .before .before .pre in
+    omega (arith, c .lower .ensures, c .before .before .entry .ensures .0 ∙ p .0 .formed .same (p .2) (p .3), c .before .entry2 .ensures .0)
+
+pub turn-side-spec : {M : Type 1} → statement M
+turn-side-spec =
+    tie.close
+    (tie.spec
+    entry-requires
+    entry-requires-2
+    add-lower
+    sub-lower
+    add-lower-2
+    lower-requires
+    returns)

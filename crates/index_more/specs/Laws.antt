@@ -1,0 +1,2 @@
+-- The lists of both sides, and the least over them.
+pub mod Sides

@@ -1,0 +1,2 @@
+-- What the contracts of `newick_allowed` cite.
+pub mod Tests

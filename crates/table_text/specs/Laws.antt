@@ -1,0 +1,2 @@
+-- What the calls below gave, and the text that follows.
+pub mod Accepted
