@@ -2689,8 +2689,9 @@ def long_reports(dice):
     a, d = stored_costs(*law.example("A")), stored_costs(*law.example("D"), NEW)
     for behind in ([], [(1, [0])], [(1, [255])], [(1, a)], [(1, e)], [(1, a[:-1])], [(30, [171])]):
         yield [(500, a)] + behind
-    for last in ([(1, d)], [(1, e)], [(1, a[:-1])], [(1, [7])], [(1, a[:-1] + [33])], [(1, [4] * 9)]):
-        yield [(499, a)] + last
+    too_much = stored_costs(3, last_entry_bad(3, OLD))
+    for last in (d, e, a[:-1], [7], a[:-1] + [33], [4] * 9, too_much):
+        yield [(499, a), (1, last)]
     yield [(501, d)]
     yield [(498, a), (3, d)]
     yield [(500, f)]
