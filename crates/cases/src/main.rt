@@ -70,6 +70,10 @@ fn run(call: u32, name: &[u8], file: &[u8]) {
     let mut buffer = [0u8; 400000];
     let length = io::read_full(fd, &mut buffer);
     libc::close(fd);
+    if call == calls::REPORT {
+        report_cases::every_report(&buffer[..length]);
+        return;
+    }
     every_case(call, &buffer[..length]);
 }
 
@@ -116,4 +120,5 @@ fn main() {
     run(calls::WRITE_NEWICK, b"write_newick", b"write_newick.txt");
     run(calls::READ_NEWICK, b"read_newick", b"read_newick.txt");
     run(calls::REPLAY, b"replay", b"replay.txt");
+    run(calls::REPORT, b"report", b"report.txt");
 }
