@@ -111,15 +111,15 @@ static uint8_t *lend_bytes(Lent *l, const uint8_t *bytes, size_t count) {
     return p;
 }
 
-/* Bytes in pieces, each so many times, joined. */
+/* How many bytes of the line before are kept, and pieces, each so many times, behind them. */
 static uint8_t *read_stream(Lent *l) {
     static uint8_t joined[STREAM];
-    size_t count = 0;
+    size_t count = number();
     for (size_t pieces = number(); pieces > 0; pieces--) {
         Lent lp;
         size_t times = number();
         uint8_t *piece = read8(&lp);
-        if (times > STREAM || times * lp.count > STREAM - count) {
+        if (count > STREAM || times > STREAM || times * lp.count > STREAM - count) {
             fprintf(stderr, "%s: a stream that is too long\n", call_name);
             exit(2);
         }
@@ -133,7 +133,7 @@ static uint8_t *read_stream(Lent *l) {
 
 /*
  * The number and, of a refusal, its places. All answers are words without padding: the fields by their names are compared with the
- * words in front. The refused table stands before the places where tables is 1; where it is 2 the caller prints it, behind its values.
+ * words in front.
  */
 #define SHOW_HEAD(r, tables) show_head(KEMOTUIKI_HEAD(r), &(r), tables)
 
@@ -145,8 +145,8 @@ static void show_head(size_t number, size_t table, size_t a, size_t b, size_t c,
         if (table || a || b || c || d) fault("places beside an accepted answer");
         return;
     }
-    if (tables == 1) printf(" %zu", table);
-    else if (table && !tables) fault("a table's number from a call with one table");
+    if (tables) printf(" %zu", table);
+    else if (table) fault("a table's number from a call with one table");
     printf(" %zu %zu %zu %zu", a, b, c, d);
 }
 
@@ -545,16 +545,16 @@ static void hold_report(const uint8_t *bytes, size_t count, KemotuikiReport r, c
     if (!same_report(&m, r, w)) fault("the report is not what single calls give");
 }
 
-/* The values stand beside the refusal of a table, which ends the report, and the table's number behind them. */
+/* The values stand beside the refusal of a table, which ends the report. */
 static void do_report(void) {
     Lent lb;
     Sides w;
     uint8_t *bytes = read_stream(&lb);
     read_sides(&w);
     KemotuikiReport r = kemotuiki_report(bytes, lb.count, SIDES(w));
-    SHOW_HEAD(r, 2);
+    SHOW_HEAD(r, 1);
     printf(" %zu %zu %zu %zu %zu", r.images, r.tables, r.accepted, r.apart, r.sides);
-    printf(" %zu %zu %zu %zu %zu", r.pairs, r.count_sum, r.largest_count, r.used, r.table);
+    printf(" %zu %zu %zu %zu", r.pairs, r.count_sum, r.largest_count, r.used);
     hold_report(bytes, lb.count, r, &w);
     show_sides(&w, r.sides);
     settle(&lb, 0);

@@ -14,7 +14,7 @@ module case_text
     use kemotuiki, only: kemotuiki_answer, kemotuiki_images
     implicit none
     private
-    public :: number, small_number, fits, slice8, slice32, slice64, filled32, filled64, stream8, slice_text, table, read_table
+    public :: number, small_number, fits, slice8, slice32, slice64, filled32, filled64, read_stream, slice_text, table, read_table
     public :: read_team, read_rows, can_be_said
     public :: put_answer, put_values, put, put_rows, fault, faults, answers, run, note_far_sides
 
@@ -122,17 +122,19 @@ contains
         elements = int(signed(filled64(), 32), int32)
     end function
 
-    ! Bytes in pieces, each so many times, joined.
-    function stream8() result(bytes)
-        integer(int8), allocatable :: bytes(:), piece(:)
+    ! How many bytes of the line before are kept, and pieces, each so many times, behind them.
+    subroutine read_stream(bytes)
+        integer(int8), allocatable, intent(inout) :: bytes(:)
+        integer(int8), allocatable :: piece(:)
         integer(int64) :: pieces, times, j
-        allocate (bytes(0))
+        if (.not. allocated(bytes)) allocate (bytes(0))
+        bytes = bytes(:number())
         do pieces = number(), 1, -1
             times = number()
             piece = slice8()
             bytes = [bytes, (piece, j = 1, times)]
         end do
-    end function
+    end subroutine
 
     ! The bytes of a slice as text.
     function slice_text() result(text)
@@ -236,12 +238,11 @@ contains
         call put64([(int(ichar(text(k:k)), int64), k = 1, len(text))])
     end subroutine
 
-    ! The number, then the values of an accepted call, or the refusal's places, its table before them if the call takes several. Where
-    ! the table is last, the caller puts it behind its values.
-    subroutine put_answer(r, values, tables, table_last)
+    ! The number, then the values of an accepted call, or the refusal's places, its table before them if the call takes several.
+    subroutine put_answer(r, values, tables)
         class(kemotuiki_answer), intent(in) :: r
         integer(int64), intent(in) :: values(:)
-        logical, intent(in), optional :: tables, table_last
+        logical, intent(in), optional :: tables
         integer(int64) :: places(5)
         integer :: k, first
         places = [r%table, r%a, r%b, r%c, r%d]
@@ -256,8 +257,7 @@ contains
                 call put_number(places(k))
             end do
             if (any(values /= 0)) call fault('a value beside a refusal')
-            if (.not. present(table_last) .and. any(places(:first - 1) /= 0)) &
-                call fault("a table's number from a call with one table")
+            if (any(places(:first - 1) /= 0)) call fault("a table's number from a call with one table")
         end if
         answered(r%number) = .true.
     end subroutine
@@ -587,15 +587,15 @@ contains
         if (.not. same) call fault('what is left is not the exact reading of the smaller table')
     end subroutine
 
-    ! The values stand beside the refusal of a table, which ends the report, and the table's number behind them. Of each array there are
-    ! the places written, and how many behind them are as they were.
+    ! The values stand beside the refusal of a table, which ends the report. Of each array there are the places written, and how many
+    ! behind them are as they were.
     subroutine do_report()
         type(kemotuiki_report_answer) :: r
-        integer(int8), allocatable :: bytes(:)
+        integer(int8), allocatable, save :: bytes(:)
         integer(int64), allocatable :: fars(:), sums(:), fars_before(:), sums_before(:)
         integer(int32), allocatable :: trees(:), trees_before(:)
         integer :: k
-        bytes = stream8()
+        call read_stream(bytes)
         fars = filled64()
         trees = filled32()
         sums = filled64()
@@ -603,9 +603,9 @@ contains
         trees_before = trees
         sums_before = sums
         r = kemotuiki_report(bytes, fars, trees, sums)
-        call put_answer(r, [integer(int64) ::], table_last=.true.)
+        call put_answer(r, [integer(int64) ::], tables=.true.)
         call put_values([integer(int64) :: r%images, r%tables, r%accepted_tables, r%apart, r%sides, r%pairs, r%count_sum, &
-                         r%largest_count, r%used, r%table])
+                         r%largest_count, r%used])
         k = r%sides
         call put(fars(:k))
         call put_values([count(fars(k + 1:) == fars_before(k + 1:), kind=int64)])
