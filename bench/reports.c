@@ -15,7 +15,8 @@
 #include "tables.h"
 
 enum { COUNT = 2, SIZES = 3, TABLES = KEMOTUIKI_REPORT_TABLES, ROOM = KEMOTUIKI_REPORT_SIDES };
-static const char head[] = "| n | tables | bytes | far sides | archive, µs | C, µs | archive / C | archive, µs a table |\n|---|---|---|---|---|---|---|---|\n";
+static const char head[] = "| n | tables | bytes | far sides | archive, µs | C, µs | archive / C | archive, µs a table |\n"
+                           "|---|---|---|---|---|---|---|---|\n";
 
 /* A term: its stored tables one after another, and where each ends. */
 typedef struct {
@@ -23,19 +24,25 @@ typedef struct {
     size_t ends[TABLES];
 } Term;
 
+/* What a report answers and leaves. */
+typedef struct {
+    KemotuikiReport answer;
+    uint64_t fars[ROOM], sums[ROOM];
+    uint32_t trees[ROOM];
+} Left;
+
 static int printing;
 static Term terms[SIZES];
 static const uint8_t *bytes;
 static size_t used;
-static uint64_t fars[ROOM], sums[ROOM];
-static uint32_t trees[ROOM];
-static KemotuikiReport answer;
+static Left left;
 
-static void ours(void) { answer = kemotuiki_report(bytes, used, fars, ROOM, trees, ROOM, sums, ROOM); }
+static void ours(void) { left.answer = kemotuiki_report(bytes, used, left.fars, ROOM, left.trees, ROOM, left.sums, ROOM); }
 static void merging(void) {
     PlainReport r;
-    size_t number = (size_t)plain_report(bytes, used, fars, trees, sums, ROOM, &r);
-    answer = (KemotuikiReport){number, r.table, 0, 0, 0, 0, r.images, r.tables, r.accepted, r.apart, r.sides, r.pairs, r.count_sum, r.largest_count, r.used};
+    size_t number = (size_t)plain_report(bytes, used, left.fars, left.trees, left.sums, ROOM, &r);
+    left.answer = (KemotuikiReport){number, r.table, 0, 0, 0, 0, r.images, r.tables, r.accepted,
+                                    r.apart, r.sides, r.pairs, r.count_sum, r.largest_count, r.used};
 }
 
 static Call *const calls[COUNT] = {ours, merging};
@@ -77,15 +84,12 @@ static void make_term(size_t n, Term *term) {
 
 /* Stops unless both answer and leave the same, with all tables accepted. */
 static void compare(size_t n, size_t tables) {
-    KemotuikiReport first = {0};
-    static uint64_t first_fars[ROOM], first_sums[ROOM];
-    static uint32_t first_trees[ROOM];
+    static Left first;
     for (size_t i = 0; i < COUNT; i++) {
-        memset(fars, 0, sizeof fars), memset(trees, 0, sizeof trees), memset(sums, 0, sizeof sums), memset(&answer, 0, sizeof answer);
+        memset(&left, 0, sizeof left);
         calls[i]();
-        if (i == 0) first = answer, memcpy(first_fars, fars, sizeof fars), memcpy(first_trees, trees, sizeof trees), memcpy(first_sums, sums, sizeof sums);
-        int same = !memcmp(&answer, &first, sizeof answer) && !answer.number && answer.accepted == tables && answer.used == used;
-        if (same && !memcmp(fars, first_fars, sizeof fars) && !memcmp(trees, first_trees, sizeof trees) && !memcmp(sums, first_sums, sizeof sums)) continue;
+        if (i == 0) first = left;
+        if (!memcmp(&left, &first, sizeof left) && !left.answer.number && left.answer.accepted == tables && left.answer.used == used) continue;
         fprintf(stderr, "a term of %zu tables of %zu images: call %zu differs\n", tables, n, i);
         exit(1);
     }
@@ -98,7 +102,8 @@ static void race_reports(size_t n, size_t tables, const Term *term) {
     compare(n, tables);
     race(COUNT, calls, us);
     if (printing)
-        printf("| %zu | %zu | %zu | %zu | %.1f | %.1f | %.2f | %.2f |\n", n, tables, used, answer.sides, us[0], us[1], us[0] / us[1], us[0] / (double)tables);
+        printf("| %zu | %zu | %zu | %zu | %.1f | %.1f | %.2f | %.2f |\n", n, tables, used, left.answer.sides, us[0], us[1], us[0] / us[1],
+               us[0] / (double)tables);
 }
 
 void reports(int print) {
