@@ -13,6 +13,7 @@ prints Newick text, and the text that each of them prints, tests/PROGRAM/NAME.st
 example H is also what `rt ci` runs them on. All is decided by the seeds below.
 """
 
+import functools
 import os
 import sys
 
@@ -28,16 +29,18 @@ from independent import (NEW, OLD, Dice, holds, is_inner, own_link, pairs, store
 ROOT = os.path.dirname(os.path.dirname(os.path.abspath(__file__)))
 
 # The programs that run the cases have arrays of these lengths: for a slice of numbers, for
-# the joined tables of a team, for a slice of bytes, for the bytes of the reader's calls, and
-# for a file of cases.
+# the joined tables of a team, for a slice of bytes, for the bytes of the reader's calls, for
+# the bytes of a report and for each slice that it is lent, and for a file of cases.
 LONGEST_LINE = 140000
 LONGEST_SLICE = 4200
 LONGEST_TEAM = 65600
 LONGEST_BYTES = 5900
 LONGEST_READ = 11800
+LONGEST_REPORT = 27000
+LONGEST_LENT = 1100
 LARGEST_FILE = 400000
-LARGEST_ANSWERS = 1120000
-LARGEST_TOTAL = 4650000
+LARGEST_ANSWERS = 1260000
+LARGEST_TOTAL = 5050000
 FEWEST_CASES = 2500
 FEWEST_OF_EACH_REFUSAL = 8
 FEWEST_IN_EACH_FORM = 5
@@ -76,6 +79,7 @@ CALLS = {
     "write_newick": (law.write_newick, "n n 64 32 8*", (1, 2, 3, 10, 12, 13)),
     "read_newick": (law.read_newick, "8 64* 32*", (1, 3, 12, 13, 18, 22)),
     "replay": (law.replay, "n 32 8 64* 32*", (1, 2, 3, 4, 5, 6, 7, 8)),
+    "report": (law.report, "8 64* 32* 64*", (1, 3, 4, 9, 11, 15, 19)),
 }
 
 # With so many images each answer of the calls for Newick text is met, but for 18, which is found
@@ -88,6 +92,12 @@ EVERY_REPLAY = (3, 9, 33, 64)
 
 # More events than can be taken.
 MANY_EVENTS = 62
+
+# With so many images in its first table a report meets every refusal of a later table but 19.
+EVERY_REPORT = (3, 9, 33, 64)
+
+# Bytes that a report has in front as the case before has them are not written again, if they are so many.
+FEWEST_KEPT = 100
 
 # Those that are told a form, and those that find it in the bytes. Every refusal of these calls
 # is met in both forms, but for those that one form alone has or that are about no one table.
@@ -2520,6 +2530,221 @@ def replay_cases(dice):
         yield (3, tree(dice, 3, 9), events, *plain(3))
 
 
+# The term report. A case has the stored tables one after another, each with how often it stands there,
+# and three lent slices, each as its length and the number that it is full of.
+
+def lent(*more):
+    """Slices with so many places more than a report asks for."""
+    return [(law.MOST_SIDES + places_more, fill) for places_more, fill in zip(more or (0, 0, 0), (8, 7, 9))]
+
+
+def any_lent(dice):
+    """Enough places or more, full of small numbers and of the largest."""
+    return [(law.MOST_SIDES + dice.one_of([0, 0, 0, 1, 76]), dice.one_of([0, 1, 8, 2 ** 32 - 1, most]))
+            for most in (2 ** 64 - 1, 2 ** 32 - 1, 2 ** 64 - 1)]
+
+
+def once(n, t, form=OLD):
+    return 1, costs_in(n, t, form)
+
+
+def any_tables(dice, n, count):
+    """Tables of n images in either form: trees, among them the same one again, and some without a wiring."""
+    found = []
+    for _ in range(count):
+        t = dice.one_of([tree(dice, n)] * 3 + [dice.one_of(found) if found else tree(dice, n), crooked(dice, n)])
+        found.append(t)
+    return [once(n, t, any_form(dice)) for t in found]
+
+
+def examples_reported(dice):
+    """The settled examples: all streams of up to three of E, F and G, of which F gets 7; each example alone
+    and again; no bytes, and bytes that end in a header, alone and behind a table."""
+    names = ["EFGE", "FE", "EF", "FFF", "FEFGF"]
+    names += [x + y + z for x in " EFG" for y in " EFG" if x + y != "E " for z in "EFG"]
+    for tables_named in names:
+        yield [once(*law.example(name), any_form(dice)) for name in tables_named.replace(" ", "")]
+    for form in (OLD, NEW):
+        yield [once(*law.example(name), form) for name in "EFGE"]
+        yield [once(*law.example(name), form) for name in "EFGE"] + [(1, [6])]
+    for n, t in example_tables():
+        yield [once(n, t)]
+        yield [(dice.between(2, 9), stored_costs(n, t, any_form(dice)))]
+    yield []
+    a = once(*law.example("A"))
+    for byte in (0, 4, 6, 128, 130, 252, 254, 255):
+        yield [(1, [byte])]
+        yield [a, (1, [byte])]
+    for stored in short_headers():
+        yield [(1, stored)]
+        yield [dice.one_of([a, once(*law.example("D"), NEW)]), (1, stored)]
+
+
+def trees_reported(dice):
+    """Two trees and the first of them again, by how far they disagree; streams of chance."""
+    for n in (3, 4, 5, 9):
+        for one, two in disagreeing(dice, n):
+            forms = [any_form(dice) for _ in range(3)]
+            yield [once(n, tree_table(n, even_rows(rows)), form) for rows, form in zip((one, two, one), forms)]
+    for _ in range(30):
+        n = small_n(dice)
+        stream = any_tables(dice, n, dice.between(1, 6))
+        yield [(dice.one_of([1, 1, 1, 2, 7, 40]), stored) for _, stored in stream]
+    # An entry and a doubled cost at the limit of each form.
+    for form in (OLD, NEW):
+        t = table_from(4, [0, form.most_entry, form.most_entry, form.most_entry, form.most_entry, 0])
+        yield [once(4, t, form), once(*law.example("E")), once(4, t, form)]
+
+
+REPORT_FAULTS = ["n", "body", "fill", "entry", "images"]
+
+
+def bad_table(dice, n, faults, form):
+    """Stored bytes of a table with these faults; of another n where that is one of them."""
+    if "images" in faults:
+        n = dice.one_of([images for images in (3, 4, 5, 6) if images != n])
+    t = crooked(dice, n) if "wiring" in faults else tree(dice, n)
+    return 1, damaged_stored_costs(dice, n, t, faults, form)
+
+
+def refused_reports(dice):
+    """Each fault in the first, a middle and the last table, in both forms; faults together, in one table, in
+    which the first found ends the report, and in two, where the first table does. What ends early ends all."""
+    for fault in REPORT_FAULTS:
+        for form in (OLD, NEW):
+            for before, behind in ((0, 2), (0, 0), (1, 1), (2, 0), (3, 2)):
+                n = dice.one_of([3, 5, 6, 9] if fault != "images" else [3, 4, 9])
+                front = any_tables(dice, n, max(before, int(fault == "images")))
+                rest = any_tables(dice, n, behind) if fault != "body" else []
+                faults = {fault, "wiring"} if dice.chance(1, 3) else {fault}
+                yield front + [bad_table(dice, n, faults, form)] + rest
+    for faults in fault_sets(dice, REPORT_FAULTS + ["wiring"], 0, 40):
+        n, form = damaged_n(dice), any_form(dice)
+        front = any_tables(dice, n, dice.between(0, 3))
+        rest = any_tables(dice, n, dice.below(2)) if "body" not in faults else []
+        yield front + [bad_table(dice, n, faults, form)] + rest
+    for fault in REPORT_FAULTS:
+        for fault2 in REPORT_FAULTS:
+            if fault != "body":
+                front = any_tables(dice, 5, 1)
+                yield front + [bad_table(dice, 5, {some}, any_form(dice)) for some in (fault, fault2)]
+
+
+def last_entry_bad(n, form):
+    """An entry above the form's limit in the last place, all others 2."""
+    return with_entry(n, star(n, [1] * n), n - 1, n, form.most_entry + 1)
+
+
+def large_reports(dice):
+    """Many images: stars, two groups, and the same with each fault; then trees of every kind."""
+    for n in (9, 33, 64):
+        halves = [two_groups(n, 2 ** n - 2 ** (n // 2), 2, 6), two_groups(n, 2 ** n - 2 ** (n // 2 + 1), 2, 3)]
+        plain = star(n, [1] * n)
+        for form in (OLD, NEW):
+            other = NEW if form == OLD else OLD
+            good, whole = once(n, plain, form), stored_costs(n, plain, form)
+            yield [once(n, halves[0], form), good, once(n, halves[1], other)]
+            yield [good, (1, whole[:-1])]
+            yield [good, (1, whole[:2])]
+            yield [good, (1, whole[:-1] + [whole[-1] + 1]), good]
+            yield [good, (1, stored_costs(n, last_entry_bad(n, form), form)), good]
+            yield [once(n, halves[0], other), once(n - 1, star(n - 1, [1] * (n - 1)), form), good]
+            yield [once(n, bent_star(n), other), once(n - 1, bent_star(n - 1), form)]
+            yield [good, (1, law.bytes_of_bits(form.mark + law.field(7, 65)) + whole[2:])]
+            yield [once(n, halves[1], form), once(n, bent_star(n), other), once(n, halves[1], other)]
+            yield [(1, whole[:-1])]
+    rows = tree_rows(dice, 33, "uneven", 3)
+    less = fewer_inner(dice, 33, even_rows(rows))
+    yield [once(33, tree_table(33, rows)), once(33, tree_table(33, less)), once(33, tree(dice, 33, 2, "caterpillar"))]
+    yield [once(64, tree(dice, 64, 1, "uneven")), once(64, tree(dice, 64, 1, "caterpillar"))]
+
+
+def bent_star(n):
+    """A star whose last two images are too far apart."""
+    return law.bent(n, star(n, [1] * n))
+
+
+def slices_reported(dice):
+    """Slices of too few places: each of the three, two, and all, over tables that are well and that are not;
+    slices of more places than are asked for."""
+    e, f = [once(*law.example(name)) for name in "EF"]
+    for short in range(1, 8):
+        for stream in ([e, f, e], [(1, [255])], [], [e, once(*law.example("A"))]):
+            few = dice.one_of([1023, 1023, 1000, 512, 1, 0])
+            lengths = [few if short >> place & 1 else dice.one_of([1024, 1100]) for place in range(3)]
+            if short in (1, 2, 4) or stream[:1] != [e]:
+                yield stream, [(length, dice.one_of([0, 8, 2 ** 32 - 1])) for length in lengths]
+    yield [e, f], [(1023, 2 ** 64 - 1), (1023, 2 ** 32 - 1), (1023, 2 ** 64 - 1)]
+    for more in ((1, 0, 0), (0, 1, 0), (0, 0, 1), (76, 76, 76)):
+        yield [e, f, e], lent(*more)
+        yield [(5, stored_costs(*law.example("H"), NEW)), (1, [6])], lent(*more)
+
+
+def long_reports(dice):
+    """500 tables, which is the end, whatever stands behind; 501; what table 500 itself has; pairs over many
+    tables with 7; the largest sum of costs and the largest number of trees."""
+    e, f, g = [stored_costs(*law.example(name), any_form(dice)) for name in "EFG"]
+    a, d = stored_costs(*law.example("A")), stored_costs(*law.example("D"), NEW)
+    for behind in ([], [(1, [0])], [(1, [255])], [(1, a)], [(1, e)], [(1, a[:-1])], [(30, [171])]):
+        yield [(500, a)] + behind
+    for last in ([(1, d)], [(1, e)], [(1, a[:-1])], [(1, [7])], [(1, a[:-1] + [33])], [(1, [4] * 9)]):
+        yield [(499, a)] + last
+    yield [(501, d)]
+    yield [(498, a), (3, d)]
+    yield [(500, f)]
+    yield [(499, f), (2, e)]
+    yield [(1, e), (498, f), (1, g), (1, e)]
+    yield [(125, e + f + g + e), (1, e)]
+    yield [(250, e + g)]
+    yield [(249, e + f), (1, e), (1, g), (7, f)]
+    most = table_from(4, [0, 8000000, 8000000, 8000000, 8000000, 0])
+    yield [(500, stored_costs(4, most, NEW))]
+    one, two = [tree_table(6, even_rows(rows)) for rows in list(disagreeing(dice, 6))[3]]
+    yield [(250, stored_costs(6, one) + stored_costs(6, two))]
+    yield [(499, stored_costs(6, one)), (2, stored_costs(6, two))]
+
+
+def many_sides(dice):
+    """1,020 far sides, and behind them tables that bring others, up to 1,024 and to 1,025 or more; behind 1,024
+    of them tables that bring none, and those with another refusal beside 19."""
+    n = 13
+    trees = law.trees_with_sides(dice, n, law.MOST_SIDES - 4)
+    front = [once(n, tree_table(n, rows)) for rows in trees]
+    seen, fresh = {far for rows in trees for far, _ in rows}, []
+    while len(fresh) < 6:
+        fresh = [far for far in law.tree_far_sides(dice, n, "caterpillar") if far not in seen]
+
+    def bringing(sides):
+        return tree_table(n, sorted([(own_link(n, image), 2) for image in range(1, n + 1)] + [(far, 2) for far in sides]))
+
+    four, five, other, six = [bringing(sides) for sides in (fresh[:4], fresh[:5], fresh[4:5], fresh)]
+    plain = once(n, star(n, [1] * n))
+    full = front + [once(n, four)]
+    yield full
+    yield full + [once(n, law.bent(n, other), NEW), plain, front[0], once(n, four, NEW), once(n, law.bent(n, six))]
+    yield full + [once(n, other, NEW)]
+    yield full + [once(n, law.bent(n, other)), once(n, other)]
+    yield full + [front[7], once(n, six), plain]
+    yield full + [once(n, other), once(n, other, NEW), (1, [255])]
+    yield full + [(1, stored_costs(n, other)[:-1] + [1]), plain]
+    yield full + [once(14, star(14, [1] * 14))]
+    yield front + [once(n, five)]
+    yield front + [once(n, five, NEW), once(n, four), (1, [9])]
+    yield front + [once(n, other), once(n, four)]
+    yield front + [once(n, other, NEW), plain, once(n, four, NEW), (20, [0])]
+
+
+def report_cases(dice):
+    for streams in (examples_reported, trees_reported, refused_reports, large_reports):
+        for stream in streams(dice):
+            yield (stream, *any_lent(dice))
+    for stream, slices in slices_reported(dice):
+        yield (stream, *slices)
+    for streams in (long_reports, many_sides):
+        for stream in streams(dice):
+            yield (stream, *lent())
+
+
 CASES = {
     "index": index_cases,
     "order": order_cases,
@@ -2548,6 +2773,7 @@ CASES = {
     "write_newick": write_newick_cases,
     "read_newick": read_newick_cases,
     "replay": replay_cases,
+    "report": report_cases,
 }
 
 
@@ -2564,6 +2790,54 @@ def line_of(arguments):
     return " ".join(map(str, numbers))
 
 
+@functools.lru_cache(maxsize=None)
+def pieces_of(stored):
+    """The bytes as pieces, each with how often it stands there: one byte, five or 23 that follow each other
+    often are one piece. Five bytes have two entries of the old form, 23 have eight of the new one."""
+    pieces, plain, at = [], [], 0
+    while at < len(stored):
+        repeat, length = max(((repeats(stored, at, length), length) for length in (1, 5, 23)),
+                             key=lambda found: (found[0] - 1) * found[1])
+        if (repeat - 1) * length < 12:
+            plain.append(stored[at])
+            at += 1
+        else:
+            pieces += ([(1, plain)] if plain else []) + [(repeat, list(stored[at:at + length]))]
+            plain = []
+            at += repeat * length
+    return pieces + ([(1, plain)] if plain else [])
+
+
+def repeats(stored, at, length):
+    """How often the bytes of this length from a place on follow each other there."""
+    count = 1
+    while stored[at + count * length:at + (count + 1) * length] == stored[at:at + length]:
+        count += 1
+    return count
+
+
+def written_out(pieces):
+    return [byte for repeat, part in pieces for _ in range(repeat) for byte in part]
+
+
+def report_pieces(stream):
+    return [piece for repeat, stored in stream
+            for piece in (pieces_of(tuple(stored)) if repeat == 1 else [(repeat, stored)])]
+
+
+def report_line(arguments, before):
+    """The line of a report: how many bytes of the case before are kept in front, the pieces behind these, and
+    the slices. `before` has the pieces of the case before."""
+    pieces, same = report_pieces(arguments[0]), 0
+    while pieces[same:same + 1] == before[same:same + 1] != []:
+        same += 1
+    if len(written_out(pieces[:same])) < FEWEST_KEPT:
+        same = 0
+    numbers = [len(written_out(pieces[:same])), len(pieces) - same]
+    numbers += [number for piece in pieces[same:] for number in piece]
+    return line_of(numbers + [number for places_lent in arguments[1:] for number in places_lent])
+
+
 def longest_slice(name, kind):
     if kind in ("8", "8*"):
         return LONGEST_READ if name in READER else LONGEST_BYTES
@@ -2572,6 +2846,8 @@ def longest_slice(name, kind):
 
 def check_arguments(name, arguments):
     """Every number fits its type, and no slice is too long."""
+    if name == "report":
+        return check_report_arguments(*arguments)
     kinds = CALLS[name][1].split()
     assert len(kinds) == len(arguments), name
     for kind, argument in zip(kinds, arguments):
@@ -2584,8 +2860,36 @@ def check_arguments(name, arguments):
             assert all(0 <= element < most for element in argument), (name, argument)
 
 
+def check_report_arguments(stream, *slices):
+    """The same of a report."""
+    stored = written_out(stream)
+    assert max([len(part) for _, part in report_pieces(stream)], default=0) <= LONGEST_BYTES
+    assert len(stored) <= LONGEST_REPORT and all(0 <= byte < 256 for byte in stored), len(stored)
+    for (length, fill), bits in zip(slices, (64, 32, 64)):
+        assert length <= LONGEST_LENT and 0 <= fill < 2 ** bits, (length, fill)
+
+
+def report_answer(stream, *slices):
+    """The line of a report: the answer, and of each slice the places in front and how many hold behind them
+    what they held, which are all. The second way to the report gives the same."""
+    stored = written_out(stream)
+    given = [[fill] * length for length, fill in slices]
+    answer = law.report(stored, *given)
+    sides = answer[-5]
+    if answer[0] != 3:
+        steps, entries = law.report_by_steps(stored)
+        assert steps == answer and entries == list(zip(*[places_left[:sides] for places_left in given])), stream
+    shown = []
+    for (length, fill), places_left in zip(slices, given):
+        assert places_left[sides:] == [fill] * (length - sides), stream
+        shown += [places_left[:sides], length - sides]
+    return line_of(list(answer) + shown), answer
+
+
 def answer_line(name, arguments):
     """The line that a call's answer makes, and the answer."""
+    if name == "report":
+        return report_answer(*arguments)
     function, kinds, _ = CALLS[name]
     if name == "listing":
         texts = [program(*arguments) for program in LISTINGS.values()]
@@ -2673,6 +2977,74 @@ def check_replays(replays):
         assert count >= FEWEST_OF_EACH_REFUSAL, (number, at_event, count)
 
 
+def report_met(stream, slices, answer):
+    """What is met by a report: its refusal, its n, and what the tables read are."""
+    stored, figures = written_out(stream), law.Figures(*answer[-9:])
+    if answer[0] == 3:
+        return {(3, tuple(length < law.MOST_SIDES for length, _ in slices))}
+    met = {(answer[0], figures.images)} | tables_met(stored)
+    if answer[0] != 0:
+        met |= refused_table_met(stored[figures.used:], *answer[:2])
+    if any(length > law.MOST_SIDES for length, _ in slices):
+        met.add("more places")
+    if figures.tables == law.MOST_READ:
+        met.add("500 tables" if figures.used == len(stored) else "bytes behind 500 tables")
+    if figures.sides == law.MOST_SIDES:
+        met.add((answer[0], "1,024 far sides"))
+    return met
+
+
+def refused_table_met(stored, number, table):
+    """The form of a refused table, at the front of these bytes, its place, and whether one with 15 would get 7.
+    A table with a bad n is its header, and one that ends early is the last."""
+    form = NEW if stored[0] >= 254 else OLD
+    end = len(stored) if number == 9 else costs_length(form, 0 if number == 1 else images_of(stored))
+    met = {(number, "form", form == NEW),
+           (number, "first" if table == 1 else "last" if len(stored) == end else "middle")}
+    if number == 15:
+        n, t, _ = law.cost_table_in(stored, None)
+        met.add((15, "with 7" if law.first_failing_four(n, tuple(t)) else "wired"))
+    return met
+
+
+def tables_met(stored):
+    """What the tables are that a report reads, and what neighbours have in common."""
+    read, _ = law.tables_read(stored)
+    wired = [table.tree is not None for table in read]
+    ends = [sum(table.used for table in read[:place]) for place in range(len(read))]
+    met = {"both forms"} if len({stored[end] >= 254 for end in ends}) == 2 else set()
+    if read and any(wired):
+        first, last = wired.index(True), len(wired) - 1 - wired[::-1].index(True)
+        met |= {"7 first"} if first > 0 else set()
+        met |= {"7 last"} if last < len(wired) - 1 else set()
+        met |= {"7 between"} if not all(wired[first:last]) else set()
+    elif read:
+        met.add("7 alone")
+    trees = law.trees_of(read)
+    for tree_before, tree_after in zip(trees, trees[1:]):
+        one, two = set(tree_before), set(tree_after)
+        met.add("no far sides" if not one | two else "the same" if one == two else "one without" if not (one and two)
+                else "none in common" if not one & two else "some in common")
+    return met
+
+
+def check_reports(reports):
+    """Each refusal is met in the first, a middle and the last table, where it can be, and in both forms; with each
+    n; each slice too short; and what the tables are to be."""
+    met = {(number, n) for n in EVERY_REPORT for number in (0, 1, 4, 9, 11, 15)}
+    met |= {(number, place) for number in (1, 4, 11, 15, 19) for place in ("first", "middle", "last")}
+    met |= {(9, "first"), (9, "last"), (15, "with 7"), (15, "wired")}
+    met |= {(number, "1,024 far sides") for number in (0, 11, 15, 19)}
+    met |= {(3, (short & 1 > 0, short & 2 > 0, short & 4 > 0)) for short in range(1, 8)}
+    met |= {"7 first", "7 last", "7 between", "7 alone", "both forms", "no far sides", "the same", "one without",
+            "none in common", "some in common", "more places", "500 tables", "bytes behind 500 tables"}
+    met -= {(15, "first"), (19, "first")}
+    assert met <= set(reports), met - set(reports)
+    for number in (1, 4, 9, 11, 15):
+        for new in (False, True):
+            assert reports.get((number, "form", new), 0) >= FEWEST_IN_EACH_FORM, (number, new)
+
+
 def listing_answer(texts):
     """The numbers of the refusal that all these texts are, or 0."""
     first = texts[0].split()
@@ -2702,17 +3074,20 @@ def form_met(name, arguments, answer):
 
 def make():
     """All files by name, and what was made of each call."""
-    files, report, answers, signs, tests, sizes, replays = {}, [], [], set(), set(), set(), {}
+    files, report, answers, signs, tests, sizes, replays, reports = {}, [], [], set(), set(), set(), {}, {}
     for seed, name in enumerate(CALLS, 1):
         inputs, seen, refusals, behind, by_table, by_form = [], set(), {}, {}, set(), {}
         answers.append(name)
+        before = []
         for arguments in CASES[name](Dice(1000 * seed)):
             arguments = list(arguments)
             check_arguments(name, arguments)
-            line = line_of(arguments)
+            line = line_of(arguments) if name != "report" else report_line(arguments, [])
             if line in seen:
                 continue
             seen.add(line)
+            if name == "report":
+                line, before = report_line(arguments, before), report_pieces(arguments[0])
             inputs.append(line)
             text, answer = answer_line(name, arguments)
             answers.append(text)
@@ -2735,6 +3110,9 @@ def make():
                 words = replay_met(*arguments[:3], answer) if answer[-3] > 0 else set()
                 for met in [(arguments[0], answer[0], answer[-1] > 0)] + [(arguments[0], word) for word in words]:
                     replays[met] = replays.get(met, 0) + 1
+            if name == "report":
+                for met in report_met(arguments[0], arguments[1:], answer):
+                    reports[met] = reports.get(met, 0) + 1
             if name in OVER_SEVERAL_TABLES and answer[0] != 0:
                 by_table.add(answer[:2])
         for number in CALLS[name][2]:
@@ -2757,6 +3135,7 @@ def make():
         met += [("read_newick", number, n) for number in (0, 3, 12, 13, 22)]
         assert sizes >= set(met), (n, set(met) - sizes)
     check_replays(replays)
+    check_reports(reports)
     assert max(map(len, files.values())) <= LARGEST_FILE, {f: len(t) for f, t in files.items()}
     files["crates/cases/stdout"] = "".join(line + "\n" for line in answers).encode()
     assert len(files["crates/cases/stdout"]) <= LARGEST_ANSWERS, len(files["crates/cases/stdout"])

@@ -1,8 +1,8 @@
 #!/usr/bin/env python3
 """Every public call of document 01, and of document 02 the links that a team shares,
 the far end of the listing, the second engine of the exact reading, the larger costs
-with the new stored forms, trees as Newick text, and images that leave, written from
-their definitions.
+with the new stored forms, trees as Newick text, images that leave, and the term report,
+written from their definitions.
 
 Nothing here is taken from the crates: the words, the orders of checks and the
 numbers are the documents', and where they leave a point open, the decision noted
@@ -10,22 +10,24 @@ for the project. The code is as plain as it can be at 64 images.
 
 A call answers a tuple of numbers. The first is 0 where the call accepts, and
 the refusal number where it refuses. A refusal is (number, a, b, c, d), the four
-places with unused ones 0; comparison, consensus, batch, choice and the reading of
-two tables put the table's number behind the refusal number: (number, table, a, b,
-c, d). Where a reader stands after a call is the last number, behind a refusal too. A
-replay has three numbers more, behind a refusal too: the images and the rows that are
-left, and the event that was refused.
+places with unused ones 0; comparison, consensus, batch, choice, the reading of
+two tables and the report put the table's number behind the refusal number: (number,
+table, a, b, c, d). Where a reader stands after a call is the last number, behind a
+refusal too. A replay has three numbers more, behind a refusal too: the images and the
+rows that are left, and the event that was refused. A report has its nine figures last,
+behind a refusal too.
 
 Slices are lists of numbers. A lent output is a list that an accepted call
-writes into. A refused call alters no list, but for a replay that an event ends.
+writes into. A refused call alters no list, but for a replay that an event ends, and a
+report that a table ends.
 
     python3 tests/independent.py --self-test
 
 runs the settled examples of document 01, checks of demands 2 and 3 on tables drawn
 from a fixed seed, and what document 02 says of the links that a team shares, of the
 far end, of the second engine, which answers as the first on every table tried, of the
-two stored forms and the conversions between them, of Newick text, and of images that
-leave.
+two stored forms and the conversions between them, of Newick text, of images that
+leave, and of the term report.
 """
 
 import functools
@@ -42,6 +44,10 @@ if not __debug__:
 MOST_ENTRY = 8000000
 MOST_COST = 16000000
 MOST_TABLES = 16
+
+# A report: the tables that it reads, and the far sides that it keeps, for which it asks room.
+MOST_READ = 500
+MOST_SIDES = 1024
 
 # Newick text: brackets open at once, and the digits of a cost.
 MOST_OPEN = 62
@@ -737,6 +743,83 @@ def mended(n, rows, image):
     return sorted(joined.items())
 
 
+# The term report
+
+# A table that a report has read: its n, the bytes that it used, and the doubled cost of each inner far
+# side of its tree, None for a table that gets 7.
+TableRead = namedtuple("TableRead", "n used tree")
+
+Figures = namedtuple("Figures", "images tables accepted apart sides pairs count_sum largest_count used")
+
+
+def trees_of(read):
+    """The trees of the accepted tables. One that gets 7 is left out, so that it does not part the others."""
+    return [table.tree for table in read if table.tree is not None]
+
+
+def sides_seen(read):
+    """The inner far sides that are in some tree, ascending."""
+    return sorted({far for tree in trees_of(read) for far in tree})
+
+
+def number_of_trees(read, far):
+    return sum(1 for tree in trees_of(read) if far in tree)
+
+
+def sum_of_costs(read, far):
+    return sum(tree[far] for tree in trees_of(read) if far in tree)
+
+
+def neighbours_counts(read):
+    """The Robinson-Foulds count of each accepted table and the next accepted one."""
+    trees = trees_of(read)
+    return [len(set(tree) ^ set(after)) for tree, after in zip(trees, trees[1:])]
+
+
+def figures_of(read):
+    """The figures of a report over these tables."""
+    counts = neighbours_counts(read)
+    return Figures(images=read[0].n if read else 0,
+                   tables=len(read),
+                   accepted=len(trees_of(read)),
+                   apart=sum(1 for table in read if table.tree is None),
+                   sides=len(sides_seen(read)),
+                   pairs=len(counts),
+                   count_sum=sum(counts),
+                   largest_count=max(counts, default=0),
+                   used=sum(table.used for table in read))
+
+
+def next_table(read, stored):
+    """The table at the front of these bytes, behind those that were read: the stored cost table's own
+    refusals, then 15, then 19. A table that gets 7 brings no far side, so it gets no 19."""
+    n, t, used = cost_table_in(stored, None)
+    if read and n != read[0].n:
+        refuse(15)
+    t = tuple(t)
+    wired = first_failing_four(n, t) is None
+    inner = {far: cost for far, cost in exact_rows(n, t) if is_inner(n, far)} if wired else None
+    table = TableRead(n, used, inner)
+    if wired and len(sides_seen(read + [table])) > MOST_SIDES:
+        refuse(19)
+    return table
+
+
+def tables_read(stored):
+    """The tables that a report reads, and the refusal of the table behind them, None where the bytes end
+    there and where table 500 was read."""
+    read = []
+    while len(read) < MOST_READ:
+        rest = stored[sum(table.used for table in read):]
+        if not rest:
+            break
+        try:
+            read.append(numbered(len(read) + 1, next_table, read, rest))
+        except Refusal as refusal:
+            return read, refusal
+    return read, None
+
+
 # The public calls
 
 @call
@@ -905,6 +988,22 @@ def replay(n, t, events, fars, costs):
     return stop + (n, count, refused)
 
 
+def report(stored, fars, trees, sums):
+    """The figures of the tables read; in front of the lists each far side seen, in how many trees it is,
+    and the sum of its doubled costs. A refused table ends it, and what was read before it stands."""
+    try:
+        for out in (fars, trees, sums):
+            numbered(0, check_room, out, MOST_SIDES)
+    except Refusal as refusal:
+        return refusal.answer() + figures_of([])
+    read, refusal = tables_read(stored)
+    sides = sides_seen(read)
+    fars[:len(sides)] = sides
+    trees[:len(sides)] = [number_of_trees(read, far) for far in sides]
+    sums[:len(sides)] = [sum_of_costs(read, far) for far in sides]
+    return (refusal.answer() if refusal else (0,)) + figures_of(read)
+
+
 def written(stored, out):
     """3, or the stored bytes at the front of the output."""
     check_room(out, len(stored))
@@ -1016,6 +1115,7 @@ SAYINGS = {
     16: ("no tables or more than sixteen", None, ""),
     17: ("number above the old limits", "row and column", "ab"),
     18: ("outside the Newick profile", "byte", "a"),
+    19: ("more than 1,024 far sides in one report", None, ""),
     22: ("siblings out of order", "byte", "a"),
 }
 TEXT_BYTES = 192
@@ -1216,6 +1316,71 @@ def listing_text(n, t, rows, last_of):
     return "".join(line + "\n" for line in lines)
 
 
+# The term report in a second way
+
+class RunningReport:
+    """What a report stands at behind some tables. It has no list of them: each one more brings it up
+    to date."""
+
+    def __init__(self):
+        self.figures = dict.fromkeys(Figures._fields, 0)
+        self.entries = {}
+        self.last = None
+
+    def take(self, n, t, used):
+        """One table more, of which the second engine says whether it is wired. The number of its refusal, or
+        0; a refused one changes nothing."""
+        if self.figures["tables"] > 0 and n != self.figures["images"]:
+            return 15
+        rows = grafted_rows(n, tuple(t))
+        if rows is None:
+            self.figures["apart"] += 1
+        elif not self.take_tree({far: cost for far, cost in rows if is_inner(n, far)}):
+            return 19
+        self.figures["images"] = n
+        self.figures["tables"] += 1
+        self.figures["used"] += used
+        return 0
+
+    def take_tree(self, tree):
+        """One tree more; false, and nothing is changed, where its new far sides would be too many."""
+        fresh = sum(1 for far in tree if far not in self.entries)
+        if len(self.entries) + fresh > MOST_SIDES:
+            return False
+        for far, cost in tree.items():
+            trees, total = self.entries.get(far, (0, 0))
+            self.entries[far] = trees + 1, total + cost
+        if self.last is not None:
+            common = sum(1 for far in tree if far in self.last)
+            count = len(tree) + len(self.last) - 2 * common
+            self.figures["pairs"] += 1
+            self.figures["count_sum"] += count
+            self.figures["largest_count"] = max(self.figures["largest_count"], count)
+        self.last = tree
+        self.figures["accepted"] += 1
+        self.figures["sides"] += fresh
+        return True
+
+
+def report_by_steps(stored):
+    """The answer of a report with enough room, and its entries (far side, trees, sum): one reader takes
+    table after table, and what stands is brought up to date by each."""
+    reader, running, stop = Reader(stored), RunningReport(), (0,)
+    while stop[0] == 0 and running.figures["tables"] < MOST_READ and reader.position < 8 * len(stored):
+        out = [0] * 64 * 64
+        read = reader.take_costs(out)
+        if read[0] != 0:
+            stop = read
+        else:
+            _, n, used = read
+            number = running.take(n, out[:n * n], used)
+            stop = (number, 0, 0, 0, 0) if number else (0,)
+    if stop[0] != 0:
+        stop = stop[:1] + (running.figures["tables"] + 1,) + stop[1:]
+    entries = [(far, *running.entries[far]) for far in sorted(running.entries)]
+    return stop + tuple(running.figures.values()), entries
+
+
 # Numbers from a fixed seed, the same with every Python
 
 class Dice:
@@ -1332,6 +1497,31 @@ def random_table(dice, n, most):
 
 def random_shape(dice):
     return dice.one_of(["star", "caterpillar", "uneven", "uneven"])
+
+
+def bent(n, t):
+    """A table of the same n without a wiring: the last two images are farther from each other than
+    the way over image 1."""
+    t = list(t)
+    t[-2] = t[-n - 1] = t[n - 2] + t[n - 1] + 1
+    return t
+
+
+def trees_with_sides(dice, n, wanted):
+    """Rows of trees over n images that have so many inner far sides in all: again and again that of sixty
+    caterpillars which has the most new ones. Of the last one no more new ones are left than are wanted."""
+    seen, trees = set(), []
+
+    def fresh(fars):
+        return [far for far in fars if is_inner(n, far) and far not in seen]
+
+    while len(seen) < wanted:
+        fars = max([tree_far_sides(dice, n, "caterpillar") for _ in range(60)], key=lambda fars: len(fresh(fars)))
+        surplus = fresh(fars)[wanted - len(seen):]
+        seen |= set(fars) - set(surplus)
+        seen = {far for far in seen if is_inner(n, far)}
+        trees.append([(far, 2 * dice.between(1, 2)) for far in fars if far not in surplus])
+    return trees
 
 
 # The settled examples
@@ -1768,8 +1958,7 @@ def spoilt(n, t, fault):
     if fault == 6:
         t[-2] += 1
         return t, (6, n - 1, n, 0, 0)
-    far = t[n - 2] + t[n - 1] + 1
-    t[-2] = t[-n - 1] = far
+    t = bent(n, t)
     return t, (7, *first_failing_four(n, tuple(t)))
 
 
@@ -2459,6 +2648,165 @@ def test_replay(dice):
     assert joined > 100 and unsorted > 100, (joined, unsorted)
 
 
+def reported(stored):
+    """What a report answers, and its entries, held to the second way. Just enough room gives the same as
+    more; places behind the entries stay, and one place less in any slice is 3 and alters none."""
+    answer, entries = report_by_steps(stored)
+    for more, more2, more3 in ((0, 0, 0), (3, 0, 70)):
+        lent = [[5] * (MOST_SIDES + more), [6] * (MOST_SIDES + more2), [7] * (MOST_SIDES + more3)]
+        before = [list(places) for places in lent]
+        assert report(stored, *lent) == answer
+        assert list(zip(*[places[:len(entries)] for places in lent])) == entries
+        assert all(places[len(entries):] == old[len(entries):] for places, old in zip(lent, before))
+    for short in range(3):
+        lent = [[8] * (MOST_SIDES - (place == short)) for place in range(3)]
+        before = [list(places) for places in lent]
+        assert report(stored, *lent) == (3,) + (0,) * 14 and lent == before
+    return answer, entries
+
+
+def stored_stream(tables, form=OLD):
+    """Stored tables of one form, one after another."""
+    return [byte for n, t in tables for byte in stored_costs(n, t, form)]
+
+
+def test_report_examples():
+    """E and G are accepted, F gets 7: far side 12 is in both trees E, with cost 4 in each, and the pairs are
+    E and G, G and E, for F does not part E and G."""
+    tables = [example(name) for name in "EFGE"]
+    for form, used in ((OLD, 64), (NEW, 76)):
+        stored = stored_stream(tables, form)
+        assert reported(stored) == ((0, 4, 4, 3, 1, 1, 2, 2, 1, used), [(12, 2, 8)])
+        assert reported(stored + [6])[0] == (9, 5, 0, 0, 0, 0, 4, 4, 3, 1, 1, 2, 2, 1, used)
+    assert reported([]) == ((0,) * 10, [])
+    for name in EXAMPLES:
+        n, t = example(name)
+        stored = stored_costs(n, t)
+        inner = [(far, cost) for far, cost in MEASURED[name] if is_inner(n, far)]
+        if name in NOT_EXACT:
+            assert reported(stored * 2) == ((0, n, 2, 0, 2, 0, 0, 0, 0, 2 * len(stored)), [])
+        else:
+            assert reported(stored) == ((0, n, 1, 1, 0, len(inner), 0, 0, 0, len(stored)),
+                                        [(far, 1, cost) for far, cost in inner])
+            assert reported(stored * 3) == ((0, n, 3, 3, 0, len(inner), 2, 0, 0, 3 * len(stored)),
+                                            [(far, 3, 3 * cost) for far, cost in inner])
+    # An n other than the first table's, also of a first or a later table that gets 7; but 9 comes before it.
+    e, f, a, c = [stored_costs(*example(name)) for name in "EFAC"]
+    for first, used, kept in ((e, 16, 1), (f, 16, 0), (a, 9, 1), (c, 9, 0)):
+        n = 4 if used == 16 else 3
+        figures = (n, 1, kept, 1 - kept, int(first == e), 0, 0, 0, used)
+        for other in (a, c) if n == 4 else (e, f):
+            assert reported(first + other)[0] == (15, 2, 0, 0, 0, 0) + figures
+            assert reported(first + other[:-1])[0] == (9, 2, 0, 0, 0, 0) + figures
+
+
+def spoilt_stored(n, number, form):
+    """Bytes of a table of n images that gets this refusal, and its places. 15 is that of another n."""
+    bits = form.mark + field(7, {1: 2, 15: n - 1}.get(number, n))
+    images = n - 1 if number == 15 else n
+    bits += field(form.entry_bits, 2) * (len(pairs(images)) - 1)
+    bits += field(form.entry_bits, form.most_entry + 1 if number == 4 else 2)
+    stored = bytes_of_bits(bits)
+    if number == 11:
+        stored[-1] += 1
+    return stored[:-1] if number == 9 else stored, {1: (2,), 4: (n - 1, n)}.get(number, ())
+
+
+def test_report_refusals(dice):
+    """A refused table ends the report wherever it stands, and the figures are those of the tables before,
+    whatever stands behind; but after table 500 nothing is looked at."""
+    for n in (5, 6, 9):
+        for number in (9, 1, 11, 4, 15):
+            for form in (OLD, NEW):
+                tables = [(n, tree_table(n, tree_rows(dice, n, random_shape(dice), 9))) for _ in range(5)]
+                tables[dice.below(5)] = n, bent(n, tables[0][1])
+                bad, places = spoilt_stored(n, number, form)
+                for before in range(0 if number != 15 else 1, 6):
+                    front = stored_stream(tables[:before])
+                    behind = [] if number == 9 else stored_stream(tables[before:])
+                    figures, entries = reported(front)
+                    refused = Refusal(number, places, before + 1).answer() + figures[1:]
+                    assert reported(front + bad + behind) == (refused, entries)
+    for n, form in ((3, OLD), (4, NEW)):
+        one = stored_costs(n, table_from(n, [2] * 6), form)
+        full = reported(one * 500)
+        assert full == ((0, n, 500, 500, 0, 0, 499, 0, 0, 500 * len(one)), [])
+        for behind in ([0], one, one[:-1], [255] * 30):
+            assert reported(one * 500 + behind) == full
+            assert reported(one * 499 + behind)[0][:2] == ((9, 500) if behind == one[:-1] else
+                                                           (0, n) if behind == one else (1, 500))
+
+
+def test_report_limits(dice):
+    """1,024 far sides are kept. A tree with one more gets 19, whatever stands behind it, and counts in
+    nothing; tables with 7 and trees with old far sides go on. A sum needs more than 32 bits."""
+    n = 13
+    trees = trees_with_sides(dice, n, MOST_SIDES)
+    tables = [(n, tree_table(n, rows)) for rows in trees]
+    stored, seen = stored_stream(tables), {far for rows in trees for far, _ in rows}
+    figures, entries = reported(stored)
+    assert figures[:6] == (0, n, len(trees), len(trees), 0, MOST_SIDES)
+    assert [far for far, _, _ in entries] == sorted(far for far in seen if is_inner(n, far))
+    fresh = next(far for far in range(6, 2 ** n, 2) if is_inner(n, far) and far not in seen)
+    own = [(own_link(n, image), 2) for image in range(1, n + 1)]
+    one_more = stored_costs(n, tree_table(n, sorted(own + [(fresh, 2)])))
+    assert reported(stored + one_more + stored[:200]) == (
+        (19, len(trees) + 1, 0, 0, 0, 0) + figures[1:], entries)
+    again = stored_stream([(n, bent(n, tables[0][1])), tables[3]])
+    answer, entries_again = reported(stored + again + one_more)
+    assert answer[:11] == (19, len(trees) + 3, 0, 0, 0, 0, n, len(trees) + 2, len(trees) + 1, 1, MOST_SIDES)
+    assert sum(trees for _, trees, _ in entries_again) == sum(trees for _, trees, _ in entries) + n - 3
+    assert reported(one_more + stored)[0][:2] == (19, len(trees) + 1)
+    most = stored_costs(4, table_from(4, [0, MOST_ENTRY, MOST_ENTRY, MOST_ENTRY, MOST_ENTRY, 0]), NEW)
+    assert reported(most * 500)[1] == [(12, 500, 500 * MOST_COST)] and 500 * MOST_COST > 2 ** 32
+
+
+def stream_to_try(dice, n):
+    """Some tables of n images, a few of them the same and a few without a wiring."""
+    tables = []
+    for _ in range(dice.between(1, 8)):
+        rows = tree_rows(dice, n, random_shape(dice), dice.one_of([2, 9, 300]))
+        t = dice.one_of([t for _, t in tables] + [tree_table(n, rows)] * 4)
+        tables.append((n, bent(n, t) if dice.chance(1, 4) else t))
+    return tables
+
+
+def test_report(dice):
+    """On streams of chance: each far side's number and sum over all trees, and the counts as the comparison
+    gives them; in another order the same far sides have the same figures."""
+    for n in [3, 4, 4, 5, 5, 6, 7, 8, 9, 9, 12, 20] * 2:
+        tables = stream_to_try(dice, n)
+        answer, entries = reported(stored_stream(tables))
+        accepted = [t for _, t in tables if isinstance(read_rows(exact_grafted, n, t), list)]
+        trees = [dict(read_rows(exact_grafted, n, t)) for t in accepted]
+        sides = {far for tree in trees for far in tree if is_inner(n, far)}
+        assert entries == [(far, sum(far in tree for tree in trees), sum(tree.get(far, 0) for tree in trees))
+                           for far in sorted(sides)]
+        counts = [compare(n, t, after)[4] for t, after in zip(accepted, accepted[1:])]
+        assert answer == (0, n, len(tables), len(accepted), len(tables) - len(accepted), len(sides), len(counts),
+                          sum(counts), max(counts, default=0), len(stored_stream(tables)))
+        other, other_entries = reported(stored_stream(dice.mixed(tables)))
+        assert other_entries == entries and other[:7] + other[9:] == answer[:7] + answer[9:]
+
+
+def test_cut_report(dice):
+    """A stream that ends with a table has the figures of the tables up to there, and so has one that ends
+    inside the next; the forms change nothing but the bytes used."""
+    for n in [3, 4, 5, 5, 6, 9, 9, 12]:
+        tables = stream_to_try(dice, n)
+        parts = [stored_costs(*table, dice.one_of([OLD, NEW])) for table in tables]
+        whole = sum(parts, [])
+        answer, entries = reported(stored_stream(tables))
+        assert reported(whole) == (answer[:-1] + (len(whole),), entries)
+        for end in range(len(tables) + 1):
+            front, behind = sum(parts[:end], []), sum(parts[end:], [])
+            answer, entries = reported(front)
+            assert answer == (0,) + figures_of(tables_read(whole)[0][:end])
+            if behind:
+                cut = behind[:dice.between(1, len(parts[end]) - 1)]
+                assert reported(front + cut) == ((9, end + 1, 0, 0, 0, 0) + answer[1:], entries)
+
+
 def self_test():
     dice = Dice(1)
     tests = [
@@ -2476,6 +2824,8 @@ def self_test():
         (test_newick_examples, ()), (test_newick_refusals, ()), (test_longest_newick_text, (dice,)),
         (test_newick_places, (dice,)), (test_newick, (dice,)),
         (test_replay_examples, ()), (test_replay_start, (dice,)), (test_replay, (dice,)),
+        (test_report_examples, ()), (test_report_refusals, (dice,)), (test_report_limits, (dice,)),
+        (test_report, (dice,)), (test_cut_report, (dice,)),
     ]
     for test, arguments in tests:
         test(*arguments)
