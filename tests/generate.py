@@ -5,7 +5,8 @@
     python3 tests/generate.py --check    says whether the files are what it makes
 
 It writes crates/cases/data/CALL.txt, one case a line: the call's arguments in
-order, a slice as its length and then its elements. It writes crates/cases/stdout,
+order, a slice as its length and then its elements, but the bytes of a report in
+pieces, and its slices as length and fill. It writes crates/cases/stdout,
 for each call a line with its name and then one line a case: the numbers of the
 answer, then each lent output as the call leaves it, its length first. It writes
 tests/listing/NAME.stdin, stored bytes for both listing programs and for the one that

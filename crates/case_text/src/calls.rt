@@ -1,6 +1,6 @@
 // The calls by number. Those whose cases begin with a cost table come first, then those with a link table, those with stored bytes and a
 // position, those with the form in which they write, the choice, the calls of the reader, the text of an answer, the links that a team
-// shares, the listings, the two calls for Newick text, and the replay of images that leave.
+// shares, the listings, the two calls for Newick text, the replay of images that leave, and the term report.
 pub const INDEX: u32 = 1;
 
 pub const ORDER: u32 = 2;
@@ -54,3 +54,5 @@ pub const WRITE_NEWICK: u32 = 25;
 pub const READ_NEWICK: u32 = 26;
 
 pub const REPLAY: u32 = 27;
+
+pub const REPORT: u32 = 28;

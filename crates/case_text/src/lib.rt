@@ -59,14 +59,14 @@ pub fn number_at(text: &[u8], at: usize) -> Number {
 }
 
 // The lesser of the two.
-fn lesser(x: usize, y: usize) -> usize
+pub fn lesser(x: usize, y: usize) -> usize
     ensures { λ r. ⌜ r ≤ y ⌝ }
 {
     if x < y { x } else { y }
 }
 
 // A number as an element of 32 bits; the largest where it is too large.
-fn narrow32(x: u64) -> u32 {
+pub fn narrow32(x: u64) -> u32 {
     if x <= 4294967295 {
         x as u32
     } else {
