@@ -2656,7 +2656,8 @@ def large_reports(dice):
             yield [(1, whole[:-1])]
     rows = tree_rows(dice, 33, "uneven", 3)
     less = fewer_inner(dice, 33, even_rows(rows))
-    yield [once(33, tree_table(33, rows)), once(33, tree_table(33, less)), once(33, tree(dice, 33, 2, "caterpillar"))]
+    other = tree(dice, 33, 2, "caterpillar")
+    yield [once(33, t) for t in (tree_table(33, rows), tree_table(33, less), other)]
     yield [once(64, tree(dice, 64, 1, "uneven")), once(64, tree(dice, 64, 1, "caterpillar"))]
 
 
@@ -2688,8 +2689,9 @@ def long_reports(dice):
     a, d = stored_costs(*law.example("A")), stored_costs(*law.example("D"), NEW)
     for behind in ([], [(1, [0])], [(1, [255])], [(1, a)], [(1, e)], [(1, a[:-1])], [(30, [171])]):
         yield [(500, a)] + behind
-    for last in ([(1, d)], [(1, e)], [(1, a[:-1])], [(1, [7])], [(1, a[:-1] + [33])], [(1, [4] * 9)]):
-        yield [(499, a)] + last
+    too_much = stored_costs(3, last_entry_bad(3, OLD))
+    for last in (d, e, a[:-1], [7], a[:-1] + [33], [4] * 9, too_much):
+        yield [(499, a), (1, last)]
     yield [(501, d)]
     yield [(498, a), (3, d)]
     yield [(500, f)]
@@ -2716,7 +2718,8 @@ def many_sides(dice):
         fresh = [far for far in law.tree_far_sides(dice, n, "caterpillar") if far not in seen]
 
     def bringing(sides):
-        return tree_table(n, sorted([(own_link(n, image), 2) for image in range(1, n + 1)] + [(far, 2) for far in sides]))
+        own = [own_link(n, image) for image in range(1, n + 1)]
+        return tree_table(n, sorted((far, 2) for far in own + sides))
 
     four, five, other, six = [bringing(sides) for sides in (fresh[:4], fresh[:5], fresh[4:5], fresh)]
     plain = once(n, star(n, [1] * n))
@@ -3024,8 +3027,8 @@ def tables_met(stored):
     trees = law.trees_of(read)
     for tree_before, tree_after in zip(trees, trees[1:]):
         one, two = set(tree_before), set(tree_after)
-        met.add("no far sides" if not one | two else "the same" if one == two else "one without" if not (one and two)
-                else "none in common" if not one & two else "some in common")
+        met.add("no far sides" if not one | two else "the same" if one == two
+                else "one without" if not (one and two) else "none in common" if not one & two else "some in common")
     return met
 
 
