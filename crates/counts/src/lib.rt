@@ -26,7 +26,7 @@ fn one_inner(n: usize, s: u64) -> usize
 }
 
 // How many far sides are inner.
-fn inner_rows(n: usize, sides: &[u64]) -> usize
+pub fn inner_rows(n: usize, sides: &[u64]) -> usize
     ensures { λ r. ⌜ r ≡ length (inners n (now (sides .entry))) ⌝ }
 {
     let mut count = 0;
@@ -50,7 +50,7 @@ fn one_common(n: usize, x: u64, y: u64) -> usize
 
 // How many inner far sides are in both lists. One merge: of the two far sides in front the lesser is left behind, both where they
 // are the same.
-fn common_rows(n: usize, first: &[u64], second: &[u64]) -> usize
+pub fn common_rows(n: usize, first: &[u64], second: &[u64]) -> usize
     requires { ⌜ Between 1 (now first) (2 ^ n) × Between 1 (now second) (2 ^ n) ⌝ }
     ensures { λ r. ⌜ r ≡ length (common (inners n (now (first .entry))) (inners n (now (second .entry)))) ⌝ }
 {

@@ -9,7 +9,7 @@ use lib.ListN.{getD, length, length-set, set}
 use borrow.Author.Tests.{eqb-false, eqb-true}
 use borrow.Table.Steps.{cases}
 use Rattle.ground.specs.Ascending.{Between}
-use Rattle.ground.specs.Laws.Ascending.{between-mem}
+use Rattle.ground.specs.Laws.Ascending.{between-init, between-mem}
 use Rattle.ground.specs.Laws.Maps.{map-append, mem-map}
 use Rattle.ground.specs.Laws.Ranges.{from-last}
 use Rattle.ground.specs.Ranges.{from}
@@ -25,10 +25,6 @@ use Rattle.grafting.specs.Laws.OwnRows.{own-between}
 
 -- ## A list that ascends, place by place
 
-between-last : (m k x : ℕ) (l : List ℕ) → Between m (l ++ (x ∷ [])) k → Between m l x
-between-last m k x [] b = b .0
-between-last m k x (y ∷ l) b = (b .0, between-last (suc y) k x l (b .1))
-
 pub between-ascends : (f v : List ℕ) (count m k : ℕ) → Between m (fars (rowsIn f v count)) k → Ascends f count
 between-ascends f v count m k b = record { up = λ {i} {j} h l. go count k b i j h l }
   where
@@ -39,7 +35,7 @@ between-ascends f v count m k b = record { up = λ {i} {j} h l. go count k b i j
         let b = rw q at b in
         let b = rw (rowsIn-more f v c) at b in
         let b = rw (map-append far (rowsIn f v c) ((getD f c 0, getD v c 0) ∷ [])) at b in
-        let a = between-last m k (getD f c 0) (fars (rowsIn f v c)) b in
+        let a = between-init m k (getD f c 0) (fars (rowsIn f v c)) b in
         cases (eqb j c)
         (λ s.
         let s = eqb-true j c s in

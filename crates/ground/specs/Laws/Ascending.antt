@@ -17,6 +17,11 @@ between-append m k h [] [] p q = omega arith
 between-append m k h [] (y ∷ r) p q = (omega arith, q .1)
 between-append m k h (x ∷ l) r p q = (p .0, between-append (suc x) k h l r (p .1) q)
 
+-- what stands before the last
+pub between-init : (m k x : ℕ) (l : List ℕ) → Between m (l ++ (x ∷ [])) k → Between m l x
+between-init m k x [] b = b .0
+between-init m k x (y ∷ l) b = (b .0, between-init (suc y) k x l (b .1))
+
 pub between-map : (c m k : ℕ) (l : List ℕ) → Between m l k → Between (c + m) (map (λ x. c + x) l) (c + k)
 between-map c m k [] p = omega arith
 between-map c m k (x ∷ l) p = (omega arith, rw (← (add-suc c x)) (between-map c (suc x) k l (p .1)))

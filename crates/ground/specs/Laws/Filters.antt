@@ -62,6 +62,14 @@ module _ {A : Type 0} where
       go (inl e) = rw e p
       go (inr t) = h y t
 
+  pub each-append : (P : A → Type 0) (l m : List A) → Each l P → Each m P → Each (l ++ m) P
+  each-append P [] m p q = q
+  each-append P (x ∷ l) m p q = each-cons P x (l ++ m) (p x (List·Memᴰ·head refl)) (each-append P l m (λ y t. p y (List·Memᴰ·tail t)) q)
+
+  -- one more at the end
+  pub each-end : (P : A → Type 0) (l : List A) (x : A) → Each l P → P x → Each (l ++ (x ∷ [])) P
+  each-end P l x h p = each-append P l (x ∷ []) h (each-cons P x [] p (each-nil P))
+
 -- some element passes the test, or none does
 pub any : {A : Type 0} (p : A → Bool) (l : List A) → ((x : A) × List·Memᴰ x l × (p x ≡ true)) ⊎ Each l (λ x. p x ≡ false)
 any p [] = inr (λ x m. absurd (List·Memᴰ·not-nil m))

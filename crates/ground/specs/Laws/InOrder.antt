@@ -6,7 +6,7 @@ use Prim.Native.Nat.{suc, zero, ℕ, _<_}
 use native.Mathlib.Omega.{arith}
 use lib.Dec.{ltb}
 use Rattle.ground.specs.Filters.{Each}
-use Rattle.ground.specs.Laws.Filters.{each-cons, each-nil}
+use Rattle.ground.specs.Laws.Filters.{each-append, each-cons, each-nil}
 use Rattle.ground.specs.Laws.Steps.{decided-about, decided-join, first-in}
 use Rattle.ground.specs.Lowest.{checkAll}
 use Rattle.ground.specs.Refusals.{_then_, ifPassed, refusal, refuseIf, roomCheck}
@@ -48,10 +48,6 @@ pub room-order : (needed room : ℕ) → InOrder (3 by roomCheck needed room ∷
 room-order needed room = refuse-order (ltb room needed) (refusal 3 0 0 0 0) (omega arith)
 
 -- ## Several
-
-each-append : {A : Type 0} (P : A → Type 0) (l m : List A) → Each l P → Each m P → Each (l ++ m) P
-each-append P [] m p q = q
-each-append P (x ∷ l) m p q = each-cons P x (l ++ m) (p x (List·Memᴰ·head refl)) (each-append P l m (λ y t. p y (List·Memᴰ·tail t)) q)
 
 decided-then : (l : List Step) (d : Check) → (decided (λ k. Refused) l Passed then d) ≡ decided (λ k. Refused) l d
 decided-then [] d = refl

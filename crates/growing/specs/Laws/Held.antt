@@ -5,12 +5,12 @@ use mathlib.Core.Path.{ap, ap₂, refl, _∙_, _≡_}
 use Prim.Native.Nat.{suc, zero, ℕ, _+_, _<_, _^_, _≤_}
 use native.Mathlib.Omega.{arith}
 use lib.Dec.{eqb}
-use lib.ListN.{List·getD-append, drop, getD, length, length-take, take}
+use lib.ListN.{getD, length}
 use lib.Pow.{pow-lt}
-use lib.Seq.{getD-take}
 use borrow.Author.Tests.{eqb-false, eqb-true}
 use borrow.Table.Steps.{cases}
 use Rattle.ground.specs.Buffers.{over}
+use Rattle.ground.specs.Laws.Buffers.{over-at}
 use Rattle.growing.specs.LocalRows.{rowsIn}
 use Rattle.growing.specs.Held.{RowsHeld}
 
@@ -29,10 +29,6 @@ with-image k x add h l a =
     (λ e. omega (arith, pow-lt {i = suc k} {j = 64} (omega (arith, eqb-false k 63 e))))
 
 -- written over the first places of two other arrays
-over-at : (n i : ℕ) (s d : List ℕ) → i < n → n ≤ length s → getD (over n s d) i 0 ≡ getD s i 0
-unfolding over
-over-at n i s d h l = List·getD-append (take n s) (drop n d) 0 i (simp length-take (omega arith)) ∙ getD-take n s i 0 h
-
 rowsIn-over : (m n : ℕ) (g w f v : List ℕ) → m ≤ n → n ≤ length g → n ≤ length w → rowsIn (over n g f) (over n w v) m ≡ rowsIn g w m
 unfolding rowsIn
 rowsIn-over zero n g w f v h a b = refl

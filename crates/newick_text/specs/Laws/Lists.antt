@@ -1,7 +1,6 @@
 -- Generic laws of lists: ascending numbers, members, the rows of a table by their places. Assumes nothing.
 use mathlib.Core.Bool.{_||_}
-use mathlib.Core.List.{List, List·Memᴰ, List·Memᴰ·append-cases, List·Memᴰ·head, List·Memᴰ·tail, [], _++_, _∷_}
-use mathlib.Core.Logic.{inl, inr, _⊎_}
+use mathlib.Core.List.{List, List·Memᴰ, List·Memᴰ·head, List·Memᴰ·tail, [], _++_, _∷_}
 use mathlib.Core.Path.{ap, refl, sym, _≡_}
 use Prim.Native.Nat.{suc, zero, ℕ, _<_, _≤_}
 use native.Mathlib.Omega.{arith}
@@ -11,7 +10,7 @@ use borrow.Table.Steps.{cases}
 use Rattle.ground.specs.Ascending.{Between}
 use Rattle.ground.specs.Filters.{Each}
 use Rattle.ground.specs.Members.{isIn}
-use Rattle.ground.specs.Laws.Filters.{each-cons, each-nil}
+use Rattle.ground.specs.Laws.Filters.{each-append, each-cons, each-nil}
 use Rattle.theory.specs.LinkTables.{Row, costs, fars}
 
 -- ## Ascending numbers
@@ -33,13 +32,6 @@ is-in-append x (y ∷ l) m = let ih = is-in-append x l m in cases (eqb x y) (λ 
 pub mem-split : {A : Type 0} (x : A) (l : List A) → List·Memᴰ x l → (p : List A) × (q : List A) × (l ≡ p ++ (x ∷ q))
 mem-split {A} x (y ∷ l) (List·Memᴰ·head e) = ([], l, ap (λ (z : A). z ∷ l) (sym e))
 mem-split {A} x (y ∷ l) (List·Memᴰ·tail d) = let r = mem-split x l d in (y ∷ r .0, r .1, ap (λ (z : List A). y ∷ z) (r .2))
-
-pub each-append : {A : Type 0} (P : A → Type 0) (l m : List A) → Each l P → Each m P → Each (l ++ m) P
-each-append P l m p q x d = go (List·Memᴰ·append-cases l d)
-  where
-    go : List·Memᴰ x l ⊎ List·Memᴰ x m → P x
-    go (inl e) = p x e
-    go (inr e) = q x e
 
 pub each-one : {A : Type 0} (P : A → Type 0) (x : A) → P x → Each (x ∷ []) P
 each-one P x p = each-cons P x [] p (each-nil P)

@@ -11,7 +11,7 @@ use borrow.Table.Steps.{cases}
 use Rattle.ground.specs.Bits.{bit}
 use Rattle.ground.specs.Counts.{one-if}
 use Rattle.ground.specs.Filters.{Each}
-use Rattle.ground.specs.Laws.Filters.{each-cons, each-nil}
+use Rattle.ground.specs.Laws.Filters.{each-append, each-cons, each-nil}
 use Rattle.ground.specs.Laws.Maps.{map-append}
 use Rattle.theory.specs.FarSides.{Nested}
 use Rattle.theory.specs.LinkTables.{Row, far, fars}
@@ -19,7 +19,7 @@ use Rattle.theory.specs.Laws.Nested.{bit-holds, bit-holds-not, holds-true}
 use Rattle.links.specs.Laws.RowTests.{nested-sym}
 use Rattle.newick_text.specs.Trees.{Siblings, bracket, image, none}
 use Rattle.newick_text.specs.Tables.{imageSide, rows, side}
-use Rattle.newick_text.specs.Laws.Lists.{each-append, each-one, pairs-append}
+use Rattle.newick_text.specs.Laws.Lists.{each-one, pairs-append}
 use Rattle.newick_text.specs.Laws.Numbers.{zero-or-one}
 use Rattle.newick_text.specs.Laws.Sides.{image-bit, side-bit}
 use Rattle.newick_text.specs.Laws.Vertices.{Named, Once, behind-once, occ, once-inner, once-rest}

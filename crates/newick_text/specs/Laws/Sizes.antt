@@ -6,10 +6,9 @@ use native.Mathlib.Omega.{arith}
 use lib.ListN.{length, length-append}
 use lib.Pow.{pow-pos}
 use Rattle.ground.specs.Filters.{Each}
-use Rattle.ground.specs.Laws.Filters.{each-cons, each-nil}
+use Rattle.ground.specs.Laws.Filters.{each-append, each-cons, each-nil}
 use Rattle.newick_text.specs.Trees.{Head, Siblings, bracket, closed, image, named, none, size}
 use Rattle.newick_text.specs.Tables.{imageSide, rows, side}
-use Rattle.newick_text.specs.Laws.Lists.{each-append}
 use Rattle.newick_text.specs.Laws.Vertices.{Bushy, HeadBushy, headSide, tops}
 
 -- no far side in the rows is above all

@@ -1,0 +1,12 @@
+-- A tree merged into the entries from the back.
+pub mod Columns
+pub mod Back
+pub mod Halves
+pub mod Placing
+pub mod Steps
+-- What a tree more does to the far sides seen.
+pub mod Tally
+pub mod OneMore
+pub mod HowMany
+pub mod Which
+pub mod Sizes
