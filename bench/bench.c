@@ -1,7 +1,7 @@
 /*
- * Times the archive against plain.c, call by call, in one run: the two take turns. Both answers are compared first. Prints four
- * tables in Markdown: all calls on random trees, the measured reading on trees of every shape, both engines of the exact reading, and
- * images that leave.
+ * Times the archive against plain.c, call by call, in one run: the two take turns. Both answers are compared first. Prints five
+ * tables in Markdown: all calls on random trees, the measured reading on trees of every shape, both engines of the exact reading,
+ * images that leave, and term reports.
  */
 #include <stdio.h>
 #include <stdlib.h>
@@ -12,6 +12,7 @@
 #include "plain.h"
 #include "race.h"
 #include "replays.h"
+#include "reports.h"
 #include "shapes.h"
 #include "tables.h"
 
@@ -209,6 +210,7 @@ int main(void) {
         shapes(printing);
         engines(printing);
         replays(printing);
+        reports(printing);
     }
     return 0;
 }

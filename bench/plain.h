@@ -26,6 +26,11 @@ int plain_write_batch(size_t form, const uint32_t *ns, const uint32_t *counts, s
 int plain_read_links(const uint8_t *bytes, size_t count, size_t position, uint64_t *fars, uint32_t *costs, size_t room, size_t *n,
                      size_t *rows, size_t *used);
 int plain_choice(const uint8_t *first, size_t first_count, const uint8_t *second, size_t second_count, size_t *table, size_t *used);
+/* The figures of a term report. Where a table is refused, they and the places written are those of the tables before it. */
+typedef struct {
+    size_t table, images, tables, accepted, apart, sides, pairs, count_sum, largest_count, used;
+} PlainReport;
+int plain_report(const uint8_t *bytes, size_t count, uint64_t *fars, uint32_t *trees, uint64_t *sums, size_t room, PlainReport *r);
 int plain_write_newick(size_t n, size_t count, const uint64_t *fars, const uint32_t *costs, char *out, size_t room, size_t *used);
 /* Of a refusal it answers the place as well. */
 int plain_read_newick(const char *text, size_t count, uint64_t *fars, uint32_t *costs, size_t room, size_t *n, size_t *rows, size_t *place);

@@ -1,8 +1,8 @@
 #!/usr/bin/env bash
 # Builds the examples in C and in Fortran against the archive, runs them, and compares what they print: the first programs with
 # first.txt, the rows of the README's worked example, the divisions with division.txt, the two engines with engines.txt, the
-# conversions of a stored table with convert.txt, the Newick texts with newick.txt, the images that leave with leave.txt, and the teams
-# with expected.txt. The archive is made if it is not there.
+# conversions of a stored table with convert.txt, the Newick texts with newick.txt, the images that leave with leave.txt, the term
+# reports with term.txt, and the teams with expected.txt. The archive is made if it is not there.
 # Status 1 on a difference, 0 if all is the same or something could not be run, which is said.
 set -euo pipefail
 cd "$(dirname "$0")/.."
@@ -28,6 +28,7 @@ if [ -n "$CC" ]; then
     "$CC" -std=c11 -O2 -Wall -Wextra -Iinclude examples/c/convert.c "$archive" -o "$work/c-convert"
     "$CC" -std=c11 -O2 -Wall -Wextra -Iinclude examples/c/newick.c "$archive" -o "$work/c-newick"
     "$CC" -std=c11 -O2 -Wall -Wextra -Iinclude examples/c/leave.c "$archive" -o "$work/c-leave"
+    "$CC" -std=c11 -O2 -Wall -Wextra -Iinclude examples/c/term.c "$archive" -o "$work/c-term"
     "$CC" -std=c11 -O2 -Wall -Wextra -Iinclude examples/c/team.c "$archive" -o "$work/c-team"
     run c-first first.txt
     run c-division division.txt
@@ -35,6 +36,7 @@ if [ -n "$CC" ]; then
     run c-convert convert.txt
     run c-newick newick.txt
     run c-leave leave.txt
+    run c-term term.txt
     run c-team expected.txt
 else
     not_run "the C example" "no C compiler for x86-64"
@@ -51,6 +53,7 @@ if [ -n "$FC" ]; then
     "$FC" -std=f2018 -O2 -Wall -Wextra -J "$work" examples/fortran/newick.f90 "$work/kemotuiki.o" "$archive" \
         -o "$work/fortran-newick"
     "$FC" -std=f2018 -O2 -Wall -Wextra -J "$work" examples/fortran/leave.f90 "$work/kemotuiki.o" "$archive" -o "$work/fortran-leave"
+    "$FC" -std=f2018 -O2 -Wall -Wextra -J "$work" examples/fortran/term.f90 "$work/kemotuiki.o" "$archive" -o "$work/fortran-term"
     "$FC" -std=f2018 -O2 -Wall -Wextra -J "$work" examples/fortran/{network,team}.f90 "$work/kemotuiki.o" "$archive" \
         -o "$work/fortran-team"
     run fortran-first first.txt
@@ -59,6 +62,7 @@ if [ -n "$FC" ]; then
     run fortran-convert convert.txt
     run fortran-newick newick.txt
     run fortran-leave leave.txt
+    run fortran-term term.txt
     run fortran-team expected.txt
 else
     not_run "the Fortran example" "no Fortran compiler for x86-64"

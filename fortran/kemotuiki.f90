@@ -1,8 +1,8 @@
 ! Kemotuiki for Fortran: relay trees from link costs. The calls of kemotuiki.h by the same names, with arrays for its slices. What a
 ! call answers, its refusals and the room that it needs are in kemotuiki.h. Fortran 2008 and later.
 !
-! Each call answers a type of its own. Values are there only where it was accepted, of a replay also where an event was refused, and
-! r%text() says why it was refused:
+! Each call answers a type of its own. Values are there only where it was accepted, of a replay also where an event was refused, of a
+! term report also where a table was, and r%text() says why it was refused:
 !
 !     r = kemotuiki_exact(t, fars, costs)
 !     if (r%accepted()) then
@@ -12,8 +12,8 @@
 !     end if
 !
 ! A cost table has rank 2: t(i, j) is the entry in row i and column j. The tables of a team have rank 3: tables(:, :, k) is table k.
-! Entries, costs, images, rows and counts are default integers, 32 bits in arrays; far sides are integer(int64), stored bytes
-! integer(int8). The events of a replay, which are images, are default integers or bytes.
+! Entries, costs, images, rows and counts are default integers, 32 bits in arrays; far sides and the sums of a term report are
+! integer(int64), stored bytes integer(int8). The events of a replay, which are images, are default integers or bytes.
 !
 ! What writes stored bytes is told the form first: kemotuiki_old_form, for entries to 1,000,000 and doubled costs to 2,000,000, which
 ! every version reads; or kemotuiki_new_form, for every table. What reads them takes both.
@@ -31,8 +31,8 @@ module kemotuiki
     private
 
     ! The version, as the file VERSION has it.
-    character(*), parameter, public :: kemotuiki_version = '3.2.0'
-    integer, parameter, public :: kemotuiki_version_major = 3, kemotuiki_version_minor = 2, kemotuiki_version_patch = 0
+    character(*), parameter, public :: kemotuiki_version = '3.3.0'
+    integer, parameter, public :: kemotuiki_version_major = 3, kemotuiki_version_minor = 3, kemotuiki_version_patch = 0
 
     ! Room that is enough for every n: images, rows of a tree, bytes of a stored table in either form, and in the old form alone; the
     ! tables of a team; characters of a Newick text; and bytes of a refusal's text.
@@ -41,6 +41,9 @@ module kemotuiki
     integer, parameter, public :: kemotuiki_old_cost_bytes = 5041, kemotuiki_old_link_bytes = 1315
     integer, parameter, public :: kemotuiki_newick_bytes = 1432
     integer, parameter :: text_bytes = 192
+
+    ! The places that a term report needs in each of its arrays, which are the far sides that it keeps at most; and its most tables.
+    integer, parameter, public :: kemotuiki_report_sides = 1024, kemotuiki_report_tables = 500
 
     ! The largest entry of a cost table, and the largest that the old stored form takes. A doubled cost is at most twice as much.
     integer, parameter, public :: kemotuiki_entry_limit = 8000000, kemotuiki_old_entry_limit = 1000000
@@ -69,6 +72,7 @@ module kemotuiki
         kemotuiki_bad_table_count = 16, &
         kemotuiki_above_old_limits = 17, &
         kemotuiki_outside_profile = 18, &
+        kemotuiki_too_many_sides = 19, &
         kemotuiki_siblings_out_of_order = 22
 
     ! What all answers begin with: the refusal's number or 0, the table that was refused in calls that take more than one, and the
@@ -117,11 +121,17 @@ module kemotuiki
     type, extends(kemotuiki_answer), public :: kemotuiki_replay_answer
         integer :: images, rows, event
     end type
+    ! What kemotuiki.h calls accepted is accepted_tables here, since accepted() is there already: whether no table was refused.
+    type, extends(kemotuiki_answer), public :: kemotuiki_report_answer
+        integer :: images, tables, accepted_tables, apart, sides, pairs, count_sum, largest_count
+        integer(int64) :: used
+    end type
 
     public :: kemotuiki_index, kemotuiki_order, kemotuiki_measured, kemotuiki_exact, kemotuiki_exact_grafted, kemotuiki_path
     public :: kemotuiki_upper_rows, kemotuiki_route, kemotuiki_compare, kemotuiki_consensus, kemotuiki_write_costs
     public :: kemotuiki_read_costs, kemotuiki_write_links, kemotuiki_read_links, kemotuiki_write_batch, kemotuiki_choice
     public :: kemotuiki_convert_costs, kemotuiki_convert_links, kemotuiki_write_newick, kemotuiki_read_newick, kemotuiki_replay
+    public :: kemotuiki_report
 
     ! Far sides and bit positions may be of either kind. A far side that holds image 32 or a later one needs int64: as a default integer
     ! it would be negative, or not fit.
@@ -156,6 +166,9 @@ module kemotuiki
     end type
     type, bind(c) :: five_values
         integer(word) :: head(6), values(5)
+    end type
+    type, bind(c) :: nine_values
+        integer(word) :: head(6), values(9)
     end type
 
     abstract interface
@@ -296,6 +309,15 @@ module kemotuiki
             integer(word), value :: first_count, second_count
             integer(c_int8_t), intent(in) :: first(*), second(*)
             type(two_values) :: r
+        end function
+        function c_report(bytes, bytes_count, fars, fars_count, trees, trees_count, sums, sums_count) result(r) &
+            bind(c, name='kemotuiki_report')
+            import
+            integer(word), value :: bytes_count, fars_count, trees_count, sums_count
+            integer(c_int8_t), intent(in) :: bytes(*)
+            integer(c_int64_t), intent(inout) :: fars(*), sums(*)
+            integer(c_int32_t), intent(inout) :: trees(*)
+            type(nine_values) :: r
         end function
         function c_write_newick(n, count, fars, fars_count, costs, costs_count, out, out_count) result(r) &
             bind(c, name='kemotuiki_write_newick')
@@ -517,6 +539,24 @@ contains
         integer(int32), intent(inout) :: t(:, :)
         type(kemotuiki_costs_answer) :: r
         r = read_costs_int64(bytes, int(position, int64), t)
+    end function
+
+    ! The term report over the stored cost tables in bytes, each in either form, one after another: every inner far side that some tree
+    ! has, ascending, into fars, in how many trees it is into trees, and the sum of its doubled costs into sums. A mean is two whole
+    ! numbers: sums(k) over trees(k), r%count_sum over r%pairs. Where a table is refused, r%table is its number, and the figures and
+    ! places are those of the tables before it.
+    function kemotuiki_report(bytes, fars, trees, sums) result(r)
+        integer(int8), intent(in), contiguous :: bytes(:)
+        integer(int64), intent(inout), contiguous :: fars(:), sums(:)
+        integer(int32), intent(inout), contiguous :: trees(:)
+        type(kemotuiki_report_answer) :: r
+        type(nine_values) :: c
+        c = c_report(bytes, size(bytes, kind=word), fars, size(fars, kind=word), trees, size(trees, kind=word), &
+                     sums, size(sums, kind=word))
+        r = kemotuiki_report_answer(kemotuiki_answer=head(c%head), images=int(c%values(1)), tables=int(c%values(2)), &
+                                    accepted_tables=int(c%values(3)), apart=int(c%values(4)), sides=int(c%values(5)), &
+                                    pairs=int(c%values(6)), count_sum=int(c%values(7)), largest_count=int(c%values(8)), &
+                                    used=c%values(9))
     end function
 
     ! ---- the calls on link tables ----

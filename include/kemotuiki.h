@@ -20,11 +20,11 @@
  * A slice that is written overlaps no other slice of the call, which restrict says; slices that are only read may overlap.
  * Nothing is allocated and nothing is kept between calls, so calls on different buffers may run at the same time.
  *
- * A refused call alters no lent place; a replay alone has written its rows also where an event was refused. A call writes only the
- * places that its answer names, from the front.
+ * A refused call alters no lent place, with two exceptions: a replay has written its rows also where an event was refused, and a term
+ * report its far sides also where a table was refused. A call writes only the places that its answer names, from the front.
  *
- * Single numbers are size_t, far sides 64 bits, stored bytes and events 8 bits, text is char. All other slices hold 32 bits, the batch's
- * numbers of images and of rows as well, so that default integers of Fortran cross as they are.
+ * Single numbers are size_t, far sides and the sums of a term report 64 bits, stored bytes and events 8 bits, text is char. All other
+ * slices hold 32 bits, the batch's numbers of images and of rows as well, so that default integers of Fortran cross as they are.
  *
  * The header is C89 with <stdint.h>, later C, and C++.
  */
@@ -35,9 +35,9 @@
 #include <stdint.h>
 
 /* The version, as the file VERSION has it. */
-#define KEMOTUIKI_VERSION "3.2.0"
+#define KEMOTUIKI_VERSION "3.3.0"
 #define KEMOTUIKI_VERSION_MAJOR 3
-#define KEMOTUIKI_VERSION_MINOR 2
+#define KEMOTUIKI_VERSION_MINOR 3
 #define KEMOTUIKI_VERSION_PATCH 0
 
 /*
@@ -53,6 +53,10 @@
 #define KEMOTUIKI_TABLES 16
 #define KEMOTUIKI_NEWICK_BYTES 1432
 #define KEMOTUIKI_TEXT_BYTES 192
+
+/* The places that a term report needs in each of its slices, which are the far sides that it keeps at most; and its most tables. */
+#define KEMOTUIKI_REPORT_SIDES 1024
+#define KEMOTUIKI_REPORT_TABLES 500
 
 /* The largest entry of a cost table, and the largest that the old stored form takes. A doubled cost is at most twice as much. */
 #define KEMOTUIKI_ENTRY_LIMIT 8000000
@@ -99,6 +103,7 @@ enum KemotuikiNumber {
     KEMOTUIKI_BAD_TABLE_COUNT = 16,  /* no tables or more than sixteen */
     KEMOTUIKI_ABOVE_OLD_LIMITS = 17, /* number above the old limits, so not for the old form: row, and column of a cost table */
     KEMOTUIKI_OUTSIDE_PROFILE = 18,  /* outside the Newick profile: byte, the length plus one where the text ends too early */
+    KEMOTUIKI_TOO_MANY_SIDES = 19,   /* more than 1,024 far sides in one report */
     KEMOTUIKI_SIBLINGS_OUT_OF_ORDER = 22 /* siblings of a Newick text out of order: byte */
 };
 
@@ -111,8 +116,8 @@ enum KemotuikiForm {
 /*
  * What the calls answer. All structs begin alike: number is 0 where the call was accepted, else the refusal's number; table is
  * the table that was refused, in calls that take more than one, else 0; a, b, c, d are the refusal's places. Behind them stand
- * the values of an accepted call, 0 in a refusal; a replay alone has values also where an event was refused. There is no padding,
- * and the same answer always is the same bytes.
+ * the values of an accepted call, 0 in a refusal; a replay alone has values also where an event was refused, and a term report where
+ * a table was. There is no padding, and the same answer always is the same bytes.
  */
 
 /* The index of a division, a signed number: what all choices of images support, or below 0 how far one speaks against it. */
@@ -187,6 +192,17 @@ typedef struct KemotuikiReplay {
     size_t images, rows, event;
 } KemotuikiReplay;
 
+/*
+ * The figures of a term report over the tables that were read, those before a refused one: n of the first of them, 0 where there is
+ * none; how many there are, how many of them have a tree, and how many got 7; the inner far sides seen, of which so many are written;
+ * the pairs of a tree and the next tree; over these pairs the sum and the largest of the Robinson-Foulds counts; and the bytes of all
+ * tables read. The mean of the counts is count_sum / pairs, two whole numbers; both are 0 where there are fewer than two trees.
+ */
+typedef struct KemotuikiReport {
+    size_t number, table, a, b, c, d;
+    size_t images, tables, accepted, apart, sides, pairs, count_sum, largest_count, used;
+} KemotuikiReport;
+
 KEMOTUIKI_ASSERT(kemotuiki_words_of_64_bits, sizeof(size_t) == 8);
 KEMOTUIKI_ASSERT(kemotuiki_index_size, sizeof(KemotuikiIndex) == 56);
 KEMOTUIKI_ASSERT(kemotuiki_order_size, sizeof(KemotuikiOrder) == 56);
@@ -199,6 +215,7 @@ KEMOTUIKI_ASSERT(kemotuiki_links_size, sizeof(KemotuikiLinks) == 72);
 KEMOTUIKI_ASSERT(kemotuiki_choice_size, sizeof(KemotuikiChoice) == 64);
 KEMOTUIKI_ASSERT(kemotuiki_tree_size, sizeof(KemotuikiTree) == 64);
 KEMOTUIKI_ASSERT(kemotuiki_replay_size, sizeof(KemotuikiReplay) == 72);
+KEMOTUIKI_ASSERT(kemotuiki_report_size, sizeof(KemotuikiReport) == 120);
 
 /*
  * The index of the division with the far side s. Above 0, all choices of images support the division, by at least so much, and the
@@ -372,6 +389,23 @@ KemotuikiBytes kemotuiki_write_batch(size_t form, const uint32_t *ns, size_t ns_
  * table 0.
  */
 KemotuikiChoice kemotuiki_choice(const uint8_t *first, size_t first_count, const uint8_t *second, size_t second_count);
+
+/*
+ * The term report: stored cost tables of one n, each in a form of its own, read one after another from the front of bytes. It ends
+ * where the bytes end, exactly there, since one byte more is the next table; or after KEMOTUIKI_REPORT_TABLES tables, where what
+ * follows is not looked at. A table without a tree, which the exact reading refuses by 7, is counted apart and does not end it: the
+ * trees on its two sides are a pair. No bytes give a report of zeros.
+ * Answers the figures, and writes in ascending order each inner far side that some tree has to fars, in how many trees it is to trees,
+ * and the sum of its doubled costs to sums: its mean cost, doubled, is sums[k] / trees[k], two whole numbers and never a rounded one.
+ * Room: KEMOTUIKI_REPORT_SIDES places in each of the three, also where fewer are written. Refusals 3 with table 0, where nothing is
+ * altered and all figures are 0; then table by table, with its number, 9, 1, 9, 11, 4 as of kemotuiki_read_costs; 15, an n other than
+ * that of the first table; 19, where more far sides would be kept than there are places for. The first table that is refused ends the
+ * report: it counts in nothing, and the figures and the places written are those of the tables before it, as in an accepted call.
+ */
+KemotuikiReport kemotuiki_report(const uint8_t *bytes, size_t bytes_count,
+                                 uint64_t *KEMOTUIKI_RESTRICT fars, size_t fars_count,
+                                 uint32_t *KEMOTUIKI_RESTRICT trees, size_t trees_count,
+                                 uint64_t *KEMOTUIKI_RESTRICT sums, size_t sums_count);
 
 /*
  * The Newick text of the link table of count rows.

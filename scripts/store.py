@@ -7,6 +7,8 @@
 
 A first argument that is a number is N; a file of such a name is given as ./4.
 
+Stored tables of either form stand one after another for a term report, kemotuiki_report: cat week1 week2 week3 > term
+
 F is old or new. The old form is for costs to 1,000,000, and it is written where nothing is said, since programs before
 version 3 read no other; the new form is for costs to 8,000,000. A matrix is printed of either.
 

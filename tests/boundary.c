@@ -3,9 +3,10 @@
  * exported. Every lent buffer stands between guard bytes, which are compared after the call, and every input is compared with
  * a copy. Each case of the exact reading is read by both its engines, which must answer and leave the same; what a conversion wrote is
  * converted once more, to the form that it has, and must stay; a Newick text that was written is read and one that was read is written,
- * and must be the same; the rows that a replay leaves must be those that the cost table of the images left is read as. boundary --edges
- * tries null pointers with count 0, numbers too large for anything, the longest stored tables and Newick text, Newick texts and replays
- * that were written by hand, the longest replays, and the text of every answer.
+ * and must be the same; the rows that a replay leaves must be those that the cost table of the images left is read as; a term report and
+ * those of its first tables must be what single calls give, table by table. boundary --edges tries null pointers with count 0, numbers too
+ * large for anything, the longest stored tables and Newick text, Newick texts, replays and term reports that were written by hand, the
+ * longest replays, the most tables and far sides of a term report, and the text of every answer.
  */
 #include <errno.h>
 #include <stdio.h>
@@ -16,6 +17,7 @@
 
 #define GUARD 64
 #define LINE 150000
+#define STREAM 3000000
 
 static int faults;
 static const char *call_name = "";
@@ -101,6 +103,30 @@ static uint8_t *read8(Lent *l) {
     for (size_t i = 0; i < count; i++) p[i] = (uint8_t)number();
     keep(l);
     return p;
+}
+
+static uint8_t *lend_bytes(Lent *l, const uint8_t *bytes, size_t count) {
+    uint8_t *p = memcpy(lend(l, count, 1), bytes, count);
+    keep(l);
+    return p;
+}
+
+/* How many bytes of the line before are kept, and pieces, each so many times, behind them. */
+static uint8_t *read_stream(Lent *l) {
+    static uint8_t joined[STREAM];
+    size_t count = number();
+    for (size_t pieces = number(); pieces > 0; pieces--) {
+        Lent lp;
+        size_t times = number();
+        uint8_t *piece = read8(&lp);
+        if (count > STREAM || times > STREAM || times * lp.count > STREAM - count) {
+            fprintf(stderr, "%s: a stream that is too long\n", call_name);
+            exit(2);
+        }
+        for (; times > 0; times--, count += lp.count) memcpy(joined + count, piece, lp.count);
+        settle(&lp, 0);
+    }
+    return lend_bytes(l, joined, count);
 }
 
 /* ---- printing an answer and the lent outputs ---- */
@@ -363,6 +389,179 @@ static void do_replay(void) {
     settle(&le, 0);
 }
 
+/* ---- term reports ---- */
+
+/* The room of a term report, as the six arguments that it is: far sides, in how many trees each is, and the sums of its costs. */
+typedef struct {
+    Lent lf, lt, ls;
+    uint64_t *fars, *sums;
+    uint32_t *trees;
+} Sides;
+
+#define SIDES(w) (w).fars, (w).lf.count, (w).trees, (w).lt.count, (w).sums, (w).ls.count
+
+static uint64_t *filled64(Lent *l, size_t count, uint64_t fill) {
+    uint64_t *p = lend(l, count, 8);
+    for (size_t i = 0; i < count; i++) p[i] = fill;
+    keep(l);
+    return p;
+}
+
+static uint32_t *filled32(Lent *l, size_t count, uint32_t fill) {
+    uint32_t *p = lend(l, count, 4);
+    for (size_t i = 0; i < count; i++) p[i] = fill;
+    keep(l);
+    return p;
+}
+
+/* Each of the three as its length and what all its places hold. */
+static void read_sides(Sides *w) {
+    size_t count = number();
+    w->fars = filled64(&w->lf, count, number());
+    count = number();
+    w->trees = filled32(&w->lt, count, (uint32_t)number());
+    count = number();
+    w->sums = filled64(&w->ls, count, number());
+}
+
+static void lend_sides(Sides *w, size_t fars_count, size_t trees_count, size_t sums_count) {
+    w->fars = filled64(&w->lf, fars_count, 7);
+    w->trees = filled32(&w->lt, trees_count, 8);
+    w->sums = filled64(&w->ls, sums_count, 9);
+}
+
+static void settle_sides(Sides *w, size_t written) {
+    settle(&w->lf, written * 8);
+    settle(&w->lt, written * 4);
+    settle(&w->ls, written * 8);
+}
+
+/* How many places behind those written are as they were. */
+static void show_kept(const Lent *l, size_t written, size_t width) {
+    size_t kept = 0;
+    for (size_t at = written * width; at < l->bytes; at += width) kept += !memcmp(l->copy + at, l->block + GUARD + at, width);
+    printf(" %zu", kept);
+}
+
+static void show_sides(Sides *w, size_t written) {
+    show64(w->fars, written);
+    show_kept(&w->lf, written, 8);
+    show32(w->trees, written);
+    show_kept(&w->lt, written, 4);
+    show64(w->sums, written);
+    show_kept(&w->ls, written, 8);
+    settle_sides(w, written);
+}
+
+/* A term report by single calls, table by table, with room for the far sides of one table too many; before is the last table that has
+ * a tree. */
+typedef struct {
+    KemotuikiReport r;
+    uint64_t fars[KEMOTUIKI_REPORT_SIDES + KEMOTUIKI_ROWS], sums[KEMOTUIKI_REPORT_SIDES + KEMOTUIKI_ROWS];
+    uint32_t trees[KEMOTUIKI_REPORT_SIDES + KEMOTUIKI_ROWS], before[KEMOTUIKI_IMAGES * KEMOTUIKI_IMAGES];
+} Term;
+
+static int same_report(const Term *m, KemotuikiReport r, const Sides *w) {
+    size_t sides = r.sides;
+    return !memcmp(&m->r, &r, sizeof r) && sides <= w->lf.count && sides <= w->lt.count && sides <= w->ls.count &&
+           !memcmp(m->fars, w->fars, sides * 8) && !memcmp(m->trees, w->trees, sides * 4) && !memcmp(m->sums, w->sums, sides * 8);
+}
+
+/* One far side of one tree, put among those before it. */
+static void see_side(Term *m, uint64_t far, uint32_t cost) {
+    size_t k = 0, behind;
+    while (k < m->r.sides && m->fars[k] < far) k++;
+    if (k == m->r.sides || m->fars[k] != far) {
+        behind = m->r.sides++ - k;
+        memmove(m->fars + k + 1, m->fars + k, behind * sizeof *m->fars);
+        memmove(m->trees + k + 1, m->trees + k, behind * sizeof *m->trees);
+        memmove(m->sums + k + 1, m->sums + k, behind * sizeof *m->sums);
+        m->fars[k] = far, m->trees[k] = 0, m->sums[k] = 0;
+    }
+    m->trees[k]++, m->sums[k] += cost;
+}
+
+/* A table that has this tree: its inner far sides, and the pair that it is with the last one. */
+static void see_tree(Term *m, size_t n, const uint32_t *t, size_t rows, const uint64_t *fars, const uint32_t *costs) {
+    for (size_t k = 0; k < rows; k++) {
+        size_t ones = 0;
+        for (size_t i = 0; i < n; i++) ones += fars[k] >> i & 1;
+        if (ones > 1 && ones < n - 1) see_side(m, fars[k], costs[k]);
+    }
+    if (m->r.accepted++) {
+        KemotuikiComparison both = kemotuiki_compare(n, m->before, n * n, t, n * n);
+        m->r.pairs++, m->r.count_sum += both.count;
+        if (m->r.largest_count < both.count) m->r.largest_count = both.count;
+    }
+    memcpy(m->before, t, n * n * sizeof *t);
+}
+
+/* The table is refused, and the report of those before it stands. */
+static int end_report(Term *m, size_t number, size_t a, size_t b) {
+    m->r.number = number, m->r.table = m->r.tables + 1, m->r.a = a, m->r.b = b;
+    return 0;
+}
+
+/* The next table of these bytes; 0 if it is refused. */
+static int next_table(Term *m, const uint8_t *bytes, size_t count) {
+    static uint32_t t[KEMOTUIKI_IMAGES * KEMOTUIKI_IMAGES], costs[KEMOTUIKI_ROWS];
+    static uint64_t fars[KEMOTUIKI_ROWS];
+    static Term old;
+    KemotuikiCosts c = kemotuiki_read_costs(bytes, count, 8 * m->r.used, t, sizeof t / sizeof *t);
+    if (c.number) return end_report(m, c.number, c.a, c.b);
+    if (m->r.tables && c.n != m->r.images) return end_report(m, KEMOTUIKI_DIFFERENT_N, 0, 0);
+    KemotuikiRows tree = kemotuiki_exact_grafted(c.n, t, c.n * c.n, fars, KEMOTUIKI_ROWS, costs, KEMOTUIKI_ROWS);
+    old = *m;
+    m->r.images = c.n, m->r.tables++, m->r.used += c.used;
+    if (tree.number) m->r.apart++;
+    else see_tree(m, c.n, t, tree.rows, fars, costs);
+    if (m->r.sides <= KEMOTUIKI_REPORT_SIDES) return 1;
+    *m = old;
+    return end_report(m, KEMOTUIKI_TOO_MANY_SIDES, 0, 0);
+}
+
+/* The report over no more bytes than these tables have, in just enough room. */
+static void hold_first_tables(const Term *m, const uint8_t *bytes) {
+    Lent lb;
+    Sides w;
+    const uint8_t *first = lend_bytes(&lb, bytes, m->r.used);
+    lend_sides(&w, KEMOTUIKI_REPORT_SIDES, KEMOTUIKI_REPORT_SIDES, KEMOTUIKI_REPORT_SIDES);
+    KemotuikiReport r = kemotuiki_report(m->r.used ? first : NULL, m->r.used, SIDES(w));
+    if (!same_report(m, r, &w)) fault("the report of the first tables is not what single calls give");
+    settle_sides(&w, r.sides);
+    settle(&lb, 0);
+}
+
+/* A report is what single calls give, and so are those of its first tables, of up to twenty. */
+static void hold_report(const uint8_t *bytes, size_t count, KemotuikiReport r, const Sides *w) {
+    static Term m;
+    memset(&m, 0, sizeof m);
+    if (w->lf.count < KEMOTUIKI_REPORT_SIDES || w->lt.count < KEMOTUIKI_REPORT_SIDES || w->ls.count < KEMOTUIKI_REPORT_SIDES)
+        m.r.number = KEMOTUIKI_NO_ROOM;
+    else
+        do {
+            if (m.r.tables <= 20) hold_first_tables(&m, bytes);
+        } while (m.r.used < count && m.r.tables < KEMOTUIKI_REPORT_TABLES && next_table(&m, bytes, count));
+    if (!same_report(&m, r, w)) fault("the report is not what single calls give");
+}
+
+/* The values stand beside the refusal of a table, which ends the report. */
+static void do_report(void) {
+    Lent lb;
+    Sides w;
+    uint8_t *bytes = read_stream(&lb);
+    read_sides(&w);
+    KemotuikiReport r = kemotuiki_report(bytes, lb.count, SIDES(w));
+    SHOW_HEAD(r, 1);
+    printf(" %zu %zu %zu %zu %zu", r.images, r.tables, r.accepted, r.apart, r.sides);
+    printf(" %zu %zu %zu %zu", r.pairs, r.count_sum, r.largest_count, r.used);
+    hold_report(bytes, lb.count, r, &w);
+    show_sides(&w, r.sides);
+    settle(&lb, 0);
+}
+
+/* ---- stored tables and Newick text ---- */
+
 static void do_write_costs(void) {
     Lent lt, lo;
     size_t form = number(), n = number();
@@ -511,7 +710,7 @@ static const struct {
     {"write_batch", do_write_batch}, {"choice", do_choice},       {"refusal_text", do_refusal_text},
     {"consensus", do_consensus},   {"exact_grafted", do_exact_grafted}, {"convert_costs", do_convert_costs},
     {"convert_links", do_convert_links}, {"write_newick", do_write_newick}, {"read_newick", do_read_newick},
-    {"replay", do_replay},
+    {"replay", do_replay},         {"report", do_report},
 };
 
 static int cases(const char *folder) {
@@ -545,7 +744,7 @@ static int cases(const char *folder) {
     } while (0)
 
 static void expect(const char *name, const void *answer, size_t size, size_t want, size_t place, size_t table) {
-    size_t words[11], wanted[11] = {want, table, place};
+    size_t words[15], wanted[15] = {want, table, place};
     call_name = name;
     memcpy(words, answer, size * sizeof(size_t));
     if (memcmp(words, wanted, size * sizeof(size_t))) {
@@ -605,6 +804,7 @@ static void no_places(void) {
         EXPECT(KemotuikiRows, consensus, (n, KEMOTUIKI_TABLES, NULL, 0, NULL, 0, NULL, 0), KEMOTUIKI_BAD_LENGTH, 0, 0);
         EXPECT(KemotuikiReplay, replay, (n, NULL, 0, NULL, 0, NULL, 0, NULL, 0), KEMOTUIKI_BAD_LENGTH, 0, 0);
     }
+    EXPECT(KemotuikiReport, report, (NULL, 0, NULL, 0, NULL, 0, NULL, 0), KEMOTUIKI_NO_ROOM, 0, 0);
 }
 
 /* Numbers of tables that no team has; with 4 images and some of them the number of entries would be 0 or 16 after an overflow. */
@@ -858,6 +1058,181 @@ static void longest_replays(void) {
     }
 }
 
+/* ---- term reports by hand ---- */
+
+/*
+ * Cost tables by a letter, in the old form, and by the small letter in the new one. A to G are those of document 01; H and I are E with
+ * images 2 and 4, or 2 and 3, on one side. X is A with an entry that has all its upper bits.
+ */
+static const struct {
+    char letter;
+    size_t n;
+    uint32_t entries[6];
+} lettered[] = {
+    {'A', 3, {1, 1, 1}},          {'C', 3, {1, 1, 3}},          {'D', 3, {1, 1, 2}},
+    {'E', 4, {2, 4, 4, 4, 4, 2}}, {'F', 4, {2, 3, 4, 4, 4, 2}}, {'G', 4, {2, 2, 2, 2, 2, 2}},
+    {'H', 4, {4, 2, 4, 4, 2, 4}}, {'I', 4, {4, 4, 2, 2, 4, 4}}, {'X', 3, {1, 1, 1}},
+};
+
+/* The stored table of a letter, at the end of so many bytes; how many there are then. */
+static size_t put_letter(char letter, uint8_t *bytes, size_t count) {
+    uint32_t t[16] = {0};
+    size_t k = 0, e = 0, form = letter >= 'a' ? KEMOTUIKI_NEW_FORM : KEMOTUIKI_OLD_FORM;
+    while ((lettered[k].letter ^ letter) & 31) k++;
+    size_t n = lettered[k].n;
+    for (size_t i = 0; i < n; i++)
+        for (size_t j = i + 1; j < n; j++) t[i * n + j] = t[j * n + i] = lettered[k].entries[e++];
+    size_t used = kemotuiki_write_costs(form, n, t, n * n, bytes + count, 32).used;
+    if (lettered[k].letter == 'X' && form) bytes[count + 4] |= 0x07, bytes[count + 5] = 0xFF;
+    if (lettered[k].letter == 'X' && !form) bytes[count + 3] |= 0x1F;
+    return count + used;
+}
+
+/* Letters are stored tables; - takes the last byte away, + sets its last bit, . is a byte of n 0, and ? one of 127 alone. */
+static size_t put_stream(const char *stream, uint8_t *bytes) {
+    size_t count = 0;
+    for (; *stream; stream++) {
+        if (*stream == '-') count--;
+        else if (*stream == '+') bytes[count - 1] |= 1;
+        else if (*stream == '.') bytes[count++] = 0;
+        else if (*stream == '?') bytes[count++] = 254;
+        else count = put_letter(*stream, bytes, count);
+    }
+    return count;
+}
+
+/* Streams, and what is answered to each; then the far sides seen, in how many trees each is, and the sums. */
+static const struct {
+    const char *stream;
+    KemotuikiReport r;
+    uint64_t fars[3];
+    uint32_t trees[3];
+    uint64_t sums[3];
+} reports[] = {
+    {"", {0, 0, 0, 0, 0, 0, 0, 0, 0, 0, 0, 0, 0, 0, 0}, {0}, {0}, {0}},
+    {"A", {0, 0, 0, 0, 0, 0, 3, 1, 1, 0, 0, 0, 0, 0, 9}, {0}, {0}, {0}},
+    {"a", {0, 0, 0, 0, 0, 0, 3, 1, 1, 0, 0, 0, 0, 0, 11}, {0}, {0}, {0}},
+    {"C", {0, 0, 0, 0, 0, 0, 3, 1, 0, 1, 0, 0, 0, 0, 9}, {0}, {0}, {0}},
+    {"ADCA", {0, 0, 0, 0, 0, 0, 3, 4, 3, 1, 0, 2, 0, 0, 36}, {0}, {0}, {0}},
+    {"E", {0, 0, 0, 0, 0, 0, 4, 1, 1, 0, 1, 0, 0, 0, 16}, {12}, {1}, {4}},
+    {"EFGE", {0, 0, 0, 0, 0, 0, 4, 4, 3, 1, 1, 2, 2, 1, 64}, {12}, {2}, {8}},
+    {"eFgE", {0, 0, 0, 0, 0, 0, 4, 4, 3, 1, 1, 2, 2, 1, 70}, {12}, {2}, {8}},
+    {"FF", {0, 0, 0, 0, 0, 0, 4, 2, 0, 2, 0, 0, 0, 0, 32}, {0}, {0}, {0}},
+    {"FEFFHF", {0, 0, 0, 0, 0, 0, 4, 6, 2, 4, 2, 1, 2, 2, 96}, {10, 12}, {1, 1}, {4, 4}},
+    {"EHI", {0, 0, 0, 0, 0, 0, 4, 3, 3, 0, 3, 2, 4, 2, 48}, {6, 10, 12}, {1, 1, 1}, {4, 4, 4}},
+    {"IHEGEEH", {0, 0, 0, 0, 0, 0, 4, 7, 7, 0, 3, 6, 8, 2, 112}, {6, 10, 12}, {1, 2, 3}, {4, 8, 12}},
+    {".", {KEMOTUIKI_BAD_N, 1, 0, 0, 0, 0, 0, 0, 0, 0, 0, 0, 0, 0, 0}, {0}, {0}, {0}},
+    {"?", {KEMOTUIKI_BYTES_END, 1, 0, 0, 0, 0, 0, 0, 0, 0, 0, 0, 0, 0, 0}, {0}, {0}, {0}},
+    {"A-", {KEMOTUIKI_BYTES_END, 1, 0, 0, 0, 0, 0, 0, 0, 0, 0, 0, 0, 0, 0}, {0}, {0}, {0}},
+    {"X", {KEMOTUIKI_ENTRY_TOO_LARGE, 1, 1, 3, 0, 0, 0, 0, 0, 0, 0, 0, 0, 0, 0}, {0}, {0}, {0}},
+    {"E.E", {KEMOTUIKI_BAD_N, 2, 0, 0, 0, 0, 4, 1, 1, 0, 1, 0, 0, 0, 16}, {12}, {1}, {4}},
+    {"E?", {KEMOTUIKI_BYTES_END, 2, 0, 0, 0, 0, 4, 1, 1, 0, 1, 0, 0, 0, 16}, {12}, {1}, {4}},
+    {"EFH-", {KEMOTUIKI_BYTES_END, 3, 0, 0, 0, 0, 4, 2, 1, 1, 1, 0, 0, 0, 32}, {12}, {1}, {4}},
+    {"EGH+E", {KEMOTUIKI_FILL_NOT_ZERO, 3, 0, 0, 0, 0, 4, 2, 2, 0, 1, 1, 1, 1, 32}, {12}, {1}, {4}},
+    {"AX", {KEMOTUIKI_ENTRY_TOO_LARGE, 2, 1, 3, 0, 0, 3, 1, 1, 0, 0, 0, 0, 0, 9}, {0}, {0}, {0}},
+    {"Ax", {KEMOTUIKI_ENTRY_TOO_LARGE, 2, 1, 3, 0, 0, 3, 1, 1, 0, 0, 0, 0, 0, 9}, {0}, {0}, {0}},
+    {"EA", {KEMOTUIKI_DIFFERENT_N, 2, 0, 0, 0, 0, 4, 1, 1, 0, 1, 0, 0, 0, 16}, {12}, {1}, {4}},
+    {"EC", {KEMOTUIKI_DIFFERENT_N, 2, 0, 0, 0, 0, 4, 1, 1, 0, 1, 0, 0, 0, 16}, {12}, {1}, {4}},
+    {"CE", {KEMOTUIKI_DIFFERENT_N, 2, 0, 0, 0, 0, 3, 1, 0, 1, 0, 0, 0, 0, 9}, {0}, {0}, {0}},
+    {"EA-", {KEMOTUIKI_BYTES_END, 2, 0, 0, 0, 0, 4, 1, 1, 0, 1, 0, 0, 0, 16}, {12}, {1}, {4}},
+    {"EA+", {KEMOTUIKI_FILL_NOT_ZERO, 2, 0, 0, 0, 0, 4, 1, 1, 0, 1, 0, 0, 0, 16}, {12}, {1}, {4}},
+    {"EX", {KEMOTUIKI_ENTRY_TOO_LARGE, 2, 1, 3, 0, 0, 4, 1, 1, 0, 1, 0, 0, 0, 16}, {12}, {1}, {4}},
+};
+
+/* Each of them with just enough places, with one place less of each kind, and with places to spare. No bytes are null. */
+static void reports_by_hand(void) {
+    static uint8_t bytes[512];
+    const size_t room = KEMOTUIKI_REPORT_SIDES;
+    for (size_t k = 0; k < sizeof reports / sizeof *reports; k++)
+        for (size_t kind = 0; kind < 5; kind++) {
+            Lent lb;
+            Sides w;
+            call_name = *reports[k].stream ? reports[k].stream : "a term report without bytes";
+            size_t count = put_stream(reports[k].stream, bytes), more = kind == 4 ? 6 : 0;
+            uint8_t *stream = lend_bytes(&lb, bytes, count);
+            lend_sides(&w, room + more - (kind == 1), room + more - (kind == 2), room + more - (kind == 3));
+            KemotuikiReport r = kemotuiki_report(count ? stream : NULL, count, SIDES(w));
+            KemotuikiReport no_room = {KEMOTUIKI_NO_ROOM, 0, 0, 0, 0, 0, 0, 0, 0, 0, 0, 0, 0, 0, 0};
+            if (memcmp(&r, kind % 4 ? &no_room : &reports[k].r, sizeof r)) fault("not what is answered to this stream");
+            else if (memcmp(w.fars, reports[k].fars, r.sides * 8) || memcmp(w.trees, reports[k].trees, r.sides * 4) ||
+                     memcmp(w.sums, reports[k].sums, r.sides * 8)) fault("not the far sides of this stream");
+            hold_report(stream, count, r, &w);
+            settle_sides(&w, r.sides);
+            settle(&lb, 0);
+        }
+}
+
+/* The report over a stream that was made here: what is answered, and that single calls give the same. */
+static void expect_report(const char *name, const uint8_t *bytes, size_t count, KemotuikiReport want) {
+    Lent lb;
+    Sides w;
+    call_name = name;
+    const uint8_t *stream = lend_bytes(&lb, bytes, count);
+    lend_sides(&w, KEMOTUIKI_REPORT_SIDES, KEMOTUIKI_REPORT_SIDES, KEMOTUIKI_REPORT_SIDES);
+    KemotuikiReport r = kemotuiki_report(stream, count, SIDES(w));
+    if (memcmp(&r, &want, sizeof r)) fault("not what is answered");
+    hold_report(stream, count, r, &w);
+    settle_sides(&w, r.sides);
+    settle(&lb, 0);
+}
+
+/*
+ * As many tables as a report may have and bytes behind them that are no table, which are not looked at, or one table more; one table
+ * fewer, where they are. The costs are as large as they may be, so that their sums have more than 32 bits.
+ */
+static void most_tables(void) {
+    static const uint32_t far_apart[] = {0, 0, 8000000, 8000000, 0, 0, 8000000, 8000000, 8000000, 8000000, 0, 0, 8000000, 8000000, 0, 0};
+    static uint8_t bytes[19 * (KEMOTUIKI_REPORT_TABLES + 1)];
+    const size_t most = KEMOTUIKI_REPORT_TABLES, used = 19;
+    for (size_t k = 0; k <= most; k++) kemotuiki_write_costs(KEMOTUIKI_NEW_FORM, 4, far_apart, 16, bytes + k * used, used);
+    KemotuikiReport all = {0, 0, 0, 0, 0, 0, 4, most, most, 0, 1, most - 1, 0, 0, most * used};
+    KemotuikiReport fewer = {KEMOTUIKI_BAD_N, most, 0, 0, 0, 0, 4, most - 1, most - 1, 0, 1, most - 2, 0, 0, (most - 1) * used};
+    expect_report("as many tables as there may be", bytes, most * used, all);
+    expect_report("one table more than is read", bytes, (most + 1) * used, all);
+    bytes[most * used] = 0;
+    expect_report("bytes behind the last table that is read", bytes, most * used + 7, all);
+    memset(bytes + (most - 1) * used, 0, 2);
+    expect_report("bytes that are no table where there may be one more", bytes, (most - 1) * used + 2, fewer);
+    fewer.number = 0, fewer.table = 0;
+    expect_report("one table fewer", bytes, (most - 1) * used, fewer);
+}
+
+/*
+ * A caterpillar of 64 images in the order of their multiples of an odd number, the first and last switches and those behind the one
+ * called last being one each: it has last - 1 inner far sides, and no other multiplier has any of them.
+ */
+static size_t put_caterpillar(size_t multiplier, size_t last, uint8_t *bytes) {
+    static uint32_t t[KEMOTUIKI_IMAGES * KEMOTUIKI_IMAGES];
+    const size_t n = KEMOTUIKI_IMAGES;
+    for (size_t i = 0; i < n; i++)
+        for (size_t j = 0; j < n; j++) {
+            size_t p = i * multiplier % n, q = j * multiplier % n;
+            p = p < 1 ? 1 : p > last ? last : p, q = q < 1 ? 1 : q > last ? last : q;
+            t[i * n + j] = i == j ? 0 : (uint32_t)(20 * (p < q ? q - p : p - q) + 10);
+        }
+    return kemotuiki_write_costs(KEMOTUIKI_OLD_FORM, n, t, n * n, bytes, KEMOTUIKI_COST_BYTES).used;
+}
+
+/* Sixteen trees of 61 inner far sides and one of 48 have as many as are kept: a tree with some of these goes on, one with another ends it. */
+static void most_sides(void) {
+    static uint8_t bytes[20 * KEMOTUIKI_OLD_COST_BYTES];
+    size_t used = 0, one = KEMOTUIKI_OLD_COST_BYTES;
+    for (size_t k = 0; k < 16; k++) used += put_caterpillar(2 * k + 1, 62, bytes + used);
+    used += put_caterpillar(33, 49, bytes + used);
+    used += put_caterpillar(33, 17, bytes + used);
+    used += put_caterpillar(35, 2, bytes + used);
+    KemotuikiReport full = {0, 0, 0, 0, 0, 0, 64, 18, 18, 0, 1024, 17, 15 * 122 + (61 + 48) + (48 - 16), 122, 18 * one};
+    expect_report("as many far sides as are kept", bytes, 18 * one, full);
+    full.number = KEMOTUIKI_TOO_MANY_SIDES, full.table = 19;
+    expect_report("one far side more than is kept", bytes, used, full);
+    bytes[18 * one + one - 1] |= 1;
+    full.number = KEMOTUIKI_FILL_NOT_ZERO;
+    expect_report("the fill bits before the far sides", bytes, used, full);
+    KemotuikiReport sixteen = {KEMOTUIKI_TOO_MANY_SIDES, 17, 0, 0, 0, 0, 64, 16, 16, 0, 976, 15, 15 * 122, 122, 16 * one};
+    put_caterpillar(35, 50, bytes + 16 * one);
+    expect_report("a table that is left out whole", bytes, 17 * one, sixteen);
+}
+
 /* ---- the text of an answer ---- */
 
 static const struct {
@@ -892,7 +1267,8 @@ static const struct {
     {{17, 2, 125, 0, 0, 0}, "table 2: number above the old limits: row 125"},
     {{18, 0, 5, 0, 0, 0}, "outside the Newick profile: byte 5"},
     {{18, 0, 1433, 0, 0, 0}, "outside the Newick profile: byte 1433"},
-    {{19, 0, 0, 0, 0, 0}, "no such refusal: number 19"},
+    {{19, 0, 0, 0, 0, 0}, "more than 1,024 far sides in one report"},
+    {{19, 500, 0, 0, 0, 0}, "table 500: more than 1,024 far sides in one report"},
     {{20, 0, 0, 0, 0, 0}, "no such refusal: number 20"},
     {{21, 0, 0, 0, 0, 0}, "no such refusal: number 21"},
     {{22, 0, 10, 0, 0, 0}, "siblings out of order: byte 10"},
@@ -930,6 +1306,9 @@ static int edges(void) {
     longest_newick();
     replays_by_hand();
     longest_replays();
+    reports_by_hand();
+    most_tables();
+    most_sides();
     text_of_answers();
     return faults ? 1 : 0;
 }

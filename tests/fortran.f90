@@ -2,9 +2,9 @@
 !
 !   fortran DATA ANSWERS       writes to ANSWERS what crates/cases/stdout has for the exported calls. A case that cannot be said in
 !                              Fortran, such as a table with fewer entries than its n asks for, has the line "-" instead.
-!   fortran --by-hand VERSION  compares the version, the texts of all refusals, the room for each stored form and for Newick text, and
-!                              what only Fortran can say: tables by rows, tables of another shape, teams of rank 3, sections, integers
-!                              of either kind, events that no byte holds, and text in character variables.
+!   fortran --by-hand VERSION  compares the version, the texts of all refusals, the room for each stored form and for Newick text, term
+!                              reports, and what only Fortran can say: tables by rows, tables of another shape, teams of rank 3,
+!                              sections, integers of either kind, events that no byte holds, and text in character variables.
 !
 ! What is wrong is printed; then the status is 1.
 
@@ -14,7 +14,8 @@ module case_text
     use kemotuiki, only: kemotuiki_answer, kemotuiki_images
     implicit none
     private
-    public :: number, small_number, fits, slice8, slice32, slice64, slice_text, table, read_table, read_team, read_rows, can_be_said
+    public :: number, small_number, fits, slice8, slice32, slice64, filled32, filled64, read_stream, slice_text, table, read_table
+    public :: read_team, read_rows, can_be_said
     public :: put_answer, put_values, put, put_rows, fault, faults, answers, run, note_far_sides
 
     integer, parameter :: line_room = 150000
@@ -108,6 +109,32 @@ contains
         integer(int8), allocatable :: elements(:)
         elements = int(signed(slice64(), 8), int8)
     end function
+
+    ! A slice that stands as its length and what all its places hold.
+    function filled64() result(elements)
+        integer(int64), allocatable :: elements(:)
+        allocate (elements(number()))
+        elements = number()
+    end function
+
+    function filled32() result(elements)
+        integer(int32), allocatable :: elements(:)
+        elements = int(signed(filled64(), 32), int32)
+    end function
+
+    ! How many bytes of the line before are kept, and pieces, each so many times, behind them.
+    subroutine read_stream(bytes)
+        integer(int8), allocatable, intent(inout) :: bytes(:)
+        integer(int8), allocatable :: piece(:)
+        integer(int64) :: pieces, times, j
+        if (.not. allocated(bytes)) allocate (bytes(0))
+        bytes = bytes(:number())
+        do pieces = number(), 1, -1
+            times = number()
+            piece = slice8()
+            bytes = [bytes, (piece, j = 1, times)]
+        end do
+    end subroutine
 
     ! The bytes of a slice as text.
     function slice_text() result(text)
@@ -350,6 +377,7 @@ contains
         call run('write_newick', do_write_newick, folder, [1, 2, 3, 10, 12, 13], far_sides=.true.)
         call run('read_newick', do_read_newick, folder, [1, 3, 12, 13, 18, 22], far_sides=.true.)
         call run('replay', do_replay, folder, [1, 2, 3, 4, 5, 6, 7, 8], far_sides=.true.)
+        call run('report', do_report, folder, [1, 3, 4, 9, 11, 15, 19], far_sides=.true.)
     end subroutine
 
     ! With a far side that is a default integer, where it can be one.
@@ -557,6 +585,35 @@ contains
         same = r%images == size(left) .and. anew%accepted() .and. anew%rows == r%rows
         if (same) same = all(fars_anew(:r%rows) == fars(:r%rows)) .and. all(costs_anew(:r%rows) == costs(:r%rows))
         if (.not. same) call fault('what is left is not the exact reading of the smaller table')
+    end subroutine
+
+    ! The values stand beside the refusal of a table, which ends the report. Of each array there are the places written, and how many
+    ! behind them are as they were.
+    subroutine do_report()
+        type(kemotuiki_report_answer) :: r
+        integer(int8), allocatable, save :: bytes(:)
+        integer(int64), allocatable :: fars(:), sums(:), fars_before(:), sums_before(:)
+        integer(int32), allocatable :: trees(:), trees_before(:)
+        integer :: k
+        call read_stream(bytes)
+        fars = filled64()
+        trees = filled32()
+        sums = filled64()
+        fars_before = fars
+        trees_before = trees
+        sums_before = sums
+        r = kemotuiki_report(bytes, fars, trees, sums)
+        call put_answer(r, [integer(int64) ::], tables=.true.)
+        call put_values([integer(int64) :: r%images, r%tables, r%accepted_tables, r%apart, r%sides, r%pairs, r%count_sum, &
+                         r%largest_count, r%used])
+        k = r%sides
+        call put(fars(:k))
+        call put_values([count(fars(k + 1:) == fars_before(k + 1:), kind=int64)])
+        call put(trees(:k))
+        call put_values([count(trees(k + 1:) == trees_before(k + 1:), kind=int64)])
+        call put(sums(:k))
+        call put_values([count(sums(k + 1:) == sums_before(k + 1:), kind=int64)])
+        call note_far_sides(r, r%images, fars(:k))
     end subroutine
 
     subroutine do_write_costs()
@@ -778,6 +835,8 @@ contains
         call stored_forms()
         call newick_texts()
         call replays()
+        call reports()
+        call most_sides()
         call sections()
         faults = wrong
     end subroutine
@@ -815,7 +874,9 @@ contains
         call say(kemotuiki_above_old_limits, 0, [4, 0, 0, 0], 'number above the old limits: row 4')
         call say(kemotuiki_above_old_limits, 2, [1, 5, 0, 0], 'table 2: number above the old limits: row and column 1 5')
         call say(kemotuiki_outside_profile, 0, [5, 0, 0, 0], 'outside the Newick profile: byte 5')
-        call say(19, 0, [0, 0, 0, 0], 'no such refusal: number 19')
+        call say(kemotuiki_too_many_sides, 0, [0, 0, 0, 0], 'more than 1,024 far sides in one report')
+        call say(kemotuiki_too_many_sides, 500, [0, 0, 0, 0], 'table 500: more than 1,024 far sides in one report')
+        call say(20, 0, [0, 0, 0, 0], 'no such refusal: number 20')
         call say(kemotuiki_siblings_out_of_order, 0, [10, 0, 0, 0], 'siblings out of order: byte 10')
         call say(23, 0, [0, 0, 0, 0], 'no such refusal: number 23')
     end subroutine
@@ -1048,13 +1109,106 @@ contains
                   .and. all(fars(:3) == [2, 4, 6]) .and. all(costs(:3) == 2))
     end subroutine
 
-    ! Every second element of larger arrays: 4 images in a star, whose four own links cost 2, doubled.
+    ! No bytes; E, F, G and E of document 01, of which F has no tree, then with a byte behind them, and with three images behind them; one
+    ! place too few of each kind; as many tables as there may be, with bytes behind them that are none.
+    subroutine reports()
+        integer, parameter :: room = kemotuiki_report_sides, most = kemotuiki_report_tables
+        integer, parameter :: e(4, 4) = reshape([0, 2, 4, 4, 2, 0, 4, 4, 4, 4, 0, 2, 4, 4, 2, 0], [4, 4])
+        integer, parameter :: f(4, 4) = reshape([0, 2, 3, 4, 2, 0, 4, 4, 3, 4, 0, 2, 4, 4, 2, 0], [4, 4])
+        type(kemotuiki_report_answer) :: r
+        integer(int64) :: fars(room), sums(room)
+        integer :: trees(room), k
+        integer(int8), allocatable :: bytes(:), term(:)
+        fars = -1
+        trees = -1
+        sums = -1
+        r = kemotuiki_report([integer(int8) ::], fars, trees, sums)
+        call hold('a report without bytes', r%accepted() .and. all(figures(r) == 0) .and. r%table == 0 .and. all(fars == -1) &
+                  .and. all(trees == -1) .and. all(sums == -1))
+        bytes = [stored(kemotuiki_old_form, e), stored(kemotuiki_new_form, f), stored(kemotuiki_old_form, star(4)), &
+                 stored(kemotuiki_new_form, e)]
+        r = kemotuiki_report(bytes, fars, trees, sums)
+        call hold('a report of four tables', r%accepted() .and. all(figures(r) == [4, 4, 3, 1, 1, 2, 2, 1, 70]) &
+                  .and. fars(1) == 12 .and. trees(1) == 2 .and. sums(1) == 8)
+        call hold('nothing behind the far sides', all(fars(2:) == -1) .and. all(trees(2:) == -1) .and. all(sums(2:) == -1))
+        fars = -1
+        r = kemotuiki_report([bytes, 0_int8], fars, trees, sums)
+        call hold('a byte behind the tables', r%text() == 'table 5: n outside 3..64: n 0' .and. fars(1) == 12 &
+                  .and. all(figures(r) == [4, 4, 3, 1, 1, 2, 2, 1, 70]))
+        r = kemotuiki_report([bytes, stored(kemotuiki_old_form, star(3))], fars, trees, sums)
+        call hold('three images behind four', r%text() == 'table 5: stored tables of different n' .and. r%used == 70)
+        do k = 1, 3
+            fars = -1
+            r = kemotuiki_report(bytes, fars(merge(2, 1, k == 1):), trees(merge(2, 1, k == 2):), sums(merge(2, 1, k == 3):))
+            call hold('one place too few', r%number == kemotuiki_no_room .and. r%table == 0 .and. all(figures(r) == 0) &
+                      .and. all(fars == -1))
+        end do
+        term = [([stored(kemotuiki_new_form, 2000000 * e), stored(kemotuiki_new_form, 2000000 * star(4))], k = 1, most / 2)]
+        r = kemotuiki_report([term, 7_int8, 7_int8], fars, trees, sums)
+        call hold('as many tables as there may be', r%accepted() .and. trees(1) == 250 .and. sums(1) == 2000000000 &
+                  .and. all(figures(r) == [4, most, most, 0, 1, most - 1, most - 1, 1, 19 * most]))
+        r = kemotuiki_report([term(20:), 7_int8, 7_int8], fars, trees, sums)
+        call hold('one table fewer', r%number == kemotuiki_bytes_end .and. r%table == most .and. r%tables == most - 1)
+    end subroutine
+
+    pure function figures(r)
+        type(kemotuiki_report_answer), intent(in) :: r
+        integer(int64) :: figures(9)
+        figures = [integer(int64) :: r%images, r%tables, r%accepted_tables, r%apart, r%sides, r%pairs, r%count_sum, &
+                   r%largest_count, r%used]
+    end function
+
+    function stored(form, t) result(bytes)
+        integer, intent(in) :: form, t(:, :)
+        integer(int8), allocatable :: bytes(:)
+        integer(int8) :: room(kemotuiki_cost_bytes)
+        type(kemotuiki_bytes_answer) :: r
+        r = kemotuiki_write_costs(form, t, room)
+        bytes = room(:r%used)
+    end function
+
+    ! Seventeen trees that have no inner far side in common, each with as many as 64 images can have: sixteen fit. The far sides that hold
+    ! image 64 are negative and stand last.
+    subroutine most_sides()
+        integer, parameter :: room = kemotuiki_report_sides
+        type(kemotuiki_report_answer) :: r
+        integer(int64) :: fars(room), sums(room)
+        integer :: trees(room), k
+        integer(int8), allocatable :: bytes(:)
+        fars = 0
+        trees = 0
+        sums = 0
+        bytes = [(stored(kemotuiki_old_form, caterpillar(2 * k - 1)), k = 1, 17)]
+        r = kemotuiki_report(bytes, fars, trees, sums)
+        call hold('too many far sides', r%text() == 'table 17: more than 1,024 far sides in one report' &
+                  .and. all(figures(r) == [64, 16, 16, 0, 976, 15, 15 * 122, 122, 16 * kemotuiki_old_cost_bytes]))
+        call hold('the far sides before them', all(trees(:976) == 1) .and. all(sums(:976) == 40) .and. all(fars(977:) == 0) &
+                  .and. all(ieor(fars(2:976), -huge(fars) - 1) > ieor(fars(:975), -huge(fars) - 1)) .and. any(fars < 0))
+    end subroutine
+
+    ! Images on the switches of one line, in the order of their multiples of an odd number, and two at each end.
+    pure function caterpillar(multiplier) result(t)
+        integer, intent(in) :: multiplier
+        integer, parameter :: n = kemotuiki_images
+        integer :: t(n, n), switch(n), i, j
+        switch = [(min(max(mod((i - 1) * multiplier, n), 1), n - 2), i = 1, n)]
+        do j = 1, n
+            t(:, j) = 20 * abs(switch - switch(j)) + 10
+            t(j, j) = 0
+        end do
+    end function
+
+    ! Every second element of larger arrays: 4 images in a star, whose four own links cost 2, doubled; and the report of one table.
     subroutine sections()
         integer(int8), parameter :: all_events(3) = [4_int8, 9_int8, 2_int8]
         integer :: all_entries(8, 8), all_costs(10)
         integer(int64) :: all_fars(10)
         type(kemotuiki_rows_answer) :: r
         type(kemotuiki_replay_answer) :: left
+        type(kemotuiki_report_answer) :: report
+        integer(int8), allocatable :: stored_pairs(:), all_bytes(:)
+        integer(int64) :: all_sides(2 * kemotuiki_report_sides), all_sums(2 * kemotuiki_report_sides)
+        integer :: all_trees(2 * kemotuiki_report_sides)
         all_entries = -1
         all_entries(1:8:2, 1:8:2) = star(4)
         all_costs = -1
@@ -1069,6 +1223,16 @@ contains
         left = kemotuiki_replay(all_entries(1:8:2, 1:8:2), all_events(3:1:-2), all_fars(2:10:2), all_costs(2:10:2))
         call hold('sections, replayed', left%event == 2 .and. left%rows == 3 &
                   .and. all(all_fars == [-1, 2, -1, 4, -1, 6, -1, -1, -1, -1]))
+        stored_pairs = stored(kemotuiki_old_form, reshape([0, 2, 4, 4, 2, 0, 4, 4, 4, 4, 0, 2, 4, 4, 2, 0], [4, 4]))
+        allocate (all_bytes(2 * size(stored_pairs)))
+        all_bytes = -1
+        all_bytes(::2) = stored_pairs
+        all_sides = -1
+        all_trees = -1
+        all_sums = -1
+        report = kemotuiki_report(all_bytes(::2), all_sides(2::2), all_trees(2::2), all_sums(2::2))
+        call hold('sections, reported', report%accepted() .and. report%sides == 1 .and. all(all_sides(:3) == [-1, 12, -1]) &
+                  .and. all(all_trees(:3) == [-1, 1, -1]) .and. all(all_sums(:3) == [-1, 4, -1]) .and. all(all_sides(3:) == -1))
     end subroutine
 
 end module

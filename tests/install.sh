@@ -1,8 +1,8 @@
 #!/usr/bin/env bash
 # Installs to a temporary prefix, moves it, asks pkg-config, and builds the C and Fortran examples in a folder of their own with
-# nothing but what pkg-config answers; what they print must be first.txt, newick.txt, leave.txt and expected.txt of examples. Then once
-# more without Fortran. Last the version: pkg-config, the header and the module have that of the file VERSION. Status 1 on a difference, 0
-# if all is right or something could not be run, which is said.
+# nothing but what pkg-config answers; what they print must be first.txt, newick.txt, leave.txt, term.txt and expected.txt of examples.
+# Then once more without Fortran. Last the version: pkg-config, the header and the module have that of the file VERSION. Status 1 on a
+# difference, 0 if all is right or something could not be run, which is said.
 set -euo pipefail
 cd "$(dirname "$0")/.."
 . scripts/cross.sh
@@ -16,7 +16,7 @@ version=$(cat VERSION)
 work=$(mktemp -d)
 trap 'rm -rf "$work"' EXIT
 mkdir "$work/build"
-cp examples/c/{first,newick,leave,team}.c examples/fortran/{first,newick,leave,network,team}.f90 "$work/build/"
+cp examples/c/{first,newick,leave,term,team}.c examples/fortran/{first,newick,leave,term,network,team}.f90 "$work/build/"
 status=0
 
 same() { # WHAT WANTED FOUND
@@ -51,11 +51,13 @@ same "the version that pkg-config has" "$version" "$("$PKG_CONFIG" --modversion 
 builds "the first C program from the prefix" examples/first.txt "$CC" first.c
 builds "the C example of Newick text from the prefix" examples/newick.txt "$CC" -std=c11 -O2 -Wall -Wextra newick.c
 builds "the C example of images that leave from the prefix" examples/leave.txt "$CC" -std=c11 -O2 -Wall -Wextra leave.c
+builds "the C example of a term report from the prefix" examples/term.txt "$CC" -std=c11 -O2 -Wall -Wextra term.c
 builds "the C example from the prefix" examples/expected.txt "$CC" -std=c11 -O2 -Wall -Wextra team.c
 if [ -n "$FC" ]; then
     builds "the first Fortran program from the prefix" examples/first.txt "$FC" first.f90
     builds "the Fortran example of Newick text from the prefix" examples/newick.txt "$FC" -std=f2018 -O2 -Wall newick.f90
     builds "the Fortran example of images that leave from the prefix" examples/leave.txt "$FC" -std=f2018 -O2 -Wall leave.f90
+    builds "the Fortran example of a term report from the prefix" examples/term.txt "$FC" -std=f2018 -O2 -Wall term.f90
     builds "the Fortran example from the prefix" examples/expected.txt "$FC" -std=f2018 -O2 -Wall network.f90 team.f90
     # As for a compiler that cannot read the installed module.
     source=$("$PKG_CONFIG" --variable=fortran_source kemotuiki)
