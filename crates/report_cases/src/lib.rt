@@ -12,7 +12,7 @@ use case_text::show32;
 use case_text::show64;
 use case_text::take8;
 use ground::Check;
-use report::Figures;
+use figures::Figures;
 use report::TermReport;
 ghost use Rattle.io.specs.Counts.{Counts};
 
