@@ -9,7 +9,7 @@ use Rattle.ground.specs.Steps.{ofTable}
 use Rattle.ground.specs.declared.Check.{Check}
 use Rattle.ground.specs.declared.Check.the-variants.{Passed, Refused}
 use Rattle.theory.specs.Tables.{limit}
-use Rattle.figures.specs.Reading.{mostTables}
+use Rattle.figures.specs.Checks.{mostTables}
 use Rattle.report.specs.InOrder.{Stop, report-decides, report-numbers, reportSteps, room-unaltered, stopAt, tableNumbers, tablesIn}
 use Rattle.report.specs.Outcome.{LeftReport, reportOutcome}
 use Rattle.numbers.specs.Reports.{ofEnd, ofReport}

@@ -18,7 +18,8 @@ use Rattle.stored_costs.specs.Form.{costFormAt}
 use Rattle.stored_costs.specs.InOrder.{table-order, tableSteps}
 use Rattle.figures.specs.Figures.{sidesAt}
 use Rattle.report.specs.Outcome.{outcome, refusedTable, reportOutcome, roomCheck, short}
-use Rattle.figures.specs.Reading.{Ended, differs, goOn, manyCheck, mostSides, mostTables, nextCheck, readAll, readOn, sameCheck}
+use Rattle.figures.specs.Checks.{differs, manyCheck, mostSides, mostTables, nextCheck, sameCheck}
+use Rattle.figures.specs.Reading.{Ended, goOn, readAll, readOn}
 use Rattle.figures.specs.Tables.{Table, tableAt}
 
 -- 9, 1, 9, 11, 4, 15, 19 of the table at the front of s, once ts were read

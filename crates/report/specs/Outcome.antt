@@ -11,7 +11,8 @@ use Rattle.ground.specs.declared.Check.{Check}
 use Rattle.ground.specs.declared.Check.the-variants.{Passed, Refused}
 use Rattle.seen.specs.Columns.{sidesIn, sumsIn, treesIn}
 use Rattle.figures.specs.Figures.{entriesAt, figuresOf, noFigures}
-use Rattle.figures.specs.Reading.{Ended, mostSides, readAll}
+use Rattle.figures.specs.Checks.{mostSides}
+use Rattle.figures.specs.Reading.{Ended, readAll}
 use Rattle.report.specs.declared.TermReport.{TermReport}
 
 -- 3: one of the three slices has fewer than 1,024 places

@@ -3,7 +3,7 @@
 use mathlib.Core.Bool.{false≢true, not, true}
 use mathlib.Core.List.{List}
 use mathlib.Core.Logic.{inl, inr, _⊎_}
-use mathlib.Core.Path.{ap, refl, sym, _∙_, _≡_}
+use mathlib.Core.Path.{ap, refl, _≡_}
 use Prim.Native.Nat.{ℕ}
 use lib.ListN.{length}
 use borrow.Table.Steps.{cases}
