@@ -67,17 +67,7 @@ fn take_tree(
     seen::put_rows(n, &f, &v, count, sides, all, fars, trees, sums);
     Turn {
         standing: Standing {
-            figures: Figures {
-                images: n,
-                tables: figures.tables + 1,
-                accepted: figures.accepted + 1,
-                apart: figures.apart,
-                sides: all,
-                pairs: figures.accepted,
-                count_sum: figures.count_sum + pair,
-                largest_count: figures::greater(figures.largest_count, pair),
-                used: figures.used + more,
-            },
+            figures: figures::with_tree(figures, n, more, all, pair),
             rows: count,
             last: f,
         },
@@ -108,17 +98,7 @@ pub fn take_table(
             let last = here.last;
             Turn {
                 standing: Standing {
-                    figures: Figures {
-                        images: n,
-                        tables: figures.tables + 1,
-                        accepted: figures.accepted,
-                        apart: figures.apart + 1,
-                        sides: figures.sides,
-                        pairs: figures.pairs,
-                        count_sum: figures.count_sum,
-                        largest_count: figures.largest_count,
-                        used: figures.used + more,
-                    },
+                    figures: figures::with_apart(figures, n, more),
                     rows: here.rows,
                     last,
                 },

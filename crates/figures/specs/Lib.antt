@@ -3,7 +3,8 @@ pub mod Tables
 pub mod Figures
 pub mod Checks
 pub mod Reading
--- What the code counts of a tree and the next.
+-- What the code counts of a tree and the next, and of one table more.
 pub mod Pairing
+pub mod OneMore
 -- What is true of them.
 pub mod Laws

@@ -5,6 +5,7 @@ ghost use lib.ListN.{length, take};
 ghost use Rattle.ground.specs.Ascending.{Between};
 ghost use Rattle.theory.specs.Comparison.{common, inners};
 ghost use Rattle.figures.specs.Figures.{noFigures};
+ghost use Rattle.figures.specs.OneMore.{Fits, withApart, withTree};
 ghost use Rattle.figures.specs.Pairing.{pairCount};
 
 // The figures: n of the first table, the tables read, how many were accepted and how many got 7, the far sides seen, the pairs of an
@@ -39,7 +40,7 @@ pub fn no_figures() -> Figures
 }
 
 // The greater of the two.
-pub fn greater(x: usize, y: usize) -> usize
+fn greater(x: usize, y: usize) -> usize
     ensures { λ r. ⌜ r ≡ max x y ⌝ }
 {
     if x < y { y } else { x }
@@ -63,4 +64,40 @@ pub fn count_pair(n: usize, before: usize, last: &[u64], next: &[u64]) -> usize
     }
     let difference = counts::differ(n, last, next);
     difference.count
+}
+
+// The figures with an accepted table more, over n images and of so many bytes: `all` far sides are seen then, and `pair` is the count of its pair.
+pub fn with_tree(figures: Figures, n: usize, more: usize, all: usize, pair: usize) -> Figures
+    requires { ⌜ Fits figures more pair ⌝ }
+    ensures { λ r. ⌜ r ≡ withTree figures n more all pair ⌝ }
+{
+    Figures {
+        images: n,
+        tables: figures.tables + 1,
+        accepted: figures.accepted + 1,
+        apart: figures.apart,
+        sides: all,
+        pairs: figures.accepted,
+        count_sum: figures.count_sum + pair,
+        largest_count: greater(figures.largest_count, pair),
+        used: figures.used + more,
+    }
+}
+
+// The figures with a table more that gets 7.
+pub fn with_apart(figures: Figures, n: usize, more: usize) -> Figures
+    requires { ⌜ Fits figures more 0 ⌝ }
+    ensures { λ r. ⌜ r ≡ withApart figures n more ⌝ }
+{
+    Figures {
+        images: n,
+        tables: figures.tables + 1,
+        accepted: figures.accepted,
+        apart: figures.apart + 1,
+        sides: figures.sides,
+        pairs: figures.pairs,
+        count_sum: figures.count_sum,
+        largest_count: figures.largest_count,
+        used: figures.used + more,
+    }
 }

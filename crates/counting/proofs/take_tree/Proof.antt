@@ -1,15 +1,15 @@
--- `report::take_tree` meets its contract: judged by 19 before the first store, then put in and counted. Assumes nothing.
+-- `counting::take_tree` meets its contract: judged by 19 before the first store, then put in and counted. Assumes nothing.
 use mathlib.Core.Path.{sym}
 use Prim.Native.Nat.{_+_, _<_, _≤_}
 use native.Mathlib.Omega.{arith}
 use lib.ListN.{take}
 use lib.Seq.{length-take-le}
 use borrow.Author.Needs.{needs}
-use Rattle.counts.specs.Laws.Formula.{inners-le}
-use Rattle.counting.specs.Laws.Before.{last-few, last-is, numbers-few, sides-few}
-use Rattle.figures.specs.Laws.Pairs.{pair-cap}
+use Rattle.counting.specs.Laws.Before.{last-few, last-is, numbers-fit, sides-few}
 use Rattle.counting.specs.Laws.PutIn.{moved-tree, put-ready}
 use Rattle.counting.specs.Laws.Taken.{far-ascends, far-few, fresh-ready, more-sides, moved-many}
+use Rattle.counts.specs.Laws.Formula.{inners-le}
+use Rattle.figures.specs.Laws.Pairs.{pair-cap}
 use Rattle.counting.proofs.take_tree.Statement.{statement}
 use Rattle.counting.proofs.take_tree.Tie as tie
 
@@ -17,7 +17,9 @@ array-share-prefix-f : tie.Need-array-share-prefix-f
 array-share-prefix-f c = search needs
 
 slice-aggregate-fresh : tie.Need-slice-aggregate-fresh
-slice-aggregate-fresh c = let y = c .before .before .before .before .before .before .before .before .pre .ready in sym (length-take-le _ _ (omega (arith, y .few, y .far-room)))
+slice-aggregate-fresh c =
+    let start = c .before .before .before .before .before .before .before .before in
+    let y = start .pre .ready in sym (length-take-le _ _ (omega (arith, y .few, y .far-room)))
 
 fresh-requires : tie.Need-fresh-requires
 fresh-requires c κs = fresh-ready _ _ _ _ _ _ _ _ _ (c .before .before .before .before .before .before .before .before .pre .ready)
@@ -41,20 +43,25 @@ same-length c = search needs
 
 returns : tie.Need-returns
 returns c =
-    let many : 1024 < c .before .before .before .before .before .before .before .before .before .before .args .here .figures .sides + c .before .fresh .result = c .if1 .taken in
+    let start = c .before .before .before .before .before .before .before .before .before .before in
+    let many : 1024 < start .args .here .figures .sides + c .before .fresh .result = c .if1 .taken in
     record { taken = λ ts u y. moved-many _ _ _ _ _ _ _ _ _ y _ (more-sides _ _ _ _ _ _ _ _ _ y _ (c .before .fresh .ensures)) many }
 
 array-share-prefix-last : tie.Need-array-share-prefix-last
 array-share-prefix-last c = search needs
 
 slice-aggregate-count-pair : tie.Need-slice-aggregate-count-pair
-slice-aggregate-count-pair c = let x = c .before .before .before .before .before .before .before .before .before .before .before .before .pre .ready .table .read .stands in sym (length-take-le _ _ (omega (arith, x .few, x .last-room)))
+slice-aggregate-count-pair c =
+    let start = c .before .before .before .before .before .before .before .before .before .before .before .before in
+    let x = start .pre .ready .table .read .stands in sym (length-take-le _ _ (omega (arith, x .few, x .last-room)))
 
 array-share-prefix-f-2 : tie.Need-array-share-prefix-f-2
 array-share-prefix-f-2 c = search needs
 
 slice-aggregate-count-pair-2 : tie.Need-slice-aggregate-count-pair-2
-slice-aggregate-count-pair-2 c = let y = c .before .before .before .before .before .before .before .before .before .before .before .before .before .pre .ready in sym (length-take-le _ _ (omega (arith, y .few, y .far-room)))
+slice-aggregate-count-pair-2 c =
+    let start = c .before .before .before .before .before .before .before .before .before .before .before .before .before in
+    let y = start .pre .ready in sym (length-take-le _ _ (omega (arith, y .few, y .far-room)))
 
 count-pair-requires : tie.Need-count-pair-requires
 count-pair-requires c κs =
@@ -77,43 +84,24 @@ slice-aggregate-put-rows-2 c = search needs
 
 put-rows-requires : tie.Need-put-rows-requires
 put-rows-requires c κs =
-    let y = c .before .before .before .before .before .before .before .before .before .before .before .before .before .before .before .before .before .before .before .pre .ready in
-    let few : c .before .before .before .before .before .before .before .before .before .before .before .before .before .before .before .before .before .before .before .args .here .figures .sides + c .before .before .before .before .before .before .before .before .before .before .fresh .result ≤ 1024 = c .before .before .before .before .before .before .before .before .before .if1 .left in
-    put-ready _ _ _ _ _ _ _ _ _ y _ (more-sides _ _ _ _ _ _ _ _ _ y _ (c .before .before .before .before .before .before .before .before .before .before .fresh .ensures)) few
+    let at-if1 = c .before .before .before .before .before .before .before .before .before in
+    let at-fresh = at-if1 .before in
+    let start = at-fresh .before .before .before .before .before .before .before .before .before in
+    let y = start .pre .ready in
+    let few : start .args .here .figures .sides + at-fresh .fresh .result ≤ 1024 = at-if1 .if1 .left in
+    put-ready _ _ _ _ _ _ _ _ _ y _ (more-sides _ _ _ _ _ _ _ _ _ y _ (at-fresh .fresh .ensures)) few
 
-add-t17 : tie.Need-add-t17
-add-t17 c =
-    let b = c .before .before .before .before .before .before .before .before .before .before .before .before .before .before .before .before .before .before .before .before .before .before .before .before .before .before .before .pre .ready .table in
-    let q = numbers-few _ _ _ _ _ (b .read .stands) (b .read .holds) _ (b .one) (b .read .formed .few) (b .read .below) in
-    record { fits = omega (arith, q .0) }
-
-add-t40 : tie.Need-add-t40
-add-t40 c =
-    let b = c .before .before .before .before .before .before .before .before .before .before .before .before .before .before .before .before .before .before .before .before .before .before .before .before .before .before .before .before .pre .ready .table in
-    let q = numbers-few _ _ _ _ _ (b .read .stands) (b .read .holds) _ (b .one) (b .read .formed .few) (b .read .below) in
-    record { fits = omega (arith, q .1) }
-
-add-t41 : tie.Need-add-t41
-add-t41 c =
-    let y = c .before .before .before .before .before .before .before .before .before .before .before .before .before .before .before .before .before .before .before .before .before .before .before .before .before .before .before .before .before .pre .ready in
-    let a = c .before .before .before .before .before .before .before .before .before .before .before .before .before .before .before .before .before .before .before .before .before .before .before .before .before .before .before .before .before .args in
-    let b = y .table in
-    let q = numbers-few _ _ _ _ _ (b .read .stands) (b .read .holds) _ (b .one) (b .read .formed .few) (b .read .below) in
-    record {
-      fits = omega (
-        arith,
-        q .3,
-        c .before .before .before .before .before .before .before .before .before .before .before .before .before .before .before .count-pair .ensures,
-        pair-cap (a .n) (a .here .figures .accepted) (take (a .here .rows) (a .here .last)) (take (a .tree .count) (a .tree .fars))
-            (last-few _ _ _ _ _ (b .read .stands) (b .read .holds) _ (b .one)) (far-few _ _ _ _ _ _ _ _ _ y),
-      );
-    }
-
-greater-requires : tie.Need-greater-requires
-greater-requires c κs = search needs
-
-add-t43 : tie.Need-add-t43
-add-t43 c = record { fits = c .before .before .before .before .before .before .before .before .before .before .before .before .before .before .before .before .before .before .before .before .before .before .before .before .before .before .before .before .before .before .before .pre .ready .table .read .fits }
+with-tree-requires : tie.Need-with-tree-requires
+with-tree-requires c κs =
+    let at-count-pair = c .before .before .before .before .before .before .before .before .before .before .before .before in
+    let start = at-count-pair .before .before .before .before .before .before .before .before .before .before .before .before .before .before in
+    let y = start .pre .ready in
+    let a = start .args in
+    let b = y .table .read in
+    let o = y .table .one in
+    let q = pair-cap (a .n) (a .here .figures .accepted) (take (a .here .rows) (a .here .last)) (take (a .tree .count) (a .tree .fars))
+    (last-few _ _ _ _ _ (b .stands) (b .holds) _ o) (far-few _ _ _ _ _ _ _ _ _ y) in
+    numbers-fit _ _ _ _ _ (b .stands) (b .holds) _ o _ _ (b .formed .few) (b .below) (rw (at-count-pair .count-pair .ensures) q) (b .fits)
 
 same-length-2 : tie.Need-same-length-2
 same-length-2 c = search needs
@@ -126,12 +114,18 @@ same-length-4 c = search needs
 
 returns-2 : tie.Need-returns-2
 returns-2 c =
-    let few : c .before .before .before .before .before .before .before .before .before .before .before .before .before .before .before .before .before .before .before .before .before .before .before .before .before .before .before .before .before .before .before .args .here .figures .sides + c .before .before .before .before .before .before .before .before .before .before .before .before .before .before .before .before .before .before .before .before .before .before .fresh .result ≤ 1024 = c .before .before .before .before .before .before .before .before .before .before .before .before .before .before .before .before .before .before .before .before .before .if1 .left in
-    record {
+    let at-put-rows = c .before .before .before .before .before .before .before in
+    let at-count-pair = at-put-rows .before .before .before .before .before .before in
+    let at-if1 = at-count-pair .before .before .before .before in
+    let at-fresh = at-if1 .before in
+    let start = at-fresh .before .before .before .before .before .before .before .before .before in
+    let few : start .args .here .figures .sides + at-fresh .fresh .result ≤ 1024 = at-if1 .if1 .left in
+    rw (c .with-tree .ensures)
+    (record {
       taken = λ ts u y.
-          moved-tree _ _ _ _ _ _ _ _ _ y _ _ _ _ _ _ (more-sides _ _ _ _ _ _ _ _ _ y _ (c .before .before .before .before .before .before .before .before .before .before .before .before .before .before .before .before .before .before .before .before .before .before .fresh .ensures)) few
-          (c .before .before .before .before .before .before .before .before .before .before .before .before .before .before .before .before .before .count-pair .ensures) (c .before .greater .ensures) (c .before .before .before .before .before .before .before .before .before .before .before .put-rows .ensures);
-    }
+          moved-tree _ _ _ _ _ _ _ _ _ y _ _ _ _ _ (more-sides _ _ _ _ _ _ _ _ _ y _ (at-fresh .fresh .ensures)) few
+          (at-count-pair .count-pair .ensures) (at-put-rows .put-rows .ensures);
+    })
 
 pub take-tree-spec : {M : Type 1} → statement M
 take-tree-spec =
@@ -151,11 +145,7 @@ take-tree-spec =
     slice-aggregate-put-rows
     slice-aggregate-put-rows-2
     put-rows-requires
-    add-t17
-    add-t40
-    add-t41
-    greater-requires
-    add-t43
+    with-tree-requires
     same-length-2
     same-length-3
     same-length-4

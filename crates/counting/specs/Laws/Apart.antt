@@ -17,6 +17,7 @@ use Rattle.figures.specs.Laws.Grown.{figures-apart}
 use Rattle.figures.specs.Laws.Tables.{entries-at, images-more, sides-at, trees-no}
 use Rattle.figures.specs.Checks.{manyCheck, mostSides}
 use Rattle.counting.specs.Ready.{TableReady}
+use Rattle.figures.specs.OneMore.{withApart}
 use Rattle.figures.specs.Pairing.{lastTree}
 use Rattle.counting.specs.Taking.{Moved}
 use Rattle.figures.specs.Tables.{Table, isAccepted, tableOf}
@@ -26,17 +27,7 @@ pub moved-apart : (ts : List Table) (n more : ℕ) (u : List ℕ) (here : Standi
     → TableReady ts (tableOf n more u) here f t s → isAccepted (tableOf n more u) ≡ false
     → Moved limit (manyCheck limit (ts ++ (tableOf n more u ∷ []))) ts (tableOf n more u) (record {
       standing = record {
-        figures = record {
-          images = n;
-          tables = here .figures .tables + 1;
-          accepted = here .figures .accepted;
-          apart = here .figures .apart + 1;
-          sides = here .figures .sides;
-          pairs = here .figures .pairs;
-          «count_sum» = here .figures .«count_sum»;
-          «largest_count» = here .figures .«largest_count»;
-          used = here .figures .used + more;
-        };
+        figures = withApart (here .figures) n more;
         rows = here .rows;
         last = here .last;
       };

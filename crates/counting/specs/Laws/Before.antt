@@ -2,7 +2,7 @@
 use mathlib.Core.Bool.{not}
 use mathlib.Core.List.{List, List·Memᴰ·head, List·Memᴰ·tail, [], _∷_}
 use mathlib.Core.Path.{ap, refl, sym, _∙_, _≡_}
-use Prim.Native.Nat.{ℕ, _*_, _<_, _^_, _≤_}
+use Prim.Native.Nat.{ℕ, _*_, _+_, _<_, _^_, _≤_}
 use native.Mathlib.Omega.{arith}
 use lib.ListN.{drop, length, length-map, take}
 use lib.Pow.{pow-pos}
@@ -20,6 +20,7 @@ use Rattle.figures.specs.Figures.{counts, entriesAt}
 use Rattle.figures.specs.Laws.Pairs.{sum-cap}
 use Rattle.figures.specs.Laws.Tables.{counts-at, entries-at, entries-sides, trees-length, trees-link}
 use Rattle.figures.specs.Checks.{mostSides, mostTables}
+use Rattle.figures.specs.OneMore.{Fits}
 use Rattle.figures.specs.Pairing.{lastFrom, lastTree}
 use Rattle.counting.specs.Standing.{Holds, Stands}
 use Rattle.figures.specs.Tables.{Table, isAccepted, trees}
@@ -62,16 +63,19 @@ module _ (ts : List Table) (here : Standing) (f t s : List ℕ) (st : Stands lim
     last-few = omega (arith, length-take-le (here .rows) (here .last) (omega (arith, st .few, st .last-room)), st .few)
 
     -- what has to fit
-    pub numbers-few : n ≤ 64 → length ts < mostTables
-        → (here .figures .tables < mostTables) × (here .figures .accepted < mostTables) × (here .figures .apart < mostTables)
-        × (here .figures .«count_sum» ≤ 128000)
-    numbers-few few b =
+    pub numbers-fit : (more d : ℕ) → n ≤ 64 → length ts < mostTables → d ≤ 256 → here .figures .used + more < 2 ^ 64 → Fits (here .figures) more d
+    numbers-fit more d few b p u =
         let q : sum (counts limit ts) (λ c. c) ≤ length (trees limit ts) * 256 =
         rw (counts-at limit n ts one)
         (sum-cap n (trees limit ts) (λ T m. let o = links T m in omega (arith, inners-le n (fars T), length-map T far, o .most))) in
-        rw (st .figures) (
-          b,
-          omega (arith, filter-le isAccepted ts),
-          omega (arith, filter-le (λ t. not (isAccepted t)) ts),
-          omega (arith, q, trees-length limit ts, filter-le isAccepted ts),
-        )
+        let a = filter-le isAccepted ts in
+        let c = filter-le (λ t. not (isAccepted t)) ts in
+        let x = st .figures in
+        record {
+          tables = rw x b;
+          accepted = rw x (omega (arith, a));
+          apart = rw x (omega (arith, c));
+          sum = rw x (omega (arith, q, trees-length limit ts, a));
+          pair = p;
+          bytes = u;
+        }

@@ -24,7 +24,9 @@ use Rattle.tree.specs.Laws.Writing.{left-stand}
 use Rattle.tree.specs.Promises.{exact-answer}
 use Rattle.tree.specs.Readings.{exactCheck, exactOutcome}
 use Rattle.tree.specs.Writing.{rowsLeft}
-use Rattle.figures.specs.Tables.{isAccepted, tableOf, treeOf}
+use Rattle.figures.specs.Tables.{Table, isAccepted, tableOf, treeOf}
+use Rattle.counting.specs.Ready.{TableReady, TreeReady}
+use Rattle.counting.specs.declared.Standing.{Standing}
 
 module _ (n more : ℕ) (u f v f′ v′ : List ℕ) (c : CostTable limit n u) (a : length f ≡ 128) (b : length v ≡ 128) (w : Written)
     (l : LeftRows (exactOutcome limit n u f v) w f′ v′) where
@@ -43,12 +45,12 @@ module _ (n more : ℕ) (u f v f′ v′ : List ℕ) (c : CostTable limit n u) (
       go Passed s = absurd (let z = rw (e, checks, s) at (l .answered) in let o : _≡_ {A = ℕ} 0 1 = cc in omega arith)
 
   -- accepted: its rows stand in the first k places
-  pub record Held (k : ℕ) : Type 0 where
+  record Held (k : ℕ) : Type 0 where
     pub accepted : isAccepted (tableOf n more u) ≡ true
     pub is : rowsIn f′ v′ k ≡ treeOf limit (tableOf n more u)
     pub few : k ≤ 128
 
-  pub exact-tree : (k : ℕ) → w ≡ Places k → length f′ ≡ 128 → length v′ ≡ 128 → Held k
+  exact-tree : (k : ℕ) → w ≡ Places k → length f′ ≡ 128 → length v′ ≡ 128 → Held k
   unfolding isAccepted
   exact-tree k e g h =
       let l′ = subst (λ r. LeftRows (exactOutcome limit n u f v) r f′ v′) e l in
@@ -61,3 +63,11 @@ module _ (n more : ℕ) (u f v f′ v′ : List ℕ) (c : CostTable limit n u) (
     where
       counted : (r : ℕ) → Places r ≡ Places (length (exactRows limit n u)) → r ≡ length (exactRows limit n u)
       counted r e = cc
+
+-- so the tree is ready to be taken
+pub exact-ready : (ts : List Table) (n more : ℕ) (u f v f′ v′ : List ℕ) (here : Standing) (fs ns ss : List ℕ) → TableReady ts (tableOf n more u) here fs ns ss
+    → length f ≡ 128 → length v ≡ 128 → (w : Written) → LeftRows (exactOutcome limit n u f v) w f′ v′ → (k : ℕ) → w ≡ Places k → length f′ ≡ 128
+    → length v′ ≡ 128 → TreeReady ts (tableOf n more u) (record { count = k; fars = f′; costs = v′ }) here fs ns ss
+exact-ready ts n more u f v f′ v′ here fs ns ss y a b w l k e g h =
+    let t = exact-tree n more u f v f′ v′ (y .read .formed) a b w l k e g h in
+    record { table = y; accepted = t .accepted; is = t .is; far-room = g; cost-room = h; few = t .few }

@@ -2,7 +2,7 @@
 use mathlib.Core.Bool.{false}
 use mathlib.Core.List.{List, [], _++_, _∷_}
 use mathlib.Core.Path.{ap, ap₂, refl, sym, _∙_, _≡_}
-use Prim.Native.Nat.{max, ℕ, _*_, _+_, _^_, _≤_}
+use Prim.Native.Nat.{ℕ, _*_, _+_, _^_, _≤_}
 use native.Mathlib.Omega.{arith}
 use lib.Dec.{ltb}
 use lib.ListN.{length, take}
@@ -24,13 +24,14 @@ use Rattle.seen.specs.Laws.Which.{seen-ascends}
 use Rattle.seen.specs.Put.{putAll}
 use Rattle.seen.specs.Ready.{PutReady}
 use Rattle.seen.specs.Seen.{entries}
-use Rattle.figures.specs.Figures.{counts, entriesAt, largest, sidesAt}
+use Rattle.figures.specs.Figures.{entriesAt, sidesAt}
 use Rattle.counting.specs.Laws.Before.{links}
 use Rattle.figures.specs.Laws.Pairs.{last-more}
 use Rattle.figures.specs.Laws.Grown.{figures-tree}
 use Rattle.figures.specs.Laws.Tables.{entries-at, entries-count, entries-sides, images-more, trees-length, trees-yes}
 use Rattle.figures.specs.Checks.{manyCheck, mostSides}
 use Rattle.counting.specs.Ready.{TreeReady}
+use Rattle.figures.specs.OneMore.{withTree}
 use Rattle.figures.specs.Pairing.{lastTree, pairCount}
 use Rattle.counting.specs.Taking.{Moved}
 use Rattle.figures.specs.Tables.{Table, accepted, isAccepted, tableOf, treeOf, trees}
@@ -73,29 +74,18 @@ module _ (ts : List Table) (n more : ℕ) (u : List ℕ) (tree : Rows) (here : S
         room = record { sides = omega (arith, r .sides); trees = omega (arith, r .trees); sums = omega (arith, r .sums) };
       }
 
-  pub moved-tree : (all d most : ℕ) (f′ t′ s′ : List ℕ) → all ≡ sidesAt limit (ts ++ (tableOf n more u ∷ [])) → all ≤ mostSides
+  pub moved-tree : (all d : ℕ) (f′ t′ s′ : List ℕ) → all ≡ sidesAt limit (ts ++ (tableOf n more u ∷ [])) → all ≤ mostSides
       → d ≡ pairCount n (here .figures .accepted) (take (here .rows) (here .last)) (take (tree .count) (tree .fars))
-      → most ≡ max (here .figures .«largest_count») d
       → Stored (putAll n (rowsIn (tree .fars) (tree .costs) (tree .count)) (entriesIn f t s (here .figures .sides))) all f t s f′ t′ s′
       → Moved limit (manyCheck limit (ts ++ (tableOf n more u ∷ []))) ts (tableOf n more u) (record {
         standing = record {
-          figures = record {
-            images = n;
-            tables = here .figures .tables + 1;
-            accepted = here .figures .accepted + 1;
-            apart = here .figures .apart;
-            sides = all;
-            pairs = here .figures .accepted;
-            «count_sum» = here .figures .«count_sum» + d;
-            «largest_count» = most;
-            used = here .figures .used + more;
-          };
+          figures = withTree (here .figures) n more all d;
           rows = tree .count;
           last = tree .fars;
         };
         stop = Passed;
       }) f t s f′ t′ s′
-  moved-tree all d most f′ t′ s′ e h ed em o =
+  moved-tree all d f′ t′ s′ e h ed o =
       let tb = tableOf n more u in
       let T = treeOf limit tb in
       let one = y .table .one in
@@ -105,7 +95,6 @@ module _ (ts : List Table) (n more : ℕ) (u : List ℕ) (tree : Rows) (here : S
       let ed′ : d ≡ pairCount n (length (accepted ts)) (fars (lastTree (trees limit ts))) (fars T) =
       ed ∙ ap₂ (λ (l r : List ℕ). pairCount n (here .figures .accepted) l r) (x .last-sides) (far-front ts n more u tree here f t s y)
       ∙ ap (λ (z : Figures). pairCount n (z .accepted) (fars (lastTree (trees limit ts))) (fars T)) (x .figures) in
-      let em′ : most ≡ max (largest (counts limit ts)) d = em ∙ ap (λ (z : Figures). max (z .«largest_count») d) (x .figures) in
       rw q (record {
         stopped = refl;
         stands = record {
@@ -114,7 +103,7 @@ module _ (ts : List Table) (n more : ℕ) (u : List ℕ) (tree : Rows) (here : S
             formed = each-end (λ (t : Table). CostTable limit (t .images) (t .costs)) ts tb (x .sound .formed) (y .table .read .formed);
             kept = rw e at h;
           };
-          figures = rw (x .figures, e) (figures-tree limit n ts tb one refl (y .accepted) d ed′ most em′);
+          figures = rw (x .figures, e) (figures-tree limit n ts tb one refl (y .accepted) d ed′);
           last-room = y .far-room;
           few = y .few;
           last-sides = rw (trees-yes limit ts tb (y .accepted), last-more (trees limit ts) T) (far-front ts n more u tree here f t s y);

@@ -8,14 +8,13 @@ use lib.ListN.{length, length-append}
 use Rattle.ground.specs.Filters.{Each}
 use Rattle.ground.specs.Laws.Filters.{each-end, filter-append}
 use Rattle.ground.specs.Sums.{sum}
-use Rattle.theory.specs.FarSides.{sides}
 use Rattle.theory.specs.LinkTables.{Row, fars}
 use Rattle.seen.specs.Seen.{seen}
 use Rattle.figures.specs.Figures.{countOf, counts, figuresOf, largest, neighbours, sidesAt}
 use Rattle.figures.specs.Laws.Pairs.{most-more, pairs-more, sum-more}
+use Rattle.figures.specs.OneMore.{withApart, withTree}
 use Rattle.figures.specs.Pairing.{lastTree, pairCount}
 use Rattle.figures.specs.Tables.{Table, accepted, apart, isAccepted, treeOf, trees}
-use Rattle.figures.specs.declared.Figures.{Figures}
 use Rattle.figures.specs.Laws.Tables.{counts-at, images-more, sides-at, trees-length, trees-no, trees-yes}
 
 pub sum-end : (ts : List Table) (tb : Table) → sum (ts ++ (tb ∷ [])) (λ t. t .used) ≡ sum ts (λ t. t .used) + tb .used
@@ -31,17 +30,7 @@ module _ (L n : ℕ) (ts : List Table) (tb : Table) (one : Each ts (λ t. t .ima
 
   -- a table that gets 7
   pub figures-apart : isAccepted tb ≡ false
-      → _≡_ {A = Figures} (record {
-        images = n;
-        tables = length ts + 1;
-        accepted = length (accepted ts);
-        apart = length (apart ts) + 1;
-        sides = sidesAt L ts;
-        pairs = length (counts L ts);
-        «count_sum» = sum (counts L ts) (λ c. c);
-        «largest_count» = largest (counts L ts);
-        used = sum ts (λ t. t .used) + tb .used;
-      }) (figuresOf L (ts ++ (tb ∷ [])))
+      → withApart (figuresOf L ts) n (tb .used) ≡ figuresOf L (ts ++ (tb ∷ []))
   figures-apart sev =
       let a : accepted (ts ++ (tb ∷ [])) ≡ accepted ts = rw (filter-append isAccepted ts (tb ∷ []), sev) (append-nil (accepted ts)) in
       let b : length (apart (ts ++ (tb ∷ []))) ≡ length (apart ts) + 1 =
@@ -54,19 +43,8 @@ module _ (L n : ℕ) (ts : List Table) (tb : Table) (one : Each ts (λ t. t .ima
 
   -- one with a tree; d is its count with the last tree before it
   pub figures-tree : isAccepted tb ≡ true → (d : ℕ) → d ≡ pairCount n (length (accepted ts)) (fars (lastTree (trees L ts))) (fars (treeOf L tb))
-      → (m : ℕ) → m ≡ max (largest (counts L ts)) d
-      → _≡_ {A = Figures} (record {
-        images = n;
-        tables = length ts + 1;
-        accepted = length (accepted ts) + 1;
-        apart = length (apart ts);
-        sides = sidesAt L (ts ++ (tb ∷ []));
-        pairs = length (accepted ts);
-        «count_sum» = sum (counts L ts) (λ c. c) + d;
-        «largest_count» = m;
-        used = sum ts (λ t. t .used) + tb .used;
-      }) (figuresOf L (ts ++ (tb ∷ [])))
-  figures-tree acc d ed m em =
+      → withTree (figuresOf L ts) n (tb .used) (sidesAt L (ts ++ (tb ∷ []))) d ≡ figuresOf L (ts ++ (tb ∷ []))
+  figures-tree acc d ed =
       let T = treeOf L tb in
       let Ts = trees L ts in
       let a : length (accepted (ts ++ (tb ∷ []))) ≡ length (accepted ts) + 1 = rw (filter-append isAccepted ts (tb ∷ []), acc) (length-end (accepted ts) tb) in
@@ -78,6 +56,6 @@ module _ (L n : ℕ) (ts : List Table) (tb : Table) (one : Each ts (λ t. t .ima
       let p : length (counts L (ts ++ (tb ∷ []))) ≡ length (accepted ts) = ap length k ∙ pairs-more n T Ts ∙ x in
       let u : sum (counts L (ts ++ (tb ∷ []))) (λ c. c) ≡ sum (counts L ts) (λ c. c) + d =
       rw (k, q) (sum-more n T Ts ∙ rw (x, ← ed) refl) in
-      let v : largest (counts L (ts ++ (tb ∷ []))) ≡ m =
-      rw k (most-more n T Ts ∙ rw (x, ← ed, ← q, ← em) refl) in
+      let v : largest (counts L (ts ++ (tb ∷ []))) ≡ max (largest (counts L ts)) d =
+      rw k (most-more n T Ts ∙ rw (x, ← ed, ← q) refl) in
       rw (images-more n ts tb one e, length-end ts tb, a, b, p, u, v, sum-end ts tb) refl

@@ -21,14 +21,19 @@ no-figures-requires c κs = search needs
 
 returns : tie.Need-returns
 returns c =
-    let a = c .before .before .before .before .before .before .before .before .before .args in
+    let at-is-short = c .before .before .before .before in
+    let start = at-is-short .before .before .before .before .before in
+    let a = start .args in
     rw (c .no-figures .ensures)
-    (left-short (a .bytes .now) (a .fars .now) (a .trees .now) (a .sums .now) _ (rw (c .before .before .before .before .is-short .ensures) at (c .before .before .before .refuse-if .ensures)) _ (c .before .enum-told2 .given .1))
+    (left-short (a .bytes .now) (a .fars .now) (a .trees .now) (a .sums .now) _ (rw (at-is-short .is-short .ensures) at (c .before .before .before .refuse-if .ensures)) _ (c .before .enum-told2 .given .1))
 
 run-requires : tie.Need-run-requires
 run-requires c κs =
-    let a = c .before .before .before .before .before .before .before .before .before .before .before .args in
-    call-room (a .bytes .now) (a .fars .now) (a .trees .now) (a .sums .now) _ (rw (c .before .before .before .before .before .before .is-short .ensures) at (c .before .before .before .before .before .refuse-if .ensures)) (c .before .before .before .enum-told .given .1)
+    let at-refuse-if = c .before .before .before .before .before in
+    let at-is-short = at-refuse-if .before in
+    let start = at-is-short .before .before .before .before .before in
+    let a = start .args in
+    call-room (a .bytes .now) (a .fars .now) (a .trees .now) (a .sums .now) _ (rw (at-is-short .is-short .ensures) at (at-refuse-if .refuse-if .ensures)) (c .before .before .before .enum-told .given .1)
 
 same-length : tie.Need-same-length
 same-length c = search needs
@@ -41,9 +46,14 @@ same-length-3 c = search needs
 
 returns-2 : tie.Need-returns-2
 returns-2 c =
-    let a = c .before .before .before .before .before .before .before .before .before .before .before .before .before .before .before .before .before .before .args in
-    left-read (a .bytes .now) (a .fars .now) (a .trees .now) (a .sums .now) _ (rw (c .before .before .before .before .before .before .before .before .before .before .before .before .before .is-short .ensures) at (c .before .before .before .before .before .before .before .before .before .before .before .before .refuse-if .ensures)) _ _ _ _
-    (c .before .before .before .before .before .before .before .before .before .before .enum-told .given .1) (c .before .before .before .before .before .before .run .ensures)
+    let at-run = c .before .before .before .before .before .before in
+    let at-enum-told = at-run .before .before .before .before in
+    let at-refuse-if = at-enum-told .before .before in
+    let at-is-short = at-refuse-if .before in
+    let start = at-is-short .before .before .before .before .before in
+    let a = start .args in
+    left-read (a .bytes .now) (a .fars .now) (a .trees .now) (a .sums .now) _ (rw (at-is-short .is-short .ensures) at (at-refuse-if .refuse-if .ensures)) _ _ _ _
+    (at-enum-told .enum-told .given .1) (at-run .run .ensures)
 
 pub report-spec : {M : Type 1} → statement M
 report-spec =

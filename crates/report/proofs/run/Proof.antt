@@ -32,15 +32,21 @@ same-length-3 : tie.Need-same-length-3 Inv-loop μ-loop
 same-length-3 c = search needs
 
 returns : tie.Need-returns Inv-loop μ-loop
-returns c = running-bytes _ _ _ _ (c .before .before .before .before .before .before .before .before .before .before .pre) _ _ _ _ _ (c .before .before .before .before .loop .inv .2) (c .if1 .taken)
+returns c =
+    let at-loop = c .before .before .before .before in
+    let start = at-loop .before .before .before .before .before .before in
+    running-bytes _ _ _ _ (start .pre) _ _ _ _ _ (at-loop .loop .inv .2) (c .if1 .taken)
 
 slice-aggregate-take-next : tie.Need-slice-aggregate-take-next Inv-loop μ-loop
 slice-aggregate-take-next c = search needs
 
 take-next-requires : tie.Need-take-next-requires Inv-loop μ-loop
 take-next-requires c κs =
-    let r = c .before .before .before .before .before .before .before .before .loop .inv .2 in
-    (c .before .before .before .before .before .before .before .before .loop .inv .1, record { ts = r .read; paused = running-paused _ _ _ _ (c .before .before .before .before .before .before .before .before .before .before .before .before .before .before .pre) _ _ _ _ _ r (c .before .before .before .before .before .before .before .loop-test .taken) })
+    let at-loop-test = c .before .before .before .before .before .before .before in
+    let at-loop = at-loop-test .before in
+    let start = at-loop .before .before .before .before .before .before in
+    let r = at-loop .loop .inv .2 in
+    (at-loop .loop .inv .1, record { ts = r .read; paused = running-paused _ _ _ _ (start .pre) _ _ _ _ _ r (at-loop-test .loop-test .taken) })
 
 enum-told : tie.Need-enum-told Inv-loop μ-loop
 enum-told c = search needs
@@ -62,9 +68,14 @@ same-length-6 c = search needs
 
 returns-2 : tie.Need-returns-2 Inv-loop μ-loop
 returns-2 c =
-    let r = c .before .before .before .before .before .before .before .before .before .before .before .before .before .before .before .before .before .before .before .before .loop .inv .2 in
-    running-stops _ _ _ _ (c .before .before .before .before .before .before .before .before .before .before .before .before .before .before .before .before .before .before .before .before .before .before .before .before .before .before .pre) _ _ _ _ _ r (c .before .before .before .before .before .before .before .before .before .before .before .before .before .before .before .before .before .before .before .loop-test .taken) (c .before .before .before .before .before .before .before .before .before .before .before .before .before .before .before .before .if1 .left) _ _ _ _
-    (c .before .before .before .before .before .before .before .before .before .before .before .take-next .ensures .turned (r .read) (running-paused _ _ _ _ (c .before .before .before .before .before .before .before .before .before .before .before .before .before .before .before .before .before .before .before .before .before .before .before .before .before .before .pre) _ _ _ _ _ r (c .before .before .before .before .before .before .before .before .before .before .before .before .before .before .before .before .before .before .before .loop-test .taken))) _
+    let at-take-next = c .before .before .before .before .before .before .before .before .before .before .before in
+    let at-if1 = at-take-next .before .before .before .before .before in
+    let at-loop-test = at-if1 .before .before .before in
+    let at-loop = at-loop-test .before in
+    let start = at-loop .before .before .before .before .before .before in
+    let r = at-loop .loop .inv .2 in
+    running-stops _ _ _ _ (start .pre) _ _ _ _ _ r (at-loop-test .loop-test .taken) (at-if1 .if1 .left) _ _ _ _
+    (at-take-next .take-next .ensures .turned (r .read) (running-paused _ _ _ _ (start .pre) _ _ _ _ _ r (at-loop-test .loop-test .taken))) _
     (c .before .enum-told2 .given .1)
 
 add-k : tie.Need-add-k Inv-loop μ-loop
@@ -75,12 +86,17 @@ loop-less c = search needs
 
 loop-again : tie.Need-loop-again Inv-loop μ-loop
 loop-again c =
-    let r = c .before .before .before .before .before .before .before .before .before .before .before .before .before .before .before .before .before .before .before .loop .inv .2 in
-    let k = c .before .before .before .before .before .before .before .before .before .before .take-next .kept .1 in (
-      omega (arith, c .before .before .before .before .before .before .before .before .before .before .before .before .before .before .before .before .before .before .loop-test .taken),
-      k .0 ∙ c .before .before .before .before .before .before .before .before .before .before .before .before .before .before .before .before .before .before .before .loop .inv .1,
-      running-more _ _ _ _ (c .before .before .before .before .before .before .before .before .before .before .before .before .before .before .before .before .before .before .before .before .before .before .before .before .before .pre) _ _ _ _ _ r (c .before .before .before .before .before .before .before .before .before .before .before .before .before .before .before .before .before .before .loop-test .taken) (c .before .before .before .before .before .before .before .before .before .before .before .before .before .before .before .if1 .left) _ _ _ _
-          (c .before .before .before .before .before .before .before .before .before .before .take-next .ensures .turned (r .read) (running-paused _ _ _ _ (c .before .before .before .before .before .before .before .before .before .before .before .before .before .before .before .before .before .before .before .before .before .before .before .before .before .pre) _ _ _ _ _ r (c .before .before .before .before .before .before .before .before .before .before .before .before .before .before .before .before .before .before .loop-test .taken)))
+    let at-take-next = c .before .before .before .before .before .before .before .before .before .before in
+    let at-if1 = at-take-next .before .before .before .before .before in
+    let at-loop-test = at-if1 .before .before .before in
+    let at-loop = at-loop-test .before in
+    let start = at-loop .before .before .before .before .before .before in
+    let r = at-loop .loop .inv .2 in
+    let k = at-take-next .take-next .kept .1 in (
+      omega (arith, at-loop-test .loop-test .taken),
+      k .0 ∙ at-loop .loop .inv .1,
+      running-more _ _ _ _ (start .pre) _ _ _ _ _ r (at-loop-test .loop-test .taken) (at-if1 .if1 .left) _ _ _ _
+          (at-take-next .take-next .ensures .turned (r .read) (running-paused _ _ _ _ (start .pre) _ _ _ _ _ r (at-loop-test .loop-test .taken)))
           (c .enum-told .given .1) (k .1 .1 .0) (k .1 .1 .1 .0) (k .1 .1 .1 .1 .0),
     )
 
@@ -94,7 +110,9 @@ same-length-9 : tie.Need-same-length-9 Inv-loop μ-loop
 same-length-9 c = search needs
 
 returns-3 : tie.Need-returns-3 Inv-loop μ-loop
-returns-3 c = running-full _ _ _ _ (c .before .before .before .before .before .before .before .before .pre) _ _ _ _ _ (c .before .before .loop .inv .2) (c .before .loop-test .left)
+returns-3 c =
+    let start = c .before .before .before .before .before .before .before .before in
+    running-full _ _ _ _ (start .pre) _ _ _ _ _ (c .before .before .loop .inv .2) (c .before .loop-test .left)
 
 pub run-spec : {M : Type 1} → statement M
 run-spec =

@@ -28,35 +28,44 @@ enum-known-read-2 c = search needs
 
 mul-size : tie.Need-mul-size
 mul-size c =
-    let s = c .before .before .before .before .before .before .before .before .before .before .before .before .before .before in
-    let q = read-at (s .args .bytes .now) (s .args .here .figures .used) (s .args .t .now) _ _ (s .pre .0) (c .before .before .before .before .before .read-costs .ensures) _ _ (c .before .read2 .given .1) in
+    let at-read-costs = c .before .before .before .before .before in
+    let at-before = at-read-costs .before .before .before .before .before .before .before .before in
+    let start = at-before .before in
+    let q = read-at (start .args .bytes .now) (start .args .here .figures .used) (start .args .t .now) _ _ (start .pre .0) (at-read-costs .read-costs .ensures) _ _ (c .before .read2 .given .1) in
     record { fits = omega (arith, q .size) }
 
 slice-reshare-prefix-take-read : tie.Need-slice-reshare-prefix-take-read
 slice-reshare-prefix-take-read c =
-    let s = c .before .before .before .before .before .before .before .before .before .before .before .before .before .before in
-    let q = read-at (s .args .bytes .now) (s .args .here .figures .used) (s .args .t .now) _ _ (s .pre .0) (c .before .before .before .before .before .read-costs .ensures) _ _ (c .before .read2 .given .1) in
-    omega (arith, q .size, s .pre .0, c .before .before .before .before .before .read-costs .kept .1 .1 .0)
+    let at-read-costs = c .before .before .before .before .before in
+    let at-before = at-read-costs .before .before .before .before .before .before .before .before in
+    let start = at-before .before in
+    let q = read-at (start .args .bytes .now) (start .args .here .figures .used) (start .args .t .now) _ _ (start .pre .0) (at-read-costs .read-costs .ensures) _ _ (c .before .read2 .given .1) in
+    omega (arith, q .size, start .pre .0, at-read-costs .read-costs .kept .1 .1 .0)
 
 slice-aggregate-take-read : tie.Need-slice-aggregate-take-read
 slice-aggregate-take-read c =
-    let s = c .before .before .before .before .before .before .before .before .before .before .before .before .before .before .before in
-    let q = read-at (s .args .bytes .now) (s .args .here .figures .used) (s .args .t .now) _ _ (s .pre .0) (c .before .before .before .before .before .before .read-costs .ensures) _ _ (c .before .before .read2 .given .1) in
+    let at-read-costs = c .before .before .before .before .before .before in
+    let at-before = at-read-costs .before .before .before .before .before .before .before .before in
+    let start = at-before .before in
+    let q = read-at (start .args .bytes .now) (start .args .here .figures .used) (start .args .t .now) _ _ (start .pre .0) (at-read-costs .read-costs .ensures) _ _ (c .before .before .read2 .given .1) in
     sym (q .formed .sized)
 
 take-read-requires : tie.Need-take-read-requires
 take-read-requires c κs =
-    let s = c .before .before .before .before .before .before .before .before .before .before .before .before .before .before .before .before .before .before in
-    let q = read-at (s .args .bytes .now) (s .args .here .figures .used) (s .args .t .now) _ _ (s .pre .0) (c .before .before .before .before .before .before .before .before .before .read-costs .ensures) _ _ (c .before .before .before .before .before .read2 .given .1) in
-    let y = s .pre .1 .paused in
+    let at-read2 = c .before .before .before .before .before in
+    let at-read-costs = at-read2 .before .before .before .before in
+    let at-before = at-read-costs .before .before .before .before .before .before .before .before in
+    let start = at-before .before in
+    let q = read-at (start .args .bytes .now) (start .args .here .figures .used) (start .args .t .now) _ _ (start .pre .0) (at-read-costs .read-costs .ensures) _ _ (at-read2 .read2 .given .1) in
+    let y = start .pre .1 .paused in
     record {
-      ts = s .pre .1 .ts;
+      ts = start .pre .1 .ts;
       ready = record {
         stands = y .stands;
         holds = y .holds;
         below = y .below;
         formed = q .formed;
-        fits = omega (arith, q .within, y .within, length-drop (s .args .here .figures .used) (s .args .bytes .now));
+        fits = omega (arith, q .within, y .within, length-drop (start .args .here .figures .used) (start .args .bytes .now));
       };
     }
 
@@ -65,11 +74,13 @@ same-length c = search needs
 
 returns : tie.Need-returns
 returns c =
-    let s = c .before .before .before .before .before .before .before .before .before .before .before .before .before .before in
+    let at-read-costs = c .before .before .before .before .before in
+    let at-before = at-read-costs .before .before .before .before .before .before .before .before in
+    let start = at-before .before in
     record {
       turned = λ ts y.
           moved-unread ts _ _ _ _ _ _ (y .stands) (y .holds)
-          (unread-at (s .args .bytes .now) (s .args .here .figures .used) (s .args .t .now) _ _ (s .pre .0) (c .before .before .before .before .before .read-costs .ensures) _ (c .before .read .given .1));
+          (unread-at (start .args .bytes .now) (start .args .here .figures .used) (start .args .t .now) _ _ (start .pre .0) (at-read-costs .read-costs .ensures) _ (c .before .read .given .1));
     }
 
 same-length-2 : tie.Need-same-length-2
@@ -86,12 +97,16 @@ same-length-5 c = search needs
 
 returns-2 : tie.Need-returns-2
 returns-2 c =
-    let s = c .before .before .before .before .before .before .before .before .before .before .before .before .before .before .before .before .before .before .before .before .before .before .before .before .before in
-    let q = read-at (s .args .bytes .now) (s .args .here .figures .used) (s .args .t .now) _ _ (s .pre .0) (c .before .before .before .before .before .before .before .before .before .before .before .before .before .before .before .before .read-costs .ensures) _ _ (c .before .before .before .before .before .before .before .before .before .before .before .before .read2 .given .1) in
+    let at-take-read = c .before .before .before .before .before .before in
+    let at-read2 = at-take-read .before .before .before .before .before .before in
+    let at-read-costs = at-read2 .before .before .before .before in
+    let at-before = at-read-costs .before .before .before .before .before .before .before .before in
+    let start = at-before .before in
+    let q = read-at (start .args .bytes .now) (start .args .here .figures .used) (start .args .t .now) _ _ (start .pre .0) (at-read-costs .read-costs .ensures) _ _ (at-read2 .read2 .given .1) in
     record {
       turned = λ ts y.
           moved-read ts _ _ _ _ _ _ _ _ _ (q .passed) (q .is)
-          (c .before .before .before .before .before .before .take-read .ensures .taken ts (record { stands = y .stands; holds = y .holds; below = y .below; formed = q .formed; fits = omega (arith, q .within, y .within, length-drop (s .args .here .figures .used) (s .args .bytes .now)) }));
+          (at-take-read .take-read .ensures .taken ts (record { stands = y .stands; holds = y .holds; below = y .below; formed = q .formed; fits = omega (arith, q .within, y .within, length-drop (start .args .here .figures .used) (start .args .bytes .now)) }));
     }
 
 pub take-next-spec : {M : Type 1} → statement M

@@ -18,8 +18,10 @@ returns c = record { taken = λ ts y. moved-other ts _ _ _ _ _ y _ (c .before .b
 
 take-table-requires : tie.Need-take-table-requires
 take-table-requires c κs =
-    let s = c .before .before .before .before .before .before .before .before .before .before .before .pre in
-    record { ts = s .ts; ready = read-ready (s .ts) _ _ _ _ _ (s .ready) _ (c .before .before .before .before .before .check-same .ensures) (c .before .before .before .enum-told .given .1) }
+    let at-check-same = c .before .before .before .before .before in
+    let start = at-check-same .before .before .before .before .before .before in
+    let s = start .pre in
+    record { ts = s .ts; ready = read-ready (s .ts) _ _ _ _ _ (s .ready) _ (at-check-same .check-same .ensures) (c .before .before .before .enum-told .given .1) }
 
 same-length : tie.Need-same-length
 same-length c = search needs
@@ -32,10 +34,13 @@ same-length-3 c = search needs
 
 returns-2 : tie.Need-returns-2
 returns-2 c =
+    let at-take-table = c .before .before .before .before .before .before in
+    let at-enum-told = at-take-table .before .before .before .before in
+    let at-check-same = at-enum-told .before .before in
     record {
       taken = λ ts y.
-          moved-same ts _ _ _ _ _ y _ (c .before .before .before .before .before .before .before .before .before .before .before .before .check-same .ensures) _ _ _ _ (c .before .before .before .before .before .before .before .before .before .before .enum-told .given .1)
-          (c .before .before .before .before .before .before .take-table .ensures .taken ts (read-ready ts _ _ _ _ _ y _ (c .before .before .before .before .before .before .before .before .before .before .before .before .check-same .ensures) (c .before .before .before .before .before .before .before .before .before .before .enum-told .given .1)));
+          moved-same ts _ _ _ _ _ y _ (at-check-same .check-same .ensures) _ _ _ _ (at-enum-told .enum-told .given .1)
+          (at-take-table .take-table .ensures .taken ts (read-ready ts _ _ _ _ _ y _ (at-check-same .check-same .ensures) (at-enum-told .enum-told .given .1)));
     }
 
 pub take-read-spec : {M : Type 1} → statement M
