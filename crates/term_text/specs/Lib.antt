@@ -2,5 +2,7 @@
 pub mod Lines
 pub mod Printed
 pub mod Promises
+-- Texts of reports, computed.
+pub mod Examples
 -- What is true of them.
 pub mod Laws

@@ -1,62 +1,129 @@
+-- `term_text::put_figures` meets its contract: five words with a number each, and the end of the line. Assumes nothing.
+use mathlib.Core.List.{List, [], _++_, _∷_}
+use Prim.Native.Nat.{ℕ}
 use borrow.Author.Needs.{needs}
+use Rattle.figures.specs.declared.Figures.{Figures}
+use Rattle.text.specs.Laws.Putting.{byte-last-fits, rest-begin, rest-fits, rest-last, rest-step}
+use Rattle.text.specs.Putting.{Rest}
+use Rattle.text.specs.Words.{bytesOf}
+use Rattle.term_text.specs.Lines.{figuresLine, named}
 use Rattle.term_text.proofs.put_figures.Statement.{statement}
 use Rattle.term_text.proofs.put_figures.Tie as tie
-use Rattle.term_text.proofs.put_figures.Reads as reads
-use Rattle.term_text.proofs.put_figures.Lts as lts
-use Rattle.term_text.proofs.put_named.Reads as put-named-reads
-use Rattle.text.proofs.put_byte.Reads as put-byte-reads
 
--- src/lib.rt:30:32
+-- what is left of the line behind each number, from the last but one on
+abbrev from-bytes : Figures → List ℕ
+from-bytes f = named " bytes" (f .used) ++ (10 ∷ [])
+
+abbrev from-apart : Figures → List ℕ
+from-apart f = named " apart" (f .apart) ++ from-bytes f
+
+abbrev from-accepted : Figures → List ℕ
+from-accepted f = named " accepted" (f .accepted) ++ from-apart f
+
+abbrev from-tables : Figures → List ℕ
+from-tables f = named " tables" (f .tables) ++ from-accepted f
+
+-- where the call began, as seen from behind each number
+abbrev s1 : tie.After-put-named → tie.Start
+s1 c = c .before .before .before .before
+
+abbrev s2 : tie.After-put-named2 → tie.Start
+s2 c = s1 (c .before .before .before .before .before)
+
+abbrev s3 : tie.After-put-named3 → tie.Start
+s3 c = s2 (c .before .before .before .before .before)
+
+abbrev s4 : tie.After-put-named4 → tie.Start
+s4 c = s3 (c .before .before .before .before .before)
+
+abbrev s5 : tie.After-put-named5 → tie.Start
+s5 c = s4 (c .before .before .before .before .before)
+
+-- what is left to write there
+left-1 : (c : tie.After-put-named) → let s = s1 c in
+    Rest (from-tables (s .args .figures)) (c .put-named .result) (c .put-named .last .0) (figuresLine (s .args .figures)) (s .args .at) (s .args .out .now)
+unfolding figuresLine bytesOf
+left-1 c =
+    let s = s1 c in
+    rest-step (named "images" (s .args .figures .images)) (from-tables (s .args .figures)) (rest-begin (figuresLine (s .args .figures)) (s .args .at) (s .args .out .now)) (s .pre) (c .put-named .ensures)
+
+left-2 : (c : tie.After-put-named2) → let s = s2 c in
+    Rest (from-accepted (s .args .figures)) (c .put-named2 .result) (c .put-named2 .last .0) (figuresLine (s .args .figures)) (s .args .at) (s .args .out .now)
+unfolding bytesOf
+left-2 c =
+    let s = s2 c in
+    rest-step (named " tables" (s .args .figures .tables)) (from-accepted (s .args .figures)) (left-1 (c .before .before .before .before .before)) (s .pre) (c .put-named2 .ensures)
+
+left-3 : (c : tie.After-put-named3) → let s = s3 c in
+    Rest (from-apart (s .args .figures)) (c .put-named3 .result) (c .put-named3 .last .0) (figuresLine (s .args .figures)) (s .args .at) (s .args .out .now)
+unfolding bytesOf
+left-3 c =
+    let s = s3 c in
+    rest-step (named " accepted" (s .args .figures .accepted)) (from-apart (s .args .figures)) (left-2 (c .before .before .before .before .before)) (s .pre) (c .put-named3 .ensures)
+
+left-4 : (c : tie.After-put-named4) → let s = s4 c in
+    Rest (from-bytes (s .args .figures)) (c .put-named4 .result) (c .put-named4 .last .0) (figuresLine (s .args .figures)) (s .args .at) (s .args .out .now)
+unfolding bytesOf
+left-4 c =
+    let s = s4 c in
+    rest-step (named " apart" (s .args .figures .apart)) (from-bytes (s .args .figures)) (left-3 (c .before .before .before .before .before)) (s .pre) (c .put-named4 .ensures)
+
+left-5 : (c : tie.After-put-named5) → let s = s5 c in
+    Rest (10 ∷ []) (c .put-named5 .result) (c .put-named5 .last .0) (figuresLine (s .args .figures)) (s .args .at) (s .args .out .now)
+unfolding bytesOf
+left-5 c =
+    let s = s5 c in
+    rest-step (named " bytes" (s .args .figures .used)) (10 ∷ []) (left-4 (c .before .before .before .before .before)) (s .pre) (c .put-named5 .ensures)
+
 slice-aggregate-put-named : tie.Need-slice-aggregate-put-named
 slice-aggregate-put-named c = search needs
 
--- src/lib.rt:30:9
 put-named-requires : tie.Need-put-named-requires
-put-named-requires c κs = search needs
+unfolding figuresLine bytesOf
+put-named-requires c κs =
+    let s = c .before .before .before in
+    rest-fits (named "images" (s .args .figures .images)) (from-tables (s .args .figures)) (rest-begin (figuresLine (s .args .figures)) (s .args .at) (s .args .out .now)) (s .pre)
 
--- src/lib.rt:31:31
 slice-aggregate-put-named-2 : tie.Need-slice-aggregate-put-named-2
 slice-aggregate-put-named-2 c = search needs
 
--- src/lib.rt:31:9
 put-named-requires-2 : tie.Need-put-named-requires-2
-put-named-requires-2 c κs = search needs
+unfolding bytesOf
+put-named-requires-2 c κs =
+    let d = c .before .before .before .before in let s = s1 d in rest-fits (named " tables" (s .args .figures .tables)) (from-accepted (s .args .figures)) (left-1 d) (s .pre)
 
--- src/lib.rt:32:31
 slice-aggregate-put-named-3 : tie.Need-slice-aggregate-put-named-3
 slice-aggregate-put-named-3 c = search needs
 
--- src/lib.rt:32:9
 put-named-requires-3 : tie.Need-put-named-requires-3
-put-named-requires-3 c κs = search needs
+unfolding bytesOf
+put-named-requires-3 c κs =
+    let d = c .before .before .before .before in let s = s2 d in rest-fits (named " accepted" (s .args .figures .accepted)) (from-apart (s .args .figures)) (left-2 d) (s .pre)
 
--- src/lib.rt:33:31
 slice-aggregate-put-named-4 : tie.Need-slice-aggregate-put-named-4
 slice-aggregate-put-named-4 c = search needs
 
--- src/lib.rt:33:9
 put-named-requires-4 : tie.Need-put-named-requires-4
-put-named-requires-4 c κs = search needs
+unfolding bytesOf
+put-named-requires-4 c κs =
+    let d = c .before .before .before .before in let s = s3 d in rest-fits (named " apart" (s .args .figures .apart)) (from-bytes (s .args .figures)) (left-3 d) (s .pre)
 
--- src/lib.rt:34:31
 slice-aggregate-put-named-5 : tie.Need-slice-aggregate-put-named-5
 slice-aggregate-put-named-5 c = search needs
 
--- src/lib.rt:34:9
 put-named-requires-5 : tie.Need-put-named-requires-5
-put-named-requires-5 c κs = search needs
+unfolding bytesOf
+put-named-requires-5 c κs =
+    let d = c .before .before .before .before in let s = s4 d in rest-fits (named " bytes" (s .args .figures .used)) (10 ∷ []) (left-4 d) (s .pre)
 
--- src/lib.rt:35:5
 put-byte-requires : tie.Need-put-byte-requires
-put-byte-requires c κs = search needs
+put-byte-requires c κs = let d = c .before .before .before in byte-last-fits (left-5 d) (s5 d .pre)
 
--- src/lib.rt:26:1
 same-length : tie.Need-same-length
 same-length c = search needs
 
--- src/lib.rt:26:1
 returns : tie.Need-returns
-returns c = search needs
+returns c = rest-last (left-5 (c .before .before .before .before .before .before)) (c .before .before .put-byte .ensures)
 
 pub put-figures-spec : {M : Type 1} → statement M
 put-figures-spec =

@@ -1,46 +1,87 @@
+-- `term_text::put_pairs` meets its contract: three words with a number each, and the end of the line. Assumes nothing.
+use mathlib.Core.List.{List, [], _++_, _∷_}
+use Prim.Native.Nat.{ℕ}
 use borrow.Author.Needs.{needs}
+use Rattle.figures.specs.declared.Figures.{Figures}
+use Rattle.text.specs.Laws.Putting.{byte-last-fits, rest-begin, rest-fits, rest-last, rest-step}
+use Rattle.text.specs.Putting.{Rest}
+use Rattle.text.specs.Words.{bytesOf}
+use Rattle.term_text.specs.Lines.{pairsLine, named}
 use Rattle.term_text.proofs.put_pairs.Statement.{statement}
 use Rattle.term_text.proofs.put_pairs.Tie as tie
-use Rattle.term_text.proofs.put_pairs.Reads as reads
-use Rattle.term_text.proofs.put_pairs.Lts as lts
-use Rattle.term_text.proofs.put_named.Reads as put-named-reads
-use Rattle.text.proofs.put_byte.Reads as put-byte-reads
 
--- src/lib.rt:43:32
+-- what is left of the line behind its second number, and behind its first
+abbrev from-largest : Figures → List ℕ
+from-largest f = named " largest" (f .«largest_count») ++ (10 ∷ [])
+
+abbrev from-counts : Figures → List ℕ
+from-counts f = named " counts" (f .«count_sum») ++ from-largest f
+
+-- where the call began, as seen from behind each number
+abbrev s1 : tie.After-put-named → tie.Start
+s1 c = c .before .before .before .before
+
+abbrev s2 : tie.After-put-named2 → tie.Start
+s2 c = s1 (c .before .before .before .before .before)
+
+abbrev s3 : tie.After-put-named3 → tie.Start
+s3 c = s2 (c .before .before .before .before .before)
+
+-- what is left to write there
+left-1 : (c : tie.After-put-named) → let s = s1 c in
+    Rest (from-counts (s .args .figures)) (c .put-named .result) (c .put-named .last .0) (pairsLine (s .args .figures)) (s .args .at) (s .args .out .now)
+unfolding pairsLine bytesOf
+left-1 c =
+    let s = s1 c in
+    rest-step (named "pairs" (s .args .figures .pairs)) (from-counts (s .args .figures)) (rest-begin (pairsLine (s .args .figures)) (s .args .at) (s .args .out .now)) (s .pre) (c .put-named .ensures)
+
+left-2 : (c : tie.After-put-named2) → let s = s2 c in
+    Rest (from-largest (s .args .figures)) (c .put-named2 .result) (c .put-named2 .last .0) (pairsLine (s .args .figures)) (s .args .at) (s .args .out .now)
+unfolding bytesOf
+left-2 c =
+    let s = s2 c in
+    rest-step (named " counts" (s .args .figures .«count_sum»)) (from-largest (s .args .figures)) (left-1 (c .before .before .before .before .before)) (s .pre) (c .put-named2 .ensures)
+
+left-3 : (c : tie.After-put-named3) → let s = s3 c in
+    Rest (10 ∷ []) (c .put-named3 .result) (c .put-named3 .last .0) (pairsLine (s .args .figures)) (s .args .at) (s .args .out .now)
+unfolding bytesOf
+left-3 c =
+    let s = s3 c in
+    rest-step (named " largest" (s .args .figures .«largest_count»)) (10 ∷ []) (left-2 (c .before .before .before .before .before)) (s .pre) (c .put-named3 .ensures)
+
 slice-aggregate-put-named : tie.Need-slice-aggregate-put-named
 slice-aggregate-put-named c = search needs
 
--- src/lib.rt:43:9
 put-named-requires : tie.Need-put-named-requires
-put-named-requires c κs = search needs
+unfolding pairsLine bytesOf
+put-named-requires c κs =
+    let s = c .before .before .before in
+    rest-fits (named "pairs" (s .args .figures .pairs)) (from-counts (s .args .figures)) (rest-begin (pairsLine (s .args .figures)) (s .args .at) (s .args .out .now)) (s .pre)
 
--- src/lib.rt:44:31
 slice-aggregate-put-named-2 : tie.Need-slice-aggregate-put-named-2
 slice-aggregate-put-named-2 c = search needs
 
--- src/lib.rt:44:9
 put-named-requires-2 : tie.Need-put-named-requires-2
-put-named-requires-2 c κs = search needs
+unfolding bytesOf
+put-named-requires-2 c κs =
+    let d = c .before .before .before .before in let s = s1 d in rest-fits (named " counts" (s .args .figures .«count_sum»)) (from-largest (s .args .figures)) (left-1 d) (s .pre)
 
--- src/lib.rt:45:31
 slice-aggregate-put-named-3 : tie.Need-slice-aggregate-put-named-3
 slice-aggregate-put-named-3 c = search needs
 
--- src/lib.rt:45:9
 put-named-requires-3 : tie.Need-put-named-requires-3
-put-named-requires-3 c κs = search needs
+unfolding bytesOf
+put-named-requires-3 c κs =
+    let d = c .before .before .before .before in let s = s2 d in rest-fits (named " largest" (s .args .figures .«largest_count»)) (10 ∷ []) (left-2 d) (s .pre)
 
--- src/lib.rt:46:5
 put-byte-requires : tie.Need-put-byte-requires
-put-byte-requires c κs = search needs
+put-byte-requires c κs = let d = c .before .before .before in byte-last-fits (left-3 d) (s3 d .pre)
 
--- src/lib.rt:39:1
 same-length : tie.Need-same-length
 same-length c = search needs
 
--- src/lib.rt:39:1
 returns : tie.Need-returns
-returns c = search needs
+returns c = rest-last (left-3 (c .before .before .before .before .before .before)) (c .before .before .put-byte .ensures)
 
 pub put-pairs-spec : {M : Type 1} → statement M
 put-pairs-spec =
