@@ -97,7 +97,13 @@ fn put_end(out: &mut [u8], at: usize, table: usize, stop: Check) -> usize
 }
 
 // All lines of a report, whose entries stand in three slices.
-fn put_report(out: &mut [u8], answer: TermReport, fars: &[u64], trees: &[u32], sums: &[u64]) -> usize
+fn put_report(
+    out: &mut [u8],
+    answer: TermReport,
+    fars: &[u64],
+    trees: &[u32],
+    sums: &[u64],
+) -> usize
     requires { ⌜ (length (now fars) ≤ length (now trees)) × (length (now fars) ≤ length (now sums)) × Fits
         (reportWith answer (rowLines (now fars) (now trees) (now sums))) 0 (now out) ⌝ }
     ensures { λ r. ⌜ Put (reportWith answer (rowLines (now (fars .entry)) (now (trees .entry)) (now (sums .entry)))) 0 (now (out .entry)) r
@@ -125,6 +131,9 @@ fn write_report(out: &mut [u8], bytes: &[u8]) -> usize
     let sides = figures.sides;
     put_report(out, answer, &fars[..sides], &trees[..sides], &sums[..sides])
 }
+
+// How many bytes 500 stored cost tables have at the most, each of 64 images in the new form: no report uses more.
+pub const LONGEST_INPUT: usize = 2899000;
 
 // A text: how long it is, and its bytes in front of an array with room for every report.
 pub struct Text {

@@ -55,6 +55,10 @@ unfolding reportWith
 report-most r E h =
     simp length-append
     (omega (
-      arith, figures-most (r .figures), pairs-most (r .figures), sides-most (r .figures .sides), entries-most E,
+      arith,
+      figures-most (r .figures),
+      pairs-most (r .figures),
+      sides-most (r .figures .sides),
+      entries-most E,
       end-most (r .table) (r .stop),
     ))
