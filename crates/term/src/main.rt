@@ -5,11 +5,16 @@ use libc::STDIN_FILENO;
 use libc::STDOUT_FILENO;
 use term_text::LONGEST_INPUT;
 
-fn main() {
-    let mut input = [0u8; LONGEST_INPUT];
-    let count = io::read_full(STDIN_FILENO, &mut input);
+// Reads standard input into the lent places, as far as they go, and prints the report over it.
+fn print_report(input: &mut [u8]) {
+    let count = io::read_full(STDIN_FILENO, input);
     let text = term_text::term_report(&input[..count]);
     let length = text.length;
     let bytes = text.bytes;
     io::write_all(STDOUT_FILENO, &bytes[..length]);
+}
+
+fn main() {
+    let mut input = [0u8; LONGEST_INPUT];
+    print_report(&mut input);
 }
