@@ -2,3 +2,5 @@
 pub mod Lengths
 -- Of what the report has left.
 pub mod Left
+-- Of bytes that cannot matter to the reading.
+pub mod Behind

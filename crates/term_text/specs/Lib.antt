@@ -2,6 +2,8 @@
 pub mod Lines
 pub mod Printed
 pub mod Promises
+-- Bytes that cannot matter to it.
+pub mod Ignored
 -- Texts of reports, computed.
 pub mod Examples
 -- What is true of them.

@@ -132,7 +132,7 @@ fn write_report(out: &mut [u8], bytes: &[u8]) -> usize
     put_report(out, answer, &fars[..sides], &trees[..sides], &sums[..sides])
 }
 
-// How many bytes 500 stored cost tables have at the most, each of 64 images in the new form: no report uses more.
+// How many bytes 500 stored cost tables have at the most. Nothing behind them can matter to a report: `term-ignores` in specs/Ignored.antt.
 pub const LONGEST_INPUT: usize = 2899000;
 
 // A text: how long it is, and its bytes in front of an array with room for every report.
