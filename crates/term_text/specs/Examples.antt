@@ -12,7 +12,8 @@ use Rattle.figures.specs.Figures.{counts, entriesAt, sidesAt}
 use Rattle.figures.specs.Reading.{readOn}
 use Rattle.figures.specs.Tables.{trees}
 use Rattle.report.specs.Examples.{four-tables as reported, storedE, storedF, storedG}
-use Rattle.term_text.specs.Lines.{endLine, entryLine, entryLines, figuresLine, pairsLine, reportText, reportWith, sidesLine, termText}
+use Rattle.term_text.specs.Lines.{endLine, entryLine, entryLines, figuresLine, pairsLine, sidesLine}
+use Rattle.term_text.specs.Text.{reportText, reportWith, termText}
 
 -- no bytes
 pub nothing-read : termText []

@@ -8,7 +8,7 @@ use Rattle.theory.specs.Tables.{limit}
 use Rattle.bits.specs.Laws.Behind.{first-bytes}
 use Rattle.figures.specs.Reading.{mostTables}
 use Rattle.term_text.specs.Laws.Behind.{longestTable, read-behind}
-use Rattle.term_text.specs.Lines.{endedText, termText}
+use Rattle.term_text.specs.Text.{endedText, termText}
 
 -- how many bytes 500 of the longest tables have
 abbrev pub longestInput : ℕ

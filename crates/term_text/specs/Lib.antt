@@ -1,6 +1,6 @@
 -- The lines of the report, its text, and what the promise says.
 pub mod Lines
-pub mod Printed
+pub mod Text
 pub mod Promises
 -- Bytes that cannot matter to it.
 pub mod Ignored

@@ -1,20 +1,15 @@
--- The text of a term report, as bytes: fields stand one blank apart, and every line ends in a newline. Assumes nothing.
+-- The lines of a term report, as bytes: fields stand one blank apart, and every line ends in a newline. Assumes nothing.
 use mathlib.Core.List.{List, [], _++_, _∷_}
 use Prim.Native.Nat.{ℕ}
 use Prim.Native.String.{String}
 use Rattle.ground.specs.declared.Check.{Check}
 use Rattle.ground.specs.declared.Check.the-variants.{Passed, Refused}
-use Rattle.theory.specs.Tables.{limit}
 use Rattle.text.specs.Decimal.{decimal}
 use Rattle.text.specs.Fields.{field}
 use Rattle.text.specs.Words.{bytesOf}
 use Rattle.listing_lines.specs.Lines.{newline, refusedLine}
 use Rattle.seen.specs.Seen.{Entry}
-use Rattle.figures.specs.Figures.{entriesAt}
-use Rattle.figures.specs.Reading.{Ended, readAll}
 use Rattle.figures.specs.declared.Figures.{Figures}
-use Rattle.report.specs.Outcome.{reportOf}
-use Rattle.report.specs.declared.TermReport.{TermReport}
 
 -- a figure behind its word
 abbrev pub named : String → ℕ → List ℕ
@@ -47,21 +42,3 @@ entryLines (e ∷ E) = entryLine e ++ entryLines E
 unfoldable pub endLine : ℕ → Check → List ℕ
 endLine k Passed = []
 endLine k (Refused q) = named "table" k ++ ((32 ∷ []) ++ refusedLine q)
-
--- ## All lines
-
--- the report r, with the lines m of the far sides
-unfoldable pub reportWith : TermReport → List ℕ → List ℕ
-reportWith r m = figuresLine (r .figures) ++ (pairsLine (r .figures) ++ (sidesLine (r .figures .sides) ++ (m ++ endLine (r .table) (r .stop))))
-
--- the report r, with the entries E
-abbrev pub reportText : TermReport → List Entry → List ℕ
-reportText r E = reportWith r (entryLines E)
-
--- that of the tables read
-abbrev pub endedText : Ended → List ℕ
-endedText e = reportText (reportOf limit e) (entriesAt limit (e .read))
-
--- of the stored cost tables in the bytes
-unfoldable pub termText : List ℕ → List ℕ
-termText bytes = endedText (readAll limit bytes)

@@ -5,8 +5,7 @@ use Prim.Native.Nat.{ℕ, _≤_}
 use native.Mathlib.Omega.{arith}
 use lib.ListN.{drop, length, length-append, replicate, take}
 use lib.Seq.{take-at}
-use Rattle.term_text.specs.Lines.{termText}
-use Rattle.term_text.specs.Printed.{Printed, room}
+use Rattle.term_text.specs.Text.{Printed, room, termText}
 
 module _ (bytes : List ℕ) where
   -- what is printed is the text

@@ -4,12 +4,11 @@ use figures::Figures;
 use ground::Check;
 use report::TermReport;
 ghost use mathlib.Core.List.{_++_};
-ghost use mathlib.Core.Path.{_≡_};
 ghost use Prim.Native.Nat.{_≤_};
 ghost use lib.ListN.{length};
 ghost use Rattle.listing_lines.specs.Lines.{rowLine, rowLines};
-ghost use Rattle.term_text.specs.Lines.{endLine, figuresLine, pairsLine, reportWith, sidesLine, termText};
-ghost use Rattle.term_text.specs.Printed.{Printed, Within, room};
+ghost use Rattle.term_text.specs.Lines.{endLine, figuresLine, pairsLine, sidesLine};
+ghost use Rattle.term_text.specs.Text.{Printed, Within, reportWith, room, termText};
 ghost use Rattle.text.specs.Fields.{field};
 ghost use Rattle.text.specs.Putting.{Fits, Put};
 

@@ -1,6 +1,5 @@
 -- `term_text::put_count` meets its contract: a word with its number, and the end of the line. Assumes nothing.
-use mathlib.Core.List.{List, [], _++_, _∷_}
-use Prim.Native.Nat.{ℕ}
+use mathlib.Core.List.{[], _∷_}
 use borrow.Author.Needs.{needs}
 use Rattle.text.specs.Laws.Putting.{byte-last-fits, rest-begin, rest-fits, rest-last, rest-step}
 use Rattle.text.specs.Putting.{Rest}

@@ -5,7 +5,8 @@ use borrow.Author.Needs.{needs}
 use Rattle.listing_lines.specs.Lines.{rowLines}
 use Rattle.text.specs.Laws.Putting.{last-fits, rest-begin, rest-fits, rest-last, rest-step}
 use Rattle.text.specs.Putting.{Rest}
-use Rattle.term_text.specs.Lines.{endLine, figuresLine, pairsLine, reportWith, sidesLine}
+use Rattle.term_text.specs.Lines.{endLine, figuresLine, pairsLine, sidesLine}
+use Rattle.term_text.specs.Text.{reportWith}
 use Rattle.term_text.proofs.put_report.Statement.{statement}
 use Rattle.term_text.proofs.put_report.Tie as tie
 

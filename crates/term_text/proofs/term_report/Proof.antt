@@ -3,7 +3,7 @@ use mathlib.Core.Path.{sym}
 use lib.Seq.{length-take-le}
 use borrow.Author.Needs.{needs}
 use Rattle.text.specs.Laws.Putting.{put-front}
-use Rattle.term_text.specs.Printed.{Printed}
+use Rattle.term_text.specs.Text.{Printed}
 use Rattle.term_text.specs.Promises.{printed-within}
 use Rattle.term_text.proofs.term_report.Statement.{statement}
 use Rattle.term_text.proofs.term_report.Tie as tie

@@ -8,7 +8,7 @@ use lib.Seq.{length-take-le}
 use borrow.Author.Needs.{needs}
 use Rattle.text.specs.Laws.Pieces.{put-same}
 use Rattle.term_text.specs.Laws.Left.{Left, term-left}
-use Rattle.term_text.specs.Lines.{termText}
+use Rattle.term_text.specs.Text.{termText}
 use Rattle.term_text.proofs.write_report.Statement.{statement}
 use Rattle.term_text.proofs.write_report.Tie as tie
 

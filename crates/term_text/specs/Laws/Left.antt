@@ -18,8 +18,8 @@ use Rattle.figures.specs.Tables.{Table, imagesIn, trees}
 use Rattle.report.specs.Outcome.{LeftReport, outcome, reportOf, reportOutcome, roomCheck}
 use Rattle.report.specs.declared.TermReport.{TermReport}
 use Rattle.term_text.specs.Laws.Lengths.{report-most}
-use Rattle.term_text.specs.Lines.{endedText, entryLine, entryLines, reportWith, termText}
-use Rattle.term_text.specs.Printed.{room}
+use Rattle.term_text.specs.Lines.{entryLine, entryLines}
+use Rattle.term_text.specs.Text.{endedText, reportWith, room, termText}
 
 -- the lines of the entries are those of their columns
 column-lines : (E : List Entry) → rowLines (sidesIn E) (treesIn E) (sumsIn E) ≡ entryLines E

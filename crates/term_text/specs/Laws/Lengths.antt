@@ -1,6 +1,6 @@
 -- How long the lines of a report can be: there is room for every one of them. Assumes nothing.
-use mathlib.Core.List.{List, [], _++_, _∷_}
-use Prim.Native.Nat.{ℕ, _*_, _+_, _≤_}
+use mathlib.Core.List.{List, [], _∷_}
+use Prim.Native.Nat.{ℕ, _*_, _≤_}
 use native.Mathlib.Omega.{arith}
 use lib.ListN.{length, length-append}
 use Rattle.ground.specs.declared.Check.{Check}
@@ -13,8 +13,8 @@ use Rattle.listing_lines.specs.Lines.{refusedLine}
 use Rattle.seen.specs.Seen.{Entry}
 use Rattle.figures.specs.declared.Figures.{Figures}
 use Rattle.report.specs.declared.TermReport.{TermReport}
-use Rattle.term_text.specs.Lines.{endLine, entryLine, entryLines, figuresLine, pairsLine, reportText, reportWith, sidesLine}
-use Rattle.term_text.specs.Printed.{room}
+use Rattle.term_text.specs.Lines.{endLine, entryLine, entryLines, figuresLine, pairsLine, sidesLine}
+use Rattle.term_text.specs.Text.{reportText, reportWith, room}
 
 figures-most : (f : Figures) → length (figuresLine f) ≤ 140
 unfolding figuresLine bytesOf
