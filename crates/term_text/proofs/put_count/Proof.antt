@@ -18,7 +18,8 @@ left-1 : (c : tie.After-put-named) → let s = s1 c in
 unfolding sidesLine bytesOf
 left-1 c =
     let s = s1 c in
-    rest-step (named "sides" ((s .args .sides))) (10 ∷ []) (rest-begin (sidesLine (s .args .sides)) (s .args .at) (s .args .out .now)) (s .pre) (c .put-named .ensures)
+    rest-step (named "sides" ((s .args .sides))) (10 ∷ [])
+    (rest-begin (sidesLine (s .args .sides)) (s .args .at) (s .args .out .now)) (s .pre) (c .put-named .ensures)
 
 slice-aggregate-put-named : tie.Need-slice-aggregate-put-named
 slice-aggregate-put-named c = search needs
