@@ -7,7 +7,7 @@ use lib.ListN.{length}
 use Rattle.ground.specs.Filters.{Each}
 use Rattle.theory.specs.Tables.{CostTable, limit}
 use Rattle.tree.specs.LocalRows.{rowsIn}
-use Rattle.figures.specs.Reading.{mostTables}
+use Rattle.figures.specs.Checks.{mostTables}
 use Rattle.counting.specs.Standing.{Holds, Stands}
 use Rattle.figures.specs.Tables.{Table, isAccepted, treeOf}
 use Rattle.counting.specs.declared.Rows.{Rows}

@@ -9,7 +9,7 @@ use Rattle.theory.specs.Tables.{CostTable}
 use Rattle.seen.specs.Columns.{Room, Stored}
 use Rattle.figures.specs.Figures.{entriesAt, figuresOf, sidesAt}
 use Rattle.figures.specs.Pairing.{lastTree}
-use Rattle.figures.specs.Reading.{mostSides}
+use Rattle.figures.specs.Checks.{mostSides}
 use Rattle.figures.specs.Tables.{Table, imagesIn, trees}
 use Rattle.counting.specs.declared.Standing.{Standing}
 

@@ -9,7 +9,7 @@ use Rattle.ground.specs.declared.Check.the-variants.{Passed, Refused}
 use Rattle.theory.specs.Tables.{limit}
 use Rattle.seen.specs.Columns.{Stored}
 use Rattle.figures.specs.Figures.{entriesAt}
-use Rattle.figures.specs.Reading.{manyCheck}
+use Rattle.figures.specs.Checks.{manyCheck}
 use Rattle.counting.specs.Ready.{TableReady, TreeReady}
 use Rattle.counting.specs.Standing.{Stands}
 use Rattle.figures.specs.Tables.{Table, tableOf}

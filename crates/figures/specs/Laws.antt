@@ -1,3 +1,4 @@
 -- One table more.
 pub mod Pairs
 pub mod Tables
+pub mod Grown

@@ -6,6 +6,7 @@ pub mod Demand1
 pub mod Demand1Stored
 pub mod Demand1Newick
 pub mod Demand1Leaving
+pub mod Demand1Report
 -- What the readings, the consensus and the replay leave is taken by the calls over link tables as it stands.
 pub mod Onward
 -- What is true of it.

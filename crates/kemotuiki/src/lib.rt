@@ -9,6 +9,7 @@ use numbers::KemotuikiLinks;
 use numbers::KemotuikiOrder;
 use numbers::KemotuikiPath;
 use numbers::KemotuikiReplay;
+use numbers::KemotuikiReport;
 use numbers::KemotuikiRows;
 use numbers::KemotuikiTree;
 ghost use mathlib.Core.Path.{_≡_};
@@ -22,6 +23,7 @@ ghost use Rattle.routes.specs.Outcomes.{pathOutcome, upperOutcome, routeOutcome
 ghost use Rattle.compare.specs.Call.{comparison};
 ghost use Rattle.consensus.specs.Call.{consensusOutcome};
 ghost use Rattle.leaving.specs.Outcome.{replayOutcome};
+ghost use Rattle.report.specs.Outcome.{LeftReport, reportOutcome};
 ghost use Rattle.cost_writer.specs.Writing as costs-writing;
 ghost use Rattle.stored_costs.specs.Outcomes as costs-reading;
 ghost use Rattle.link_writer.specs.Writing as links-writing;
@@ -35,8 +37,9 @@ ghost use Rattle.newick_reader.specs.Outcomes as newick-reading;
 ghost use Rattle.refusal_text.specs.Text.{refusalTextOutcome};
 ghost use Rattle.numbers.specs.Numbers.{ofIndex, ofOrder, ofRows, ofPath, ofComparison, ofShared};
 ghost use Rattle.numbers.specs.Replays.{ofReplayed};
+ghost use Rattle.numbers.specs.Reports.{ofReport};
 ghost use Rattle.numbers.specs.Stored.{ofBytes, ofBatched, ofCosts, ofLinks, ofChosen, ofTree};
-ghost use Rattle.kemotuiki.specs.Crossing.{crossed, crossedRows};
+ghost use Rattle.kemotuiki.specs.Crossing.{crossed, crossedReport, crossedRows};
 ghost use Rattle.bits.specs.Editions.{editionBy};
 ghost use Rattle.stored_costs.specs.Form.{costForm};
 ghost use Rattle.stored_links.specs.Form.{linkForm};
@@ -185,6 +188,21 @@ pub extern "C" fn kemotuiki_replay(
         (now (costs .entry)))) r (now (fars .exit)) (now (costs .exit)) ⌝ }
 {
     numbers::of_replayed(leaving::replay(n, t, events, fars, costs))
+}
+
+// The term report over stored cost tables: its figures, and in front of three slices the far sides seen, each with its number of trees and the
+// sum of its doubled costs.
+#[no_mangle]
+pub extern "C" fn kemotuiki_report(
+    bytes: &[u8],
+    fars: &mut [u64],
+    trees: &mut [u32],
+    sums: &mut [u64],
+) -> KemotuikiReport
+    ensures { λ r. ⌜ LeftReport (crossedReport ofReport (reportOutcome limit (now (bytes .entry)) (now (fars .entry)) (now (trees .entry))
+        (now (sums .entry)))) r (now (fars .exit)) (now (trees .exit)) (now (sums .exit)) ⌝ }
+{
+    numbers::of_report(report::report(bytes, fars, trees, sums))
 }
 
 // A cost table stored. Here and below the form is 0 for the old one and any other number for the new one.

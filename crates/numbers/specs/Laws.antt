@@ -2,3 +2,4 @@
 pub mod Kept
 pub mod KeptStored
 pub mod KeptReplays
+pub mod KeptReports

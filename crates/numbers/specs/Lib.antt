@@ -3,6 +3,7 @@ pub mod Heads
 pub mod Numbers
 pub mod Stored
 pub mod Replays
+pub mod Reports
 -- Nothing is lost.
 pub mod Kept
 pub mod Laws

@@ -11,12 +11,14 @@ use ground::SignedAnswer;
 use ground::Written;
 use leaving::Replayed;
 use newick_reader::NewickTree;
+use report::TermReport;
 use stored_costs::StoredCosts;
 use stored_links::StoredLinks;
 ghost use mathlib.Core.Path.{_≡_};
 ghost use Rattle.numbers.specs.Heads.{accepted, refused};
 ghost use Rattle.numbers.specs.Numbers.{ofIndex, ofOrder, ofRows, ofPath, ofComparison, ofShared};
 ghost use Rattle.numbers.specs.Replays.{ofReplayed};
+ghost use Rattle.numbers.specs.Reports.{ofEnd, ofReport};
 ghost use Rattle.numbers.specs.Stored.{ofBytes, ofBatched, ofCosts, ofLinks, ofChosen, ofTree};
 
 // The refusal's number, 0 where the call was accepted; the table that was refused, where a call takes more than one; the refusal's places.
@@ -117,6 +119,21 @@ pub struct KemotuikiReplay {
     pub images: usize,
     pub rows: usize,
     pub event: usize,
+}
+
+// The figures of a term report, as `report::TermReport` has them; where a table was refused, its number stands in the head.
+#[repr(C)]
+pub struct KemotuikiReport {
+    pub head: KemotuikiHead,
+    pub images: usize,
+    pub tables: usize,
+    pub accepted: usize,
+    pub apart: usize,
+    pub sides: usize,
+    pub pairs: usize,
+    pub count_sum: usize,
+    pub largest_count: usize,
+    pub used: usize,
 }
 
 // The head of an accepted answer.
@@ -375,5 +392,35 @@ pub fn of_replayed(x: Replayed) -> KemotuikiReplay
             rows: x.rows,
             event: x.event,
         },
+    }
+}
+
+// The head of how a report ended: accepted, or the refusal with the table's number.
+fn of_end(table: usize, stop: Check) -> KemotuikiHead
+    ensures { λ r. ⌜ r ≡ ofEnd table stop ⌝ }
+{
+    match stop {
+        Check::Passed => accept(),
+        Check::Refused(r) => refuse(table, r),
+    }
+}
+
+// The numbers of a term report; those of a refused table are of the tables before it.
+pub fn of_report(x: TermReport) -> KemotuikiReport
+    ensures { λ r. ⌜ r ≡ ofReport x ⌝ }
+{
+    let figures = x.figures;
+    let stop = x.stop;
+    KemotuikiReport {
+        head: of_end(x.table, stop),
+        images: figures.images,
+        tables: figures.tables,
+        accepted: figures.accepted,
+        apart: figures.apart,
+        sides: figures.sides,
+        pairs: figures.pairs,
+        count_sum: figures.count_sum,
+        largest_count: figures.largest_count,
+        used: figures.used,
     }
 }

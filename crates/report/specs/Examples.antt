@@ -20,7 +20,8 @@ use Rattle.stored_costs.specs.Said.{entryOf, fillOf, imagesOf}
 use Rattle.seen.specs.Seen.{entries, seen}
 use Rattle.figures.specs.Figures.{counts, entriesAt, noFigures, sidesAt}
 use Rattle.report.specs.Outcome.{reportOf, roomCheck}
-use Rattle.figures.specs.Reading.{nextCheck, readAll, readOn}
+use Rattle.figures.specs.Checks.{nextCheck}
+use Rattle.figures.specs.Reading.{readAll, readOn}
 use Rattle.figures.specs.Tables.{isAccepted, trees}
 
 -- no bytes give zeros
@@ -35,8 +36,8 @@ pub ends-early : reportOf limit (readAll limit (storedA ++ newStoredA ++ (0x06 �
       table = 3;
       stop = Refused (refusal 9 0 0 0 0);
     }
-unfolding storedA newStoredA readOn nextCheck sidesAt counts trees isAccepted exactRows seen ones onesIn shifted leastOn bits bitsOf valueOf part fieldValue listed rowStart entryCost
-    tableOf imagesOf entryOf fillOf checkAll editionOf
+unfolding storedA newStoredA readOn nextCheck sidesAt counts trees isAccepted exactRows seen ones onesIn shifted leastOn bits
+    bitsOf valueOf part fieldValue listed rowStart entryCost tableOf imagesOf entryOf fillOf checkAll editionOf
 ends-early = refl
 
 unfoldable pub storedE : List ℕ
@@ -56,8 +57,8 @@ pub four-tables : (reportOf limit (readAll limit (storedE ++ storedF ++ storedG 
       stop = Passed;
     })
     × (entriesAt limit (readAll limit (storedE ++ storedF ++ storedG ++ storedE) .read) ≡ (12, 2, 8) ∷ [])
-unfolding storedE storedF storedG entriesAt entries readOn nextCheck sidesAt counts trees isAccepted exactRows seen ones onesIn shifted leastOn bits bitsOf valueOf part fieldValue listed rowStart entryCost
-    tableOf imagesOf entryOf fillOf checkAll editionOf
+unfolding storedE storedF storedG entriesAt entries readOn nextCheck sidesAt counts trees isAccepted exactRows seen ones onesIn shifted leastOn bits
+    bitsOf valueOf part fieldValue listed rowStart entryCost tableOf imagesOf entryOf fillOf checkAll editionOf
 four-tables = (refl, refl)
 
 -- the first table's n counts although it gets 7: A behind F is refused with 15, as table 2; but a short table of another n with 9
@@ -68,14 +69,14 @@ pub other-images : (reportOf limit (readAll limit (storedF ++ storedA))
       stop = Refused (refusal 15 0 0 0 0);
     })
     × (readAll limit (storedF ++ (0x06 ∷ 0x00 ∷ [])) .stop ≡ Refused (refusal 9 0 0 0 0))
-unfolding storedA storedF readOn nextCheck sidesAt counts trees isAccepted exactRows seen ones onesIn shifted leastOn bits bitsOf valueOf part fieldValue listed rowStart entryCost
-    tableOf imagesOf entryOf fillOf checkAll editionOf
+unfolding storedA storedF readOn nextCheck sidesAt counts trees isAccepted exactRows seen ones onesIn shifted leastOn bits
+    bitsOf valueOf part fieldValue listed rowStart entryCost tableOf imagesOf entryOf fillOf checkAll editionOf
 other-images = (refl, refl)
 
 -- what follows the last table that is read is not looked at
 pub not-looked-at : readOn limit 1 [] (storedA ++ (0xff ∷ [])) .stop ≡ Passed
-unfolding storedA readOn nextCheck sidesAt counts trees isAccepted exactRows seen ones onesIn shifted leastOn bits bitsOf valueOf part fieldValue listed rowStart entryCost
-    tableOf imagesOf entryOf fillOf checkAll editionOf
+unfolding storedA readOn nextCheck sidesAt counts trees isAccepted exactRows seen ones onesIn shifted leastOn bits
+    bitsOf valueOf part fieldValue listed rowStart entryCost tableOf imagesOf entryOf fillOf checkAll editionOf
 not-looked-at = refl
 
 -- 1,024 places are enough, and one fewer in any slice is not

@@ -8,7 +8,7 @@ use Rattle.ground.specs.declared.Check.{Check}
 use Rattle.ground.specs.declared.Check.the-variants.{Passed, Refused}
 use Rattle.ground.specs.declared.Refusal.{Refusal}
 use Rattle.theory.specs.Tables.{limit}
-use Rattle.figures.specs.Reading.{mostTables, nextCheck}
+use Rattle.figures.specs.Checks.{mostTables, nextCheck}
 use Rattle.figures.specs.Tables.{Table, tableAt}
 
 -- the bytes that the tables used

@@ -11,7 +11,8 @@ use Rattle.ground.specs.declared.Check.{Check}
 use Rattle.ground.specs.declared.Check.the-variants.{Passed, Refused}
 use Rattle.seen.specs.Columns.{sidesIn, sumsIn, treesIn}
 use Rattle.figures.specs.Figures.{entriesAt, figuresOf, noFigures}
-use Rattle.figures.specs.Reading.{Ended, mostSides, readAll}
+use Rattle.figures.specs.Checks.{mostSides}
+use Rattle.figures.specs.Reading.{Ended, readAll}
 use Rattle.report.specs.declared.TermReport.{TermReport}
 
 -- 3: one of the three slices has fewer than 1,024 places
@@ -31,21 +32,21 @@ abbrev pub reportOf : ℕ → Ended → TermReport
 reportOf L e = record { figures = figuresOf L (e .read); table = refusedTable (e .stop) (length (e .read)); stop = e .stop }
 
 -- an answer, and the three slices as a call leaves them
-pub record ReportOutcome : Type 0 where
-  pub answer : TermReport
+pub record ReportOutcome (A : Type 0) : Type 0 where
+  pub answer : A
   pub far-list : List ℕ
   pub tree-list : List ℕ
   pub sum-list : List ℕ
 
 -- a call answered r and left the far sides f, the numbers of trees t and the sums s, as o says
-pub record LeftReport (o : ReportOutcome) (r : TermReport) (f t s : List ℕ) : Type 0 where
+pub record LeftReport {A : Type 0} (o : ReportOutcome A) (r : A) (f t s : List ℕ) : Type 0 where
   pub answered : r ≡ o .answer
   pub far-sides : f ≡ o .far-list
   pub tree-numbers : t ≡ o .tree-list
   pub cost-sums : s ≡ o .sum-list
 
 -- refused with 3: table number 0, no figures, nothing altered; else the figures of the far sides seen stand in front
-abbrev pub outcome : ℕ → Check → Ended → List ℕ → List ℕ → List ℕ → ReportOutcome
+abbrev pub outcome : ℕ → Check → Ended → List ℕ → List ℕ → List ℕ → ReportOutcome TermReport
 outcome L Passed e f t s = record {
   answer = reportOf L e;
   far-list = front (sidesIn (entriesAt L (e .read))) f;
@@ -56,5 +57,5 @@ outcome L (Refused r) e f t s =
     record { answer = record { figures = noFigures; table = 0; stop = Refused r }; far-list = f; tree-list = t; sum-list = s }
 
 -- of the bytes, with the limit L
-abbrev pub reportOutcome : ℕ → List ℕ → List ℕ → List ℕ → List ℕ → ReportOutcome
+abbrev pub reportOutcome : ℕ → List ℕ → List ℕ → List ℕ → List ℕ → ReportOutcome TermReport
 reportOutcome L bytes f t s = outcome L (roomCheck (length f) (length t) (length s)) (readAll L bytes) f t s

@@ -3,12 +3,13 @@
 use mathlib.Core.Bool.{false≢true, not, true}
 use mathlib.Core.List.{List}
 use mathlib.Core.Logic.{inl, inr, _⊎_}
-use mathlib.Core.Path.{ap, refl, sym, _∙_, _≡_}
+use mathlib.Core.Path.{ap, refl, _≡_}
 use Prim.Native.Nat.{ℕ}
 use lib.ListN.{length}
 use borrow.Table.Steps.{cases}
 use Rattle.ground.specs.Filters.{Each}
 use Rattle.ground.specs.Laws.Filters.{filter-mem}
+use Rattle.ground.specs.Laws.Outcomes.{answer-once}
 use Rattle.ground.specs.declared.Check.{Check}
 use Rattle.ground.specs.declared.Check.the-variants.{Passed, Refused}
 use Rattle.theory.specs.FourPoint.{FourPoint}
@@ -76,8 +77,12 @@ apart-seven ts s t m f =
     let p = wiring-passed limit (cost (t .costs) (t .images)) (t .images) (c .formed) .1 f in
     false≢true (rw p at (q .0))
 
--- no second answer, and no second content of the three slices, meets the promise
-pub report-once : (o : ReportOutcome) (r q : TermReport) (f t s f′ t′ s′ : List ℕ) → LeftReport o r f t s → LeftReport o q f′ t′ s′
+-- no second answer, and no second content of the three slices, meets a promise
+pub left-report-once : {A : Type 0} {o : ReportOutcome A} {r q : A} {f t s f′ t′ s′ : List ℕ} → LeftReport o r f t s → LeftReport o q f′ t′ s′
     → (r ≡ q) × (f ≡ f′) × (t ≡ t′) × (s ≡ s′)
-report-once o r q f t s f′ t′ s′ a b =
-    (a .answered ∙ sym (b .answered), a .far-sides ∙ sym (b .far-sides), a .tree-numbers ∙ sym (b .tree-numbers), a .cost-sums ∙ sym (b .cost-sums))
+left-report-once a b = (
+  answer-once (a .answered) (b .answered),
+  answer-once (a .far-sides) (b .far-sides),
+  answer-once (a .tree-numbers) (b .tree-numbers),
+  answer-once (a .cost-sums) (b .cost-sums),
+)

@@ -18,7 +18,7 @@ use Rattle.seen.specs.Columns.{Room}
 use Rattle.seen.specs.Seen.{costSum, inTrees}
 use Rattle.figures.specs.Figures.{counts, largest}
 use Rattle.report.specs.Outcome.{refusedTable, roomCheck}
-use Rattle.figures.specs.Reading.{mostSides}
+use Rattle.figures.specs.Checks.{mostSides}
 use Rattle.counting.specs.Standing.{Sound}
 use Rattle.figures.specs.Tables.{Table, accepted, apart, imagesIn, treeOf, trees}
 use Rattle.report.specs.declared.TermReport.{TermReport}

@@ -5,7 +5,7 @@ use Prim.Native.Nat.{ℕ, _<_, _≤_}
 use lib.ListN.{drop, length}
 use Rattle.ground.specs.Refusals.{_then_}
 use Rattle.theory.specs.Tables.{limit}
-use Rattle.figures.specs.Reading.{manyCheck, mostTables, nextCheck, sameCheck}
+use Rattle.figures.specs.Checks.{manyCheck, mostTables, nextCheck, sameCheck}
 use Rattle.counting.specs.Ready.{ReadReady}
 use Rattle.counting.specs.Standing.{Holds, Stands}
 use Rattle.figures.specs.Tables.{Table, tableAt}

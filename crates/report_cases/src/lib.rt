@@ -11,8 +11,8 @@ use case_text::show_table_refusal;
 use case_text::show32;
 use case_text::show64;
 use case_text::take8;
+use figures::Figures;
 use ground::Check;
-use report::Figures;
 use report::TermReport;
 ghost use Rattle.io.specs.Counts.{Counts};
 

@@ -10,6 +10,7 @@ sayingsFrom16 a b =
     says 16 "no tables or more than sixteen" []
     ∷ aboveOld a b
     ∷ says 18 "outside the Newick profile: byte" (a ∷ [])
+    ∷ says 19 "more than 1,024 far sides in one report" []
     ∷ says 22 "siblings out of order: byte" (a ∷ [])
     ∷ []
 

@@ -17,6 +17,7 @@ fn put_from_16(out: &mut [u8], at: usize, number: usize, a: usize, b: usize) -> 
         16 => text::put_word(out, at, b"no tables or more than sixteen"),
         17 => phrases::put_above_old(out, at, a, b),
         18 => phrases::put_one(out, at, b"outside the Newick profile: byte", a),
+        19 => text::put_word(out, at, b"more than 1,024 far sides in one report"),
         22 => phrases::put_one(out, at, b"siblings out of order: byte", a),
         _ => phrases::put_one(out, at, b"no such refusal: number", number),
     }

@@ -13,8 +13,9 @@ use Rattle.theory.specs.LinkTables.{Row, fars}
 use Rattle.theory.specs.Tables.{CostTable, limit}
 use Rattle.seen.specs.Seen.{entries, seen}
 use Rattle.figures.specs.Figures.{entriesAt, sidesAt}
-use Rattle.figures.specs.Laws.Tables.{entries-at, figures-apart, images-more, sides-at, trees-no}
-use Rattle.figures.specs.Reading.{manyCheck, mostSides}
+use Rattle.figures.specs.Laws.Grown.{figures-apart}
+use Rattle.figures.specs.Laws.Tables.{entries-at, images-more, sides-at, trees-no}
+use Rattle.figures.specs.Checks.{manyCheck, mostSides}
 use Rattle.counting.specs.Ready.{TableReady}
 use Rattle.figures.specs.Pairing.{lastTree}
 use Rattle.counting.specs.Taking.{Moved}

@@ -19,7 +19,7 @@ use Rattle.seen.specs.Seen.{Entry, seen}
 use Rattle.figures.specs.Figures.{counts, entriesAt}
 use Rattle.figures.specs.Laws.Pairs.{sum-cap}
 use Rattle.figures.specs.Laws.Tables.{counts-at, entries-at, entries-sides, trees-length, trees-link}
-use Rattle.figures.specs.Reading.{mostSides, mostTables}
+use Rattle.figures.specs.Checks.{mostSides, mostTables}
 use Rattle.figures.specs.Pairing.{lastFrom, lastTree}
 use Rattle.counting.specs.Standing.{Holds, Stands}
 use Rattle.figures.specs.Tables.{Table, isAccepted, trees}
@@ -63,10 +63,15 @@ module _ (ts : List Table) (here : Standing) (f t s : List ℕ) (st : Stands lim
 
     -- what has to fit
     pub numbers-few : n ≤ 64 → length ts < mostTables
-        → (here .figures .tables < mostTables) × (here .figures .accepted < mostTables) × (here .figures .apart < mostTables) × (here .figures .«count_sum» ≤ 128000)
+        → (here .figures .tables < mostTables) × (here .figures .accepted < mostTables) × (here .figures .apart < mostTables)
+        × (here .figures .«count_sum» ≤ 128000)
     numbers-few few b =
         let q : sum (counts limit ts) (λ c. c) ≤ length (trees limit ts) * 256 =
         rw (counts-at limit n ts one)
         (sum-cap n (trees limit ts) (λ T m. let o = links T m in omega (arith, inners-le n (fars T), length-map T far, o .most))) in
-        rw (st .figures)
-        (b, omega (arith, filter-le isAccepted ts), omega (arith, filter-le (λ t. not (isAccepted t)) ts), omega (arith, q, trees-length limit ts, filter-le isAccepted ts))
+        rw (st .figures) (
+          b,
+          omega (arith, filter-le isAccepted ts),
+          omega (arith, filter-le (λ t. not (isAccepted t)) ts),
+          omega (arith, q, trees-length limit ts, filter-le isAccepted ts),
+        )

@@ -27,8 +27,9 @@ use Rattle.seen.specs.Seen.{entries}
 use Rattle.figures.specs.Figures.{counts, entriesAt, largest, sidesAt}
 use Rattle.counting.specs.Laws.Before.{links}
 use Rattle.figures.specs.Laws.Pairs.{last-more}
-use Rattle.figures.specs.Laws.Tables.{entries-at, entries-count, entries-sides, figures-tree, images-more, trees-length, trees-yes}
-use Rattle.figures.specs.Reading.{manyCheck, mostSides}
+use Rattle.figures.specs.Laws.Grown.{figures-tree}
+use Rattle.figures.specs.Laws.Tables.{entries-at, entries-count, entries-sides, images-more, trees-length, trees-yes}
+use Rattle.figures.specs.Checks.{manyCheck, mostSides}
 use Rattle.counting.specs.Ready.{TreeReady}
 use Rattle.figures.specs.Pairing.{lastTree, pairCount}
 use Rattle.counting.specs.Taking.{Moved}
@@ -73,7 +74,8 @@ module _ (ts : List Table) (n more : ℕ) (u : List ℕ) (tree : Rows) (here : S
       }
 
   pub moved-tree : (all d most : ℕ) (f′ t′ s′ : List ℕ) → all ≡ sidesAt limit (ts ++ (tableOf n more u ∷ [])) → all ≤ mostSides
-      → d ≡ pairCount n (here .figures .accepted) (take (here .rows) (here .last)) (take (tree .count) (tree .fars)) → most ≡ max (here .figures .«largest_count») d
+      → d ≡ pairCount n (here .figures .accepted) (take (here .rows) (here .last)) (take (tree .count) (tree .fars))
+      → most ≡ max (here .figures .«largest_count») d
       → Stored (putAll n (rowsIn (tree .fars) (tree .costs) (tree .count)) (entriesIn f t s (here .figures .sides))) all f t s f′ t′ s′
       → Moved limit (manyCheck limit (ts ++ (tableOf n more u ∷ []))) ts (tableOf n more u) (record {
         standing = record {
@@ -117,6 +119,7 @@ module _ (ts : List Table) (n more : ℕ) (u : List ℕ) (tree : Rows) (here : S
           few = y .few;
           last-sides = rw (trees-yes limit ts tb (y .accepted), last-more (trees limit ts) T) (far-front ts n more u tree here f t s y);
         };
-        grown = rw (← put-is, ← (stored-in _ _ _ _ _ _ _ _ (y .table .read .holds .stored))) (all-grows n (rowsIn (tree .fars) (tree .costs) (tree .count)) (entriesIn f t s (here .figures .sides)));
+        grown = rw (← put-is, ← (stored-in _ _ _ _ _ _ _ _ (y .table .read .holds .stored)))
+            (all-grows n (rowsIn (tree .fars) (tree .costs) (tree .count)) (entriesIn f t s (here .figures .sides)));
         stored = w;
       })

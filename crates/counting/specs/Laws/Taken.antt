@@ -24,7 +24,7 @@ use Rattle.figures.specs.Figures.{sidesAt}
 use Rattle.counting.specs.Laws.Before.{kept-front, sides-room}
 use Rattle.figures.specs.Laws.Pairs.{common-few}
 use Rattle.figures.specs.Laws.Tables.{sides-at, table-tree, trees-yes}
-use Rattle.figures.specs.Reading.{manyCheck, mostSides}
+use Rattle.figures.specs.Checks.{manyCheck, mostSides}
 use Rattle.counting.specs.Ready.{TreeReady}
 use Rattle.counting.specs.Taking.{Moved}
 use Rattle.figures.specs.Tables.{Table, tableOf, treeOf, trees}
@@ -54,7 +54,8 @@ module _ (ts : List Table) (n more : ℕ) (u : List ℕ) (tree : Rows) (here : S
   )
 
   -- so many far sides are seen with it
-  pub more-sides : (added : ℕ) → added ≡ length (inners n (take (tree .count) (tree .fars))) - length (common (inners n (take (here .figures .sides) f)) (inners n (take (tree .count) (tree .fars))))
+  pub more-sides : (added : ℕ)
+      → added ≡ length (inners n (take (tree .count) (tree .fars))) - length (common (inners n (take (here .figures .sides) f)) (inners n (take (tree .count) (tree .fars))))
       → here .figures .sides + added ≡ sidesAt limit (ts ++ (tableOf n more u ∷ []))
   more-sides added e =
       let T = treeOf limit (tableOf n more u) in

@@ -48,7 +48,8 @@ pair-next n k l r h = rw (ne-eqb k 0 h)
 -- no more are in both than in the second
 pub common-few : (n k : ℕ) (l r : List ℕ) → Between 1 l k → Between 1 r k → length (common (inners n l) (inners n r)) ≤ length (inners n r)
 common-few n k l r a b =
-    rw (common-same 1 k (inners n l) (inners n r) (between-filter (inner n) 1 k l a) (between-filter (inner n) 1 k r b)) (filter-le (λ x. isIn x (inners n l)) (inners n r))
+    rw (common-same 1 k (inners n l) (inners n r) (between-filter (inner n) 1 k l a) (between-filter (inner n) 1 k r b))
+    (filter-le (λ x. isIn x (inners n l)) (inners n r))
 
 module _ (n : ℕ) (T : List Row) where
   pub pairs-more : (Ts : List (List Row)) → length (map (countOf n) (neighbours (Ts ++ (T ∷ [])))) ≡ length Ts

@@ -14,7 +14,8 @@ use Rattle.theory.specs.Tables.{limit}
 use Rattle.seen.specs.Columns.{Room}
 use Rattle.figures.specs.Figures.{noFigures}
 use Rattle.report.specs.Outcome.{LeftReport, outcome, reportOutcome, roomCheck, short}
-use Rattle.figures.specs.Reading.{mostSides, readAll}
+use Rattle.figures.specs.Checks.{mostSides}
+use Rattle.figures.specs.Reading.{readAll}
 use Rattle.report.specs.declared.TermReport.{TermReport}
 
 pub room-passed : (f t s : List ℕ) → roomCheck (length f) (length t) (length s) ≡ Passed → Room mostSides f t s

@@ -16,8 +16,10 @@ use Rattle.ground.specs.declared.Check.the-variants.{Passed, Refused}
 use Rattle.theory.specs.Tables.{CostTable, limit}
 use Rattle.seen.specs.Seen.{seen}
 use Rattle.figures.specs.Figures.{sidesAt}
-use Rattle.figures.specs.Laws.Tables.{images-more, sum-end}
-use Rattle.figures.specs.Reading.{goOn, manyCheck, nextCheck, readAll, readOn, sameCheck, storedChecks, mostSides, mostTables}
+use Rattle.figures.specs.Laws.Grown.{sum-end}
+use Rattle.figures.specs.Laws.Tables.{images-more}
+use Rattle.figures.specs.Checks.{manyCheck, nextCheck, sameCheck, storedChecks, mostSides, mostTables}
+use Rattle.figures.specs.Reading.{goOn, readAll, readOn}
 use Rattle.counting.specs.Standing.{Sound}
 use Rattle.figures.specs.Tables.{Table, tableAt, trees}
 use Rattle.stored_costs.specs.Laws.Enough.{table-said}
@@ -69,7 +71,8 @@ read-so bytes (suc k) ts f e w =
     on (Refused r) q h ih = record { follows = f; few = omega arith; within = w; ends = refused r (omega arith) h q refl }
     on Passed q h ih =
         let tb = tableAt b in
-        let d : drop (tb .used) b ≡ drop (usedBy (ts ++ (tb ∷ []))) bytes = drop-drop (tb .used) (usedBy ts) bytes ∙ ap (λ (j : ℕ). drop j bytes) (sym (sum-end ts tb)) in
+        let d : drop (tb .used) b ≡ drop (usedBy (ts ++ (tb ∷ []))) bytes =
+        drop-drop (tb .used) (usedBy ts) bytes ∙ ap (λ (j : ℕ). drop j bytes) (sym (sum-end ts tb)) in
         rw d (ih (more f h q) (omega (arith, length-append ts (tb ∷ [])))
         (omega (arith, sum-end ts tb, next-within ts b q, length-drop (usedBy ts) bytes)))
 

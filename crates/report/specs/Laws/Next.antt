@@ -13,7 +13,7 @@ use Rattle.ground.specs.declared.Check.{Check}
 use Rattle.ground.specs.declared.Check.the-variants.{Passed, Refused}
 use Rattle.ground.specs.declared.Refusal.{Refusal}
 use Rattle.theory.specs.Tables.{limit}
-use Rattle.figures.specs.Reading.{manyCheck, nextCheck, sameCheck, storedChecks}
+use Rattle.figures.specs.Checks.{manyCheck, nextCheck, sameCheck, storedChecks}
 use Rattle.counting.specs.Ready.{ReadReady, TableReady}
 use Rattle.counting.specs.Standing.{Holds, Sound, Stands}
 use Rattle.report.specs.Same.{otherCheck}
@@ -71,4 +71,5 @@ pub moved-read : (ts : List Table) (b : List ℕ) (tb : Table) (x : Turn) (f t s
     → Moved limit (sameCheck ts (tb .images) then manyCheck limit (ts ++ (tb ∷ []))) ts tb x f t s f′ t′ s′
     → Moved limit (nextCheck limit ts b) ts (tableAt b) x f t s f′ t′ s′
 unfolding nextCheck
-moved-read ts b tb x f t s f′ t′ s′ p e m = rw p (subst (λ (z : Table). Moved limit (sameCheck ts (z .images) then manyCheck limit (ts ++ (z ∷ []))) ts z x f t s f′ t′ s′) e m)
+moved-read ts b tb x f t s f′ t′ s′ p e m =
+    rw p (subst (λ (z : Table). Moved limit (sameCheck ts (z .images) then manyCheck limit (ts ++ (z ∷ []))) ts z x f t s f′ t′ s′) e m)

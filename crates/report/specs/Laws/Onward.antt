@@ -17,9 +17,10 @@ use Rattle.seen.specs.Columns.{Room}
 use Rattle.seen.specs.Laws.Columns.{stored-then}
 use Rattle.figures.specs.Figures.{entriesAt}
 use Rattle.report.specs.Laws.Run.{Running, held}
-use Rattle.figures.specs.Laws.Tables.{sum-end}
+use Rattle.figures.specs.Laws.Grown.{sum-end}
 use Rattle.report.specs.Outcome.{LeftReport, outcome}
-use Rattle.figures.specs.Reading.{goOn, manyCheck, mostSides, mostTables, nextCheck, readAll, readOn, sameCheck, storedChecks}
+use Rattle.figures.specs.Checks.{manyCheck, mostSides, mostTables, nextCheck, sameCheck, storedChecks}
+use Rattle.figures.specs.Reading.{goOn, readAll, readOn}
 use Rattle.counting.specs.Taking.{Moved}
 use Rattle.figures.specs.Tables.{Table, tableAt}
 use Rattle.figures.specs.declared.Figures.{Figures}
@@ -41,10 +42,12 @@ next-within ts b e =
 
 module _ (bytes f t s : List ℕ) (room : Room mostSides f t s) (k : ℕ) (here : Standing) (f′ t′ s′ : List ℕ) (r : Running bytes f t s k here f′ t′ s′)
     (h : k < mostTables) (u : here .figures .used < length bytes) (x : Turn) (f″ t″ s″ : List ℕ)
-    (m : Moved limit (nextCheck limit (r .read) (drop (here .figures .used) bytes)) (r .read) (tableAt (drop (here .figures .used) bytes)) x f′ t′ s′ f″ t″ s″) where
+    (m : Moved limit (nextCheck limit (r .read) (drop (here .figures .used) bytes))
+    (r .read) (tableAt (drop (here .figures .used) bytes)) x f′ t′ s′ f″ t″ s″) where
   next : readAll limit bytes
       ≡ goOn (nextCheck limit (r .read) (drop (here .figures .used) bytes)) (r .read)
-      (readOn limit (mostTables - (k + 1)) (r .read ++ (tableAt (drop (here .figures .used) bytes) ∷ [])) (drop (tableAt (drop (here .figures .used) bytes) .used) (drop (here .figures .used) bytes)))
+      (readOn limit (mostTables - (k + 1)) (r .read ++ (tableAt (drop (here .figures .used) bytes) ∷ []))
+      (drop (tableAt (drop (here .figures .used) bytes) .used) (drop (here .figures .used) bytes)))
   next =
       let e : mostTables - k ≡ suc (mostTables - (k + 1)) = omega arith in
       r .same ∙ ap (λ (j : ℕ). readOn limit j (r .read) (drop (here .figures .used) bytes)) e
@@ -63,14 +66,16 @@ module _ (bytes f t s : List ℕ) (room : Room mostSides f t s) (k : ℕ) (here 
       record {
         read = r .read ++ (tb ∷ []);
         stands = st;
-        stored = stored-then (entriesAt limit (r .read)) (entriesAt limit (r .read ++ (tb ∷ []))) _ _ f t s f′ t′ s′ f″ t″ s″ (held bytes f t s room k here f′ t′ s′ r) gr (r .stored) so;
+        stored = stored-then (entriesAt limit (r .read)) (entriesAt limit (r .read ++ (tb ∷ []))) _ _ f t s f′ t′ s′ f″ t″ s″
+            (held bytes f t s room k here f′ t′ s′ r) gr (r .stored) so;
         counted = length-append (r .read) (tb ∷ []) ∙ ap (λ (j : ℕ). j + 1) (r .counted);
         within = omega (arith, w, next-within (r .read) d e, length-drop (here .figures .used) bytes);
         far-same = a ∙ r .far-same;
         tree-same = b ∙ r .tree-same;
         sum-same = c ∙ r .sum-same;
         same = next ∙ ap (λ (z : Check). goOn z (r .read) (readOn limit (mostTables - (k + 1)) (r .read ++ (tb ∷ [])) (drop (tb .used) d))) e
-            ∙ ap (readOn limit (mostTables - (k + 1)) (r .read ++ (tb ∷ []))) (drop-drop (tb .used) (here .figures .used) bytes ∙ ap (λ (j : ℕ). drop j bytes) (sym w));
+            ∙ ap (readOn limit (mostTables - (k + 1)) (r .read ++ (tb ∷ []))) (drop-drop (tb .used) (here .figures .used) bytes
+            ∙ ap (λ (j : ℕ). drop j bytes) (sym w));
       }
 
   -- a refusal: the report ends at the tables before
@@ -81,7 +86,8 @@ module _ (bytes f t s : List ℕ) (room : Room mostSides f t s) (k : ℕ) (here 
       let e : nextCheck limit (r .read) d ≡ Refused q = sym (m .stopped) ∙ p in
       let st = rw e at (m .stands) in
       let so = rw e at (m .stored) in
-      let w = stored-then (entriesAt limit (r .read)) (entriesAt limit (r .read)) _ _ f t s f′ t′ s′ f″ t″ s″ (held bytes f t s room k here f′ t′ s′ r) (omega arith) (r .stored) so in
+      let w = stored-then (entriesAt limit (r .read)) (entriesAt limit (r .read)) _ _ f t s f′ t′ s′ f″ t″ s″
+      (held bytes f t s room k here f′ t′ s′ r) (omega arith) (r .stored) so in
       rw (next, e, p) (record {
         answered = rw (st .figures, ← (r .counted)) refl;
         far-sides = w .sides;

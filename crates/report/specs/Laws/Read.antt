@@ -16,7 +16,7 @@ use Rattle.stored_costs.specs.Laws.Sizes.{square-le}
 use Rattle.stored_costs.specs.Outcomes.{readEither}
 use Rattle.stored_costs.specs.declared.StoredCosts.{StoredCosts}
 use Rattle.stored_costs.specs.declared.StoredCosts.the-variants as stored
-use Rattle.figures.specs.Reading.{storedChecks}
+use Rattle.figures.specs.Checks.{storedChecks}
 use Rattle.figures.specs.Tables.{tableAt, tableOf}
 
 -- a table over n images of so many bytes, in the first places of t: it is the one at the front of the bytes s

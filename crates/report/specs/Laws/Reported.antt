@@ -19,7 +19,8 @@ use Rattle.seen.specs.Seen.{Entry, costSum, entries, inTrees, seen}
 use Rattle.figures.specs.Figures.{counts, entriesAt, figuresOf, largest, neighbours, pairsFrom, sidesAt}
 use Rattle.figures.specs.Laws.Tables.{entries-count, entries-sides, trees-length, trees-link}
 use Rattle.report.specs.Outcome.{refusedTable}
-use Rattle.figures.specs.Reading.{Ended, mostSides}
+use Rattle.figures.specs.Checks.{mostSides}
+use Rattle.figures.specs.Reading.{Ended}
 use Rattle.figures.specs.Tables.{Table, accepted, apart, imagesIn, isAccepted, treeOf, trees}
 use Rattle.report.specs.Follows.{ReadSo}
 use Rattle.report.specs.Laws.Follows.{follows-sound}
@@ -61,7 +62,8 @@ largest-one (y ∷ l) = inr (go (largest-one l))
         cases (leb (largest l) y) (λ h. let e : max y (largest l) ≡ y = omega (arith, leb-true (largest l) y h) in List·Memᴰ·head e)
         (λ h. let e : max y (largest l) ≡ largest l = omega (arith, leb-false (largest l) y h) in rw e (List·Memᴰ·tail t))
 
-columns : (Ts : List (List Row)) (l : List ℕ) → (treesIn (map (λ S. (S, inTrees Ts S, costSum Ts S)) l) ≡ map (inTrees Ts) l) × (sumsIn (map (λ S. (S, inTrees Ts S, costSum Ts S)) l) ≡ map (costSum Ts) l)
+columns : (Ts : List (List Row)) (l : List ℕ)
+    → (treesIn (map (λ S. (S, inTrees Ts S, costSum Ts S)) l) ≡ map (inTrees Ts) l) × (sumsIn (map (λ S. (S, inTrees Ts S, costSum Ts S)) l) ≡ map (costSum Ts) l)
 columns Ts [] = (refl, refl)
 columns Ts (x ∷ l) = let ih = columns Ts l in (ap (λ z. inTrees Ts x ∷ z) (ih .0), ap (λ z. costSum Ts x ∷ z) (ih .1))
 
@@ -86,7 +88,8 @@ reported bytes f t s e y room =
     let a : length (sidesIn E) ≡ sidesAt limit ts = length-map E (λ (x : Entry). x .0) ∙ k in
     let b : length (treesIn E) ≡ sidesAt limit ts = length-map E (λ (x : Entry). x .1) ∙ k in
     let c : length (sumsIn E) ≡ sidesAt limit ts = length-map E (λ (x : Entry). x .2) ∙ k in
-    let fs : take (sidesAt limit ts) (front (sidesIn E) f) ≡ seen (imagesIn ts) Ts = take-at (sidesIn E) (drop (length (sidesIn E)) f) (sidesAt limit ts) a ∙ entries-sides (imagesIn ts) Ts in
+    let fs : take (sidesAt limit ts) (front (sidesIn E) f) ≡ seen (imagesIn ts) Ts =
+    take-at (sidesIn E) (drop (length (sidesIn E)) f) (sidesAt limit ts) a ∙ entries-sides (imagesIn ts) Ts in
     let cs = columns Ts (seen (imagesIn ts) Ts) in
     let links : Each Ts (LinkTable limit (imagesIn ts)) = λ T m. trees-link limit (imagesIn ts) ts (so .one) (so .formed) T m .tree in
     record {
@@ -106,7 +109,8 @@ reported bytes f t s e y room =
       used = refl;
       sides = so .kept;
       ascending = rw fs (seen-ascends (imagesIn ts) Ts);
-      listed = λ S. let q = seen-mem limit (imagesIn ts) Ts links S in rw fs ((λ m. let p = q .0 m in (p .0, in-trees ts S .0 (p .1))), (λ p. q .1 (p .0, in-trees ts S .1 (p .1))));
+      listed = λ S. let q = seen-mem limit (imagesIn ts) Ts links S in
+          rw fs ((λ m. let p = q .0 m in (p .0, in-trees ts S .0 (p .1))), (λ p. q .1 (p .0, in-trees ts S .1 (p .1))));
       tree-numbers = rw fs (take-at (treesIn E) (drop (length (treesIn E)) t) (sidesAt limit ts) b ∙ cs .0);
       cost-sums = rw fs (take-at (sumsIn E) (drop (length (sumsIn E)) s) (sidesAt limit ts) c ∙ cs .1);
       far-rest = drop-at (sidesIn E) (drop (length (sidesIn E)) f) (sidesAt limit ts) a ∙ ap (λ (j : ℕ). drop j f) a;

@@ -13,7 +13,8 @@ use Rattle.seen.specs.Seen.{entries, seen}
 use Rattle.figures.specs.Figures.{counts, entriesAt, figuresOf, noFigures, sidesAt}
 use Rattle.report.specs.Outcome.{LeftReport, outcome}
 use Rattle.report.specs.Turning.{Paused}
-use Rattle.figures.specs.Reading.{ended, mostSides, mostTables, readAll, readOn}
+use Rattle.figures.specs.Checks.{mostSides, mostTables}
+use Rattle.figures.specs.Reading.{ended, readAll, readOn}
 use Rattle.counting.specs.Standing.{Stands}
 use Rattle.figures.specs.Tables.{Table, trees}
 use Rattle.counting.specs.declared.Standing.{Standing}
@@ -70,7 +71,11 @@ module _ (bytes f t s : List ℕ) (room : Room mostSides f t s) (k : ℕ) (here 
   running-paused h = record {
     stands = r .stands;
     holds = record {
-      room = record { sides = omega (arith, room .sides, r .far-same); trees = omega (arith, room .trees, r .tree-same); sums = omega (arith, room .sums, r .sum-same) };
+      room = record {
+        sides = omega (arith, room .sides, r .far-same);
+        trees = omega (arith, room .trees, r .tree-same);
+        sums = omega (arith, room .sums, r .sum-same);
+      };
       stored = stored-again _ _ f t s f′ t′ s′ held (r .stored);
     };
     below = omega (arith, r .counted);
@@ -94,8 +99,10 @@ module _ (bytes f t s : List ℕ) (room : Room mostSides f t s) (k : ℕ) (here 
     cost-sums = r .stored .sums;
   })
 
-  pub running-bytes : length bytes ≤ here .figures .used → LeftReport (outcome limit Passed (readAll limit bytes) f t s) (record { figures = here .figures; table = 0; stop = Passed }) f′ t′ s′
+  pub running-bytes : length bytes ≤ here .figures .used
+      → LeftReport (outcome limit Passed (readAll limit bytes) f t s) (record { figures = here .figures; table = 0; stop = Passed }) f′ t′ s′
   running-bytes h = passed (r .same ∙ ends (mostTables - k) (drop (here .figures .used) bytes) (inr (drop-of-length-le bytes {i = here .figures .used} h)))
 
-  pub running-full : mostTables ≤ k → LeftReport (outcome limit Passed (readAll limit bytes) f t s) (record { figures = here .figures; table = 0; stop = Passed }) f′ t′ s′
+  pub running-full : mostTables ≤ k
+      → LeftReport (outcome limit Passed (readAll limit bytes) f t s) (record { figures = here .figures; table = 0; stop = Passed }) f′ t′ s′
   running-full h = passed (r .same ∙ ends (mostTables - k) (drop (here .figures .used) bytes) (inl (omega arith)))

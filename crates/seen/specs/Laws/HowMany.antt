@@ -52,7 +52,8 @@ seen-inners n Ts =
 
 inners-test : (L n : ℕ) (T : List Row) → LinkTable L n T → inners n (fars T) ≡ filter (λ X. inner n X && has T X) (sides n)
 inners-test L n T t =
-    between-ext 1 (2 ^ n) _ _ (between-filter (inner n) 1 (2 ^ n) (fars T) (t .ascending)) (between-filter (λ X. inner n X && has T X) 1 (2 ^ n) (sides n) (sides-between n))
+    between-ext 1 (2 ^ n) _ _ (between-filter (inner n) 1 (2 ^ n) (fars T) (t .ascending))
+    (between-filter (λ X. inner n X && has T X) 1 (2 ^ n) (sides n) (sides-between n))
     (λ X m.
     let q = filter-mem (inner n) (fars T) X m in
     let r = map-mem far T X (q .1) in

@@ -19,7 +19,8 @@ use Rattle.ground.specs.Sums.{sum, when}
 use Rattle.theory.specs.FarSides.{inner, sides}
 use Rattle.theory.specs.Laws.FarSides.{sides-all}
 use Rattle.theory.specs.LinkTables.{LinkTable, Row, costOf, far, fars}
-use Rattle.seen.specs.Laws.Tally.{Zero, all-costs, all-tally, all-test, all-trees, tally, tally-same}
+use Rattle.seen.specs.Laws.Tally.{tally, tally-same}
+use Rattle.seen.specs.Laws.WholeTree.{Zero, all-costs, all-tally, all-test, all-trees}
 use Rattle.seen.specs.Put.{putAll}
 use Rattle.seen.specs.Seen.{costSum, entries, has, inSome, inTrees, seen}
 

@@ -37,9 +37,11 @@ pub seen-mem : (L n : ℕ) (Ts : List (List Row)) → Each Ts (LinkTable L n) �
     → List·Memᴰ S (seen n Ts) ↔ ((inner n S ≡ true) × ((T : List Row) × List·Memᴰ T Ts × List·Memᴰ S (fars T)))
 unfolding seen
 seen-mem L n Ts h S = (
-  λ m. let q = filter-mem (λ S. inner n S && inSome Ts S) (sides n) S m in (and-l (inner n S) (inSome Ts S) (q .0), some-mem Ts S (and-r (inner n S) (inSome Ts S) (q .0))),
+  λ m. let q = filter-mem (λ S. inner n S && inSome Ts S) (sides n) S m in
+      (and-l (inner n S) (inSome Ts S) (q .0), some-mem Ts S (and-r (inner n S) (inSome Ts S) (q .0))),
   λ p.
       let T = p .1 .0 in
       let r = map-mem far T S (p .1 .2) in
-      mem-filter (λ S. inner n S && inSome Ts S) S (rw (p .0) (mem-some Ts S T (p .1 .1) (p .1 .2))) (sides n) (rw (r .1) (tree-sides L n T (h T (p .1 .1)) (r .0) (r .2))),
+      mem-filter (λ S. inner n S && inSome Ts S) S (rw (p .0) (mem-some Ts S T (p .1 .1) (p .1 .2)))
+      (sides n) (rw (r .1) (tree-sides L n T (h T (p .1 .1)) (r .0) (r .2))),
 )

@@ -1,5 +1,9 @@
 -- `wiring::is_failing` meets its contract: sums of two entries fit, since each is at most the limit. Assumes nothing.
+use mathlib.Core.Path.{ap, ap₂, _∙_, _≡_}
+use Prim.Native.Nat.{ℕ, _+_}
+use lib.Dec.{ltb}
 use borrow.Author.Needs.{needs}
+use Rattle.theory.specs.FourPoint.{timesLargest}
 use Rattle.wiring.proofs.is_failing.Statement.{statement}
 use Rattle.wiring.proofs.is_failing.Tie as tie
 
@@ -33,8 +37,15 @@ add-z c = search needs
 is-once-requires : tie.Need-is-once-requires
 is-once-requires c κs = search needs
 
+same : {x y z x′ y′ z′ : ℕ} → x ≡ x′ → y ≡ y′ → z ≡ z′ → ltb (timesLargest x y z) 2 ≡ ltb (timesLargest x′ y′ z′) 2
+same {z = z} {x′ = x′} {y′ = y′} p q r = ap₂ (λ x y. ltb (timesLargest x y z) 2) p q ∙ ap (λ z. ltb (timesLargest x′ y′ z) 2) r
+
 returns : tie.Need-returns
-returns c = cc
+returns c =
+    let jk = c .before in let il = jk .before in let jl = il .before in let ik = jl .before in let kl = ik .before in let ij = kl .before in
+    c .is-once .ensures
+    ∙ same (ap₂ _+_ (ij .entry .ensures .0) (kl .entry2 .ensures .0)) (ap₂ _+_ (ik .entry3 .ensures .0) (jl .entry4 .ensures .0))
+    (ap₂ _+_ (il .entry5 .ensures .0) (jk .entry6 .ensures .0))
 
 pub is-failing-spec : {M : Type 1} → statement M
 is-failing-spec =
