@@ -6,7 +6,7 @@ use native.Mathlib.Omega.{arith}
 use lib.ListN.{take}
 use Rattle.theory.specs.Tables.{limit}
 use Rattle.bits.specs.Laws.Behind.{first-bytes}
-use Rattle.figures.specs.Reading.{mostTables}
+use Rattle.figures.specs.Checks.{mostTables}
 use Rattle.term_text.specs.Laws.Behind.{longestTable, read-behind}
 use Rattle.term_text.specs.Text.{endedText, termText}
 

@@ -20,7 +20,8 @@ use Rattle.stored_costs.specs.Laws.Behind.{Reaching, checks-behind, images-behi
 use Rattle.stored_costs.specs.Laws.Enough.{enough-room, table-readable}
 use Rattle.stored_costs.specs.Reading.{tableChecks}
 use Rattle.stored_costs.specs.Said.{imagesOf, storedTable}
-use Rattle.figures.specs.Reading.{Ended, goOn, manyCheck, nextCheck, readOn, sameCheck}
+use Rattle.figures.specs.Checks.{manyCheck, nextCheck, sameCheck}
+use Rattle.figures.specs.Reading.{Ended, goOn, readOn}
 use Rattle.figures.specs.Tables.{Table, tableIn, tableOf}
 
 -- how many bytes the longest stored cost table has, in either form
