@@ -11,7 +11,10 @@ for each call a line with its name and then one line a case: the numbers of the
 answer, then each lent output as the call leaves it, its length first. It writes
 tests/listing/NAME.stdin, stored bytes for both listing programs and for the one that
 prints Newick text, and the text that each of them prints, tests/PROGRAM/NAME.stdout;
-example H is also what `rt ci` runs them on. All is decided by the seeds below.
+example H is also what `rt ci` runs them on. It writes tests/term/NAME.stdin, stored
+tables one behind another for the program that prints the term report, and its text,
+tests/term/NAME.stdout; `rt ci` runs it on the examples E, F, G and E. All is decided by
+the seeds below.
 """
 
 import functools
@@ -41,7 +44,7 @@ LONGEST_REPORT = 27000
 LONGEST_LENT = 1100
 LARGEST_FILE = 400000
 LARGEST_ANSWERS = 1260000
-LARGEST_TOTAL = 5050000
+LARGEST_TOTAL = 5060000
 FEWEST_CASES = 2500
 FEWEST_OF_EACH_REFUSAL = 8
 FEWEST_IN_EACH_FORM = 5
@@ -3151,6 +3154,11 @@ def make():
         stored = stored_costs(*law.example("H"))
         files["crates/%s/stdin" % program] = bytes(stored)
         files["crates/%s/stdout" % program] = text_of(stored).encode()
+    for name, stored in term_inputs():
+        files["tests/term/%s.stdin" % name] = bytes(stored)
+        files["tests/term/%s.stdout" % name] = law.term_text(stored).encode()
+    for kind in ("stdin", "stdout"):
+        files["crates/term/" + kind] = files["tests/term/four_tables." + kind]
     assert sum(count for _, count, _ in report) >= FEWEST_CASES
     assert sum(map(len, files.values())) <= LARGEST_TOTAL, sum(map(len, files.values()))
     return files, report
@@ -3187,6 +3195,30 @@ def listing_inputs():
     yield "new_short", [255]
 
 
+def term_inputs():
+    """For the program that prints the term report: bytes by name."""
+    dice = Dice(500)
+    e, f, g = [stored_costs(*law.example(name)) for name in "EFG"]
+    yield "empty", []
+    yield "four_tables", e + f + g + e
+    yield "none_accepted", f + f
+    # Both forms, and inner far sides that come, go and come again.
+    yield "mixed_forms", [byte for _, stored in any_tables(dice, 9, 12) for byte in stored]
+    yield "sixty_four", written_out([once(64, tree(dice, 64, 900000, "uneven"), NEW)])
+    # What ends it: bytes that are no table, a table that ends early, another n, an entry above the limit with
+    # a table behind it, a fill bit, and a header with a bad n.
+    yield "no_table", [255]
+    yield "short_table", e + g + e[:-1]
+    yield "other_images", e + f + stored_costs(*law.example("A")) + e
+    yield "damaged", e + stored_costs(4, last_entry_bad(4, OLD)) + e
+    yield "fill", g + e[:-1] + [e[-1] + 1]
+    yield "two_images", f + [4, 0, 0, 32]
+    # 500 tables are read, and the bytes behind them are not looked at.
+    yield "five_hundred", stored_costs(*law.example("A")) * 500 + [255]
+    # 1,024 far sides, and a table that brings one more.
+    yield "many_sides", written_out(list(many_sides(dice))[2])
+
+
 def check(files):
     """Lines that say which files are not what is made here."""
     wrong = []
@@ -3198,7 +3230,7 @@ def check(files):
             with open(path, "rb") as file:
                 if file.read() != text:
                     wrong.append("differs: " + name)
-    for folder in ["crates/cases/data"] + ["tests/" + program for program in PROGRAMS]:
+    for folder in ["crates/cases/data"] + ["tests/" + program for program in PROGRAMS] + ["tests/term"]:
         path = os.path.join(ROOT, folder)
         for name in sorted(os.listdir(path)) if os.path.isdir(path) else []:
             if folder + "/" + name not in files:

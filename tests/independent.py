@@ -1316,6 +1316,23 @@ def listing_text(n, t, rows, last_of):
     return "".join(line + "\n" for line in lines)
 
 
+def term_text(stored):
+    """What the program term prints for these bytes: the figures, a line for each far side seen, and where a
+    table was refused its number and its refusal."""
+    fars, trees, sums = ([0] * MOST_SIDES for _ in range(3))
+    answer = report(stored, fars, trees, sums)
+    figures = Figures(*answer[-len(Figures._fields):])
+    lines = ["images %d tables %d accepted %d apart %d bytes %d"
+             % (figures.images, figures.tables, figures.accepted, figures.apart, figures.used),
+             "pairs %d counts %d largest %d" % (figures.pairs, figures.count_sum, figures.largest_count),
+             "sides %d" % figures.sides]
+    lines += ["%d %d %d" % entry for entry in zip(fars[:figures.sides], trees, sums)]
+    if answer[0] != 0:
+        number, table, *places = answer[:6]
+        lines.append("table %d refused %d %d %d %d %d" % (table, number, *places))
+    return "".join(line + "\n" for line in lines)
+
+
 # The term report in a second way
 
 class RunningReport:
@@ -2700,6 +2717,23 @@ def test_report_examples():
             assert reported(first + other[:-1])[0] == (9, 2, 0, 0, 0, 0) + figures
 
 
+def test_term_text():
+    e, f, g, a = [stored_costs(*example(name)) for name in "EFGA"]
+    assert term_text([]) == ("images 0 tables 0 accepted 0 apart 0 bytes 0\n"
+                             "pairs 0 counts 0 largest 0\n"
+                             "sides 0\n")
+    assert term_text(e + f + g + e) == ("images 4 tables 4 accepted 3 apart 1 bytes 64\n"
+                                        "pairs 2 counts 2 largest 1\n"
+                                        "sides 1\n"
+                                        "12 2 8\n")
+    assert term_text(e + a) == ("images 4 tables 1 accepted 1 apart 0 bytes 16\n"
+                                "pairs 0 counts 0 largest 0\n"
+                                "sides 1\n"
+                                "12 1 4\n"
+                                "table 2 refused 15 0 0 0 0\n")
+    assert term_text([4, 0, 0, 32]).splitlines()[-1] == "table 1 refused 1 2 0 0 0"
+
+
 def spoilt_stored(n, number, form):
     """Bytes of a table of n images that gets this refusal, and its places. 15 is that of another n."""
     bits = form.mark + field(7, {1: 2, 15: n - 1}.get(number, n))
@@ -2824,7 +2858,8 @@ def self_test():
         (test_newick_examples, ()), (test_newick_refusals, ()), (test_longest_newick_text, (dice,)),
         (test_newick_places, (dice,)), (test_newick, (dice,)),
         (test_replay_examples, ()), (test_replay_start, (dice,)), (test_replay, (dice,)),
-        (test_report_examples, ()), (test_report_refusals, (dice,)), (test_report_limits, (dice,)),
+        (test_report_examples, ()), (test_term_text, ()), (test_report_refusals, (dice,)),
+        (test_report_limits, (dice,)),
         (test_report, (dice,)), (test_cut_report, (dice,)),
     ]
     for test, arguments in tests:
