@@ -1,7 +1,7 @@
--- The checks of a cost table by their numbers: 1, 2 and 4, 5, 6. Assumes nothing.
+-- The checks of a cost table by their numbers: 1, 2 and 4, 5, 6, 20. Assumes nothing.
 use mathlib.Core.Bool.{not}
 use mathlib.Core.List.{List, [], _∷_}
-use Prim.Native.Nat.{ℕ, _*_, _+_, _-_}
+use Prim.Native.Nat.{ℕ, _*_, _+_}
 use native.Mathlib.Omega.{arith}
 use lib.Dec.{eqb, ltb}
 use lib.ListN.{length}
@@ -12,7 +12,9 @@ use Rattle.ground.specs.Refusals.{refusal}
 use Rattle.ground.specs.Steps.{Step, _by_}
 use Rattle.theory.specs.Checks.{imagesCheck}
 use Rattle.theory.specs.Laws.InOrder.{images-order}
-use Rattle.tables.specs.Checks.{costsCheck, diagonalCheck, entriesCheck, entryCheck, lengthCheck, mirrorCheck, sizeCheck, symmetryCheck, zeroCheck}
+use Rattle.tables.specs.Checks.{costsCheck, diagonalCheck, entriesCheck, entryCheck, leastCheck, lengthCheck, mirrorCheck, offDiagonalCheck, sizeCheck,
+    symmetryCheck, zeroCheck}
+use Rattle.tables.specs.Laws.Pairs.{pairs-only}
 
 -- 2
 pub length-order : (n : ℕ) (t : List ℕ) → InOrder (2 by lengthCheck n t ∷ []) (lengthCheck n t)
@@ -29,9 +31,17 @@ size-order n t = join-order (images-order n) (length-order n t)
 pub entry-only : (L : ℕ) (d : ℕ → ℕ → ℕ) (i j : ℕ) → Only 4 (entryCheck L d i j)
 entry-only L d i j = refuseIf-only (ltb L (d i j)) (refusal 4 (i + 1) (j + 1) 0 0)
 
--- 4, 5, 6
+-- 20
+pub least-only : (K : ℕ) (d : ℕ → ℕ → ℕ) (i j : ℕ) → Only 20 (leastCheck K d i j)
+least-only K d i j = refuseIf-only (ltb (d i j) K) (refusal 20 (i + 1) (j + 1) 0 0)
+
+pub off-diagonal-order : (d : ℕ → ℕ → ℕ) (n : ℕ) → InOrder (20 by offDiagonalCheck d n ∷ []) (offDiagonalCheck d n)
+off-diagonal-order d n = step-order 20 (offDiagonalCheck d n) (omega arith) (pairs-only (leastCheck 1 d) n 20 (least-only 1 d))
+
+-- 4, 5, 6, 20
 abbrev pub costsSteps : ℕ → (ℕ → ℕ → ℕ) → ℕ → List Step
-costsSteps L d n = 4 by entriesCheck L d n ∷ 5 by diagonalCheck d n ∷ 6 by symmetryCheck d n ∷ []
+costsSteps L d n =
+    4 by entriesCheck L d n ∷ 5 by diagonalCheck d n ∷ 6 by symmetryCheck d n ∷ 20 by offDiagonalCheck d n ∷ []
 
 pub costs-order : (L : ℕ) (d : ℕ → ℕ → ℕ) (n : ℕ) → InOrder (costsSteps L d n) (costsCheck L d n)
 costs-order L d n =
@@ -40,6 +50,7 @@ costs-order L d n =
     (all-only 4 (λ i. checkAll (entryCheck L d i) 0 n) 0 n (λ i. all-only 4 (entryCheck L d i) 0 n (entry-only L d i))))
     (join-order
     (step-order 5 (diagonalCheck d n) (omega arith) (all-only 5 (zeroCheck d) 0 n (λ i. refuseIf-only (ltb 0 (d i i)) (refusal 5 (i + 1) 0 0 0))))
+    (join-order
     (step-order 6 (symmetryCheck d n) (omega arith)
-    (all-only 6 (λ i. checkAll (mirrorCheck d i) (i + 1) (n - (i + 1))) 0 n
-    (λ i. all-only 6 (mirrorCheck d i) (i + 1) (n - (i + 1)) (λ j. refuseIf-only (not (eqb (d i j) (d j i))) (refusal 6 (i + 1) (j + 1) 0 0))))))
+    (pairs-only (mirrorCheck d) n 6 (λ i j. refuseIf-only (not (eqb (d i j) (d j i))) (refusal 6 (i + 1) (j + 1) 0 0))))
+    (off-diagonal-order d n)))

@@ -4,8 +4,11 @@ ghost use mathlib.Core.Path.{_≡_};
 ghost use Prim.Native.Nat.{_+_, _-_, _<_, _≤_, _*_};
 ghost use Rattle.ground.specs.Lowest.{checkAll};
 ghost use Rattle.theory.specs.Tables.{limit, cost, CostTable};
-ghost use Rattle.tables.specs.Checks.{sizeCheck, entryCheck, entriesCheck, zeroCheck, diagonalCheck, mirrorCheck, symmetryCheck, costsCheck};
+ghost use Rattle.ground.specs.Refusals.{_then_};
+ghost use Rattle.tables.specs.Checks.{sizeCheck, entryCheck, entriesCheck, zeroCheck, diagonalCheck, pairCheck, symmetryCheck, offDiagonalCheck,
+    costsCheck};
 ghost use Rattle.tables.specs.Formed.{Sized};
+ghost use Rattle.tables.specs.Pairs.{pairsCheck};
 
 // The entry of images i and j in a table of the right size.
 fn at(t: &[u32], n: usize, i: usize, j: usize) -> u32
@@ -96,21 +99,27 @@ fn check_diagonal(n: usize, t: &[u32]) -> Check
     Check::Passed
 }
 
-fn check_mirror(n: usize, t: &[u32], i: usize, j: usize) -> Check
+// Refusal 6 of images i and j, and 20 where they cost less than the least.
+fn check_pair(least: u32, n: usize, t: &[u32], i: usize, j: usize) -> Check
     requires { ⌜ Sized n (now t) × (i < n) × (j < n) ⌝ }
-    ensures { λ r. ⌜ r ≡ mirrorCheck (cost (now (t .entry)) n) i j ⌝ }
+    ensures { λ r. ⌜ r ≡ pairCheck least (cost (now (t .entry)) n) i j ⌝ }
 {
-    ground::refuse_if(at(t, n, i, j) != at(t, n, j, i), 6, i + 1, j + 1)
+    let here = at(t, n, i, j);
+    let c = ground::refuse_if(here != at(t, n, j, i), 6, i + 1, j + 1);
+    match c {
+        Check::Refused(_) => c,
+        Check::Passed => ground::refuse_if(here < least, 20, i + 1, j + 1),
+    }
 }
 
-// Refusal 6 in row i, right of the diagonal.
-fn check_mirrors(n: usize, t: &[u32], i: usize) -> Check
+// The same in row i, right of the diagonal.
+fn check_pair_row(least: u32, n: usize, t: &[u32], i: usize) -> Check
     requires { ⌜ Sized n (now t) × (i < n) ⌝ }
-    ensures { λ r. ⌜ r ≡ checkAll (mirrorCheck (cost (now (t .entry)) n) i) (i + 1) (n - (i + 1)) ⌝ }
+    ensures { λ r. ⌜ r ≡ checkAll (pairCheck least (cost (now (t .entry)) n) i) (i + 1) (n - (i + 1)) ⌝ }
 {
     let mut j = i + 1;
     while j < n {
-        let c = check_mirror(n, t, i, j);
+        let c = check_pair(least, n, t, i, j);
         match c {
             Check::Refused(_) => return c,
             Check::Passed => j += 1,
@@ -119,14 +128,14 @@ fn check_mirrors(n: usize, t: &[u32], i: usize) -> Check
     Check::Passed
 }
 
-// Refusal 6 in the whole table.
-fn check_symmetry(n: usize, t: &[u32]) -> Check
+// The same in the whole table.
+fn check_pairs(least: u32, n: usize, t: &[u32]) -> Check
     requires { ⌜ Sized n (now t) ⌝ }
-    ensures { λ r. ⌜ r ≡ symmetryCheck (cost (now (t .entry)) n) n ⌝ }
+    ensures { λ r. ⌜ r ≡ pairsCheck (pairCheck least (cost (now (t .entry)) n)) n ⌝ }
 {
     let mut i = 0;
     while i < n {
-        let c = check_mirrors(n, t, i);
+        let c = check_pair_row(least, n, t, i);
         match c {
             Check::Refused(_) => return c,
             Check::Passed => i += 1,
@@ -135,7 +144,23 @@ fn check_symmetry(n: usize, t: &[u32]) -> Check
     Check::Passed
 }
 
-// Refusals 4, 5, 6 of a table of the right size.
+// Refusals 6 and 20. One pass finds the first pair that has either; only where there is one, a second pass asks for 6 alone, which comes first.
+fn check_mirrored(n: usize, t: &[u32]) -> Check
+    requires { ⌜ Sized n (now t) ⌝ }
+    ensures { λ r. ⌜ r ≡ (symmetryCheck (cost (now (t .entry)) n) n then offDiagonalCheck (cost (now (t .entry)) n) n) ⌝ }
+{
+    let either = check_pairs(1, n, t);
+    let Check::Refused(_) = either else {
+        return either;
+    };
+    let six = check_pairs(0, n, t);
+    match six {
+        Check::Refused(_) => six,
+        Check::Passed => either,
+    }
+}
+
+// Refusals 4, 5, 6, 20 of a table of the right size.
 pub fn check_costs(most: u32, n: usize, t: &[u32]) -> Check
     requires { ⌜ Sized n (now t) ⌝ }
     ensures { λ r. ⌜ r ≡ costsCheck most (cost (now (t .entry)) n) n ⌝ }
@@ -148,5 +173,5 @@ pub fn check_costs(most: u32, n: usize, t: &[u32]) -> Check
     let Check::Passed = e else {
         return e;
     };
-    check_symmetry(n, t)
+    check_mirrored(n, t)
 }

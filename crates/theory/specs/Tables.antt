@@ -16,11 +16,12 @@ oldLimit = 1000000
 abbrev pub cost : List ℕ → ℕ → ℕ → ℕ → ℕ
 cost t n i j = getD t (i * n + j) 0
 
--- every entry at most the limit L, zero diagonal, symmetric
+-- every entry at most the limit L, zero diagonal, symmetric, and no zero off the diagonal
 pub record WellFormed (L : ℕ) (d : ℕ → ℕ → ℕ) (n : ℕ) : Type 0 where
   pub small : {i j : ℕ} → i < n → j < n → d i j ≤ L
   pub self : {i : ℕ} → i < n → d i i ≡ 0
   pub same : {i j : ℕ} → i < n → j < n → d i j ≡ d j i
+  pub nonzero : {i j : ℕ} → i < n → j < n → (i ≡ j → ⊥) → 0 < d i j
 
 -- exactly n * n numbers for n from 3 to 64, and well-formed
 pub record CostTable (L n : ℕ) (t : List ℕ) : Type 0 where

@@ -33,10 +33,14 @@ all-ends f i n l e = let m : n - i ≡ 0 = omega arith in sym (rw m at e)
 
 -- ## What it says
 
-pub all-same : (f g : ℕ → Check) (i m : ℕ) → ((k : ℕ) → f k ≡ g k) → checkAll f i m ≡ checkAll g i m
+-- checks that agree at these places
+pub all-agree : (f g : ℕ → Check) (i m : ℕ) → ((k : ℕ) → i ≤ k → k < i + m → f k ≡ g k) → checkAll f i m ≡ checkAll g i m
 unfolding checkAll
-all-same f g i zero h = refl
-all-same f g i (suc m) h = rw (h i, all-same f g (suc i) m h)
+all-agree f g i zero h = refl
+all-agree f g i (suc m) h = rw (h i (omega arith) (omega arith), all-agree f g (suc i) m (λ k l u. h k (omega arith) (omega arith)))
+
+pub all-same : (f g : ℕ → Check) (i m : ℕ) → ((k : ℕ) → f k ≡ g k) → checkAll f i m ≡ checkAll g i m
+all-same f g i m h = all-agree f g i m (λ k l u. h k)
 
 pub all-passed : (f : ℕ → Check) (i m : ℕ) → checkAll f i m ≡ Passed → (k : ℕ) → i ≤ k → k < i + m → f k ≡ Passed
 unfolding checkAll

@@ -35,6 +35,10 @@ pub then-passed : (y z : Check) → (y then z) ≡ Passed → (y ≡ Passed) × 
 then-passed Passed z e = (refl, e)
 then-passed (Refused r) z e = absurd (let q : _≡_ {A = ℕ} 0 1 = cc in omega arith)
 
+pub then-none : (y z : Check) → z ≡ Passed → (y then z) ≡ y
+then-none Passed z e = e
+then-none (Refused r) z e = refl
+
 -- two chains whose first checks agree, and whose second ones do where the first passed
 pub then-same : {x : Check} (x′ : Check) {y y′ : Check} → x ≡ x′ → (x′ ≡ Passed → y ≡ y′) → (x then y) ≡ (x′ then y′)
 then-same Passed e h = rw e (h refl)

@@ -31,14 +31,14 @@ returns-2 c =
     then-goes _ _ (e .enum-told .given .1) (e .before .before .check-entries .ensures)
     (then-stops _ _ (c .enum-told4 .given .1) (c .before .before .check-diagonal .ensures))
 
-check-symmetry-requires : tie.Need-check-symmetry-requires
-check-symmetry-requires c κs = search needs
+check-mirrored-requires : tie.Need-check-mirrored-requires
+check-mirrored-requires c κs = search needs
 
 returns-3 : tie.Need-returns-3
 returns-3 c =
     let e = c .before .before .before .before in
     then-goes _ _ (e .enum-told .given .1) (e .before .before .check-entries .ensures)
-    (then-goes _ _ (c .before .enum-told3 .given .1) (c .before .before .before .check-diagonal .ensures) (c .check-symmetry .ensures))
+    (then-goes _ _ (c .before .enum-told3 .given .1) (c .before .before .before .check-diagonal .ensures) (c .check-mirrored .ensures))
 
 pub check-costs-spec : {M : Type 1} → statement M
 check-costs-spec =
@@ -52,5 +52,5 @@ check-costs-spec =
     enum-told-3
     enum-told-4
     returns-2
-    check-symmetry-requires
+    check-mirrored-requires
     returns-3)

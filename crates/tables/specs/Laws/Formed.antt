@@ -1,9 +1,9 @@
--- The checks 1, 2, 4, 5, 6 pass exactly for the cost tables of document 01. Assumes nothing.
+-- The checks 1, 2, 4, 5, 6, 20 pass exactly for the cost tables of document 02. Assumes nothing.
 use mathlib.Core.Bool.{not}
 use mathlib.Core.List.{List}
 use mathlib.Core.Logic.{_↔_}
 use mathlib.Core.Path.{ap, sym, _∙_, _≡_}
-use Prim.Native.Nat.{ℕ, _*_, _+_, _-_, _<_}
+use Prim.Native.Nat.{ℕ, _*_, _<_}
 use native.Mathlib.Omega.{arith}
 use lib.Dec.{eqb, ltb}
 use lib.ListN.{length}
@@ -17,7 +17,9 @@ use Rattle.ground.specs.declared.Check.the-variants.{Passed}
 use Rattle.theory.specs.Checks.{imagesCheck}
 use Rattle.theory.specs.Laws.Checks.{images-passed}
 use Rattle.theory.specs.Tables.{CostTable, WellFormed, cost}
-use Rattle.tables.specs.Checks.{costsCheck, diagonalCheck, entriesCheck, entryCheck, lengthCheck, mirrorCheck, sizeCheck, symmetryCheck, zeroCheck}
+use Rattle.tables.specs.Checks.{costsCheck, diagonalCheck, entriesCheck, entryCheck, leastCheck, lengthCheck, mirrorCheck, offDiagonalCheck, sizeCheck,
+    symmetryCheck, zeroCheck}
+use Rattle.tables.specs.Laws.Pairs.{pairs-passed, passed-pairs}
 use Rattle.tables.specs.Formed.{Sized}
 
 pub size-passed : (n : ℕ) (t : List ℕ) → sizeCheck n t ≡ Passed → Sized n t
@@ -33,13 +35,33 @@ size-passed n t e =
 pub passed-size : (n : ℕ) (t : List ℕ) → Sized n t → sizeCheck n t ≡ Passed
 passed-size n t s = rw (le-ltb n 3 (s .some), le-ltb 64 n (s .few), eq-eqb (length t) (n * n) (s .sized))
 
--- ## 4, 5 and 6
+-- ## 4, 5, 6 and 20
 
 module _ (L : ℕ) (d : ℕ → ℕ → ℕ) (n : ℕ) where
+  mirrored : symmetryCheck d n ≡ Passed → (i j : ℕ) → i < n → j < n → d i j ≡ d j i
+  mirrored e i j hi hj =
+      cases (ltb i j) (λ t. upper i j (ltb-true i j t) hj)
+      (λ t. cases (eqb i j) (λ u. let s = eqb-true i j u in ap (λ (x : ℕ). d x j) s ∙ ap (d j) (sym s))
+      (λ u. sym (upper j i (omega (arith, ltb-false i j t, eqb-false i j u)) hi)))
+    where
+      upper : (i j : ℕ) → i < j → j < n → d i j ≡ d j i
+      upper i j l hj =
+          let m = pairs-passed (mirrorCheck d) n e i j l hj in
+          eqb-true (d i j) (d j i) (not-false (eqb (d i j) (d j i)) (refuseIf-passed (not (eqb (d i j) (d j i))) _ m))
+
+  -- 20 alone, of any table
+  pub off-diagonal-passed : offDiagonalCheck d n ≡ Passed → (i j : ℕ) → i < j → j < n → 0 < d i j
+  off-diagonal-passed e i j l hj = ltb-false (d i j) 1 (refuseIf-passed (ltb (d i j) 1) _ (pairs-passed (leastCheck 1 d) n e i j l hj))
+
+  pub passed-off-diagonal : ((i j : ℕ) → i < j → j < n → 0 < d i j) → offDiagonalCheck d n ≡ Passed
+  passed-off-diagonal h = passed-pairs (leastCheck 1 d) n (λ i j l k. rw (le-ltb (d i j) 1 (h i j l k)))
+
   pub costs-passed : costsCheck L d n ≡ Passed → WellFormed L d n
   costs-passed e =
-      let p = then-passed (entriesCheck L d n) (diagonalCheck d n then symmetryCheck d n) e in
-      let q = then-passed (diagonalCheck d n) (symmetryCheck d n) (p .1) in
+      let p = then-passed (entriesCheck L d n) (diagonalCheck d n then symmetryCheck d n then offDiagonalCheck d n) e in
+      let q = then-passed (diagonalCheck d n) (symmetryCheck d n then offDiagonalCheck d n) (p .1) in
+      let r = then-passed (symmetryCheck d n) (offDiagonalCheck d n) (q .1) in
+      let above = off-diagonal-passed (r .1) in
       record {
         small = λ {i} {j} hi hj.
             let r = all-passed (λ i. checkAll (entryCheck L d i) 0 n) 0 n (p .0) i (omega arith) (omega arith) in
@@ -47,20 +69,10 @@ module _ (L : ℕ) (d : ℕ → ℕ → ℕ) (n : ℕ) where
         self =
             λ {i} hi. omega
             (arith, ltb-false 0 (d i i) (refuseIf-passed (ltb 0 (d i i)) _ (all-passed (zeroCheck d) 0 n (q .0) i (omega arith) (omega arith))));
-        same = λ {i} {j} hi hj. same i j hi hj (q .1);
+        same = λ {i} {j} hi hj. mirrored (r .0) i j hi hj;
+        nonzero = λ {i} {j} hi hj h. cases (ltb i j) (λ t. above i j (ltb-true i j t) hj)
+            (λ t. omega (arith, mirrored (r .0) i j hi hj, above j i (let u = ltb-false i j t in omega (arith, h)) hi));
       }
-    where
-      upper : (i j : ℕ) → i < j → j < n → symmetryCheck d n ≡ Passed → d i j ≡ d j i
-      upper i j l hj e =
-          let r = all-passed (λ i. checkAll (mirrorCheck d i) (i + 1) (n - (i + 1))) 0 n e i (omega arith) (omega arith) in
-          let m = all-passed (mirrorCheck d i) (i + 1) (n - (i + 1)) r j (omega arith) (omega arith) in
-          eqb-true (d i j) (d j i) (not-false (eqb (d i j) (d j i)) (refuseIf-passed (not (eqb (d i j) (d j i))) _ m))
-
-      same : (i j : ℕ) → i < n → j < n → symmetryCheck d n ≡ Passed → d i j ≡ d j i
-      same i j hi hj e =
-          cases (ltb i j) (λ t. upper i j (ltb-true i j t) hj e)
-          (λ t. cases (eqb i j) (λ u. let s = eqb-true i j u in ap (λ (x : ℕ). d x j) s ∙ ap (d j) (sym s))
-          (λ u. sym (upper j i (omega (arith, ltb-false i j t, eqb-false i j u)) hi e)))
 
   pub passed-costs : WellFormed L d n → costsCheck L d n ≡ Passed
   passed-costs c =
@@ -68,9 +80,9 @@ module _ (L : ℕ) (d : ℕ → ℕ → ℕ) (n : ℕ) where
         passed-all (λ i. checkAll (entryCheck L d i) 0 n) 0 n
             (λ i l h. passed-all (entryCheck L d i) 0 n (λ j m u. rw (le-ltb L (d i j) (c .small (omega arith) (omega arith))))),
         passed-all (zeroCheck d) 0 n (λ i l h. rw (le-ltb 0 (d i i) (omega (arith, c .self {i = i} (omega arith))))),
+        passed-pairs (mirrorCheck d) n (λ i j l k. rw (eq-eqb (d i j) (d j i) (c .same (omega arith) (omega arith)))),
       )
-      (passed-all (λ i. checkAll (mirrorCheck d i) (i + 1) (n - (i + 1))) 0 n (λ i l h. passed-all (mirrorCheck d i) (i + 1) (n - (i + 1))
-      (λ j m u. rw (eq-eqb (d i j) (d j i) (c .same (omega arith) (omega arith))))))
+      (passed-off-diagonal (λ i j l k. c .nonzero (omega arith) k (λ e. omega arith)))
 
 -- ## Together
 

@@ -14,6 +14,7 @@ well-formed-less L d m n h c = record {
   small = λ i j. c .small (omega arith) (omega arith);
   self = λ i. c .self (omega arith);
   same = λ i j. c .same (omega arith) (omega arith);
+  nonzero = λ i j. c .nonzero (omega arith) (omega arith);
 }
 
 -- the same, as none being above both others
