@@ -25,6 +25,7 @@ pub record Readable (form : Form) (s : List ℕ) (room : ℕ) : Type 0 where
   pub whole : costUsed form (imagesOf form s) ≤ length s
   pub clear : fillOf form (imagesOf form s) s ≡ 0
   pub fine : (i j : ℕ) → i < j → j < imagesOf form s → entryOf form s (entryNumber (imagesOf form s) i j) ≤ form .limit
+  pub nonzero : (i j : ℕ) → i < j → j < imagesOf form s → 0 < entryOf form s (entryNumber (imagesOf form s) i j)
 
 -- the answer is this table: what it says of the bytes
 pub record TableAt (form : Form) (bytes : List ℕ) (position room n used : ℕ) : Type 0 where

@@ -10,7 +10,7 @@ ghost use Rattle.ground.specs.Buffers.{front};
 ghost use Rattle.ground.specs.Lowest.{checkAll};
 ghost use Rattle.ground.specs.Outcomes.{Left};
 ghost use Rattle.theory.specs.Tables.{cost, limit};
-ghost use Rattle.tables.specs.Checks.{entryCheck};
+ghost use Rattle.tables.specs.Pairs.{pairsCheck};
 ghost use Rattle.bits.specs.Bits.{FieldWithin, bits, overAt, part, valueOf};
 ghost use Rattle.bits.specs.Forms.{bytesFor, fieldValue};
 ghost use Rattle.bits.specs.Listed.{listed};
@@ -18,7 +18,7 @@ ghost use Rattle.stored_costs.specs.Entries.{Above, entryCost, entryCoun
 ghost use Rattle.stored_costs.specs.Form.{costForm, costFormAt, rowAt};
 ghost use Rattle.stored_costs.specs.Said.{storedTable, entryOf, imagesOf};
 ghost use Rattle.stored_costs.specs.Outcomes.{judged, judgedEither, readEither};
-ghost use Rattle.stored_costs.specs.Reading.{bodyChecks, readAtChecks, readChecks, startChecks, storedCheck};
+ghost use Rattle.stored_costs.specs.Reading.{bodyChecks, readAtChecks, readChecks, startChecks, valueCheck, valuesCheck};
 ghost use Rattle.stored_costs.specs.Sizes.{Held, Small, Span};
 
 // What the reader answers: n and the bytes used by this table alone, or the refusal.
@@ -117,15 +117,27 @@ fn check_body(form: Form, n: usize, bytes: &[u8]) -> Check
     ground::refuse_if(0 < bits::get(bytes, end, 8 * used - end), 11, 0, 0)
 }
 
-// Refusal 4 in row i, right of the diagonal.
-fn check_row(form: Form, n: usize, bytes: &[u8], i: usize) -> Check
+// Refusal 4 of the entry of i and j, and 20 where it is below the least.
+fn check_value(least: u32, most: u32, value: u32, i: usize, j: usize) -> Check
+    requires { ⌜ (i < 64) × (j < 64) ⌝ }
+    ensures { λ r. ⌜ r ≡ valueCheck least most (λ i j. value) i j ⌝ }
+{
+    let c = ground::refuse_if(most < value, 4, i + 1, j + 1);
+    match c {
+        Check::Refused(_) => c,
+        Check::Passed => ground::refuse_if(value < least, 20, i + 1, j + 1),
+    }
+}
+
+// The same in row i, right of the diagonal.
+fn check_row(form: Form, least: u32, n: usize, bytes: &[u8], i: usize) -> Check
     requires { ⌜ Held form n (length (now bytes)) × (i < n) ⌝ }
-    ensures { λ r. ⌜ r ≡ checkAll (entryCheck (form .limit) (entryCost (entryOf form (now (bytes .entry))) n) i) (i + 1) (n - (i + 1)) ⌝ }
+    ensures { λ r. ⌜ r ≡ checkAll (valueCheck least (form .limit) (entryCost (entryOf form (now (bytes .entry))) n) i) (i + 1) (n - (i + 1)) ⌝ }
 {
     let mut p = row_at(form, n, i);
     let mut j = i + 1;
     while j < n {
-        let c = ground::refuse_if(form.limit < entry_at(bytes, p, form.width), 4, i + 1, j + 1);
+        let c = check_value(least, form.limit, entry_at(bytes, p, form.width), i, j);
         match c {
             Check::Refused(_) => return c,
             Check::Passed => {
@@ -137,20 +149,36 @@ fn check_row(form: Form, n: usize, bytes: &[u8], i: usize) -> Check
     Check::Passed
 }
 
-// Refusal 4, row by row.
-fn check_entries(form: Form, n: usize, bytes: &[u8]) -> Check
+// The same row by row.
+fn check_entries(form: Form, least: u32, n: usize, bytes: &[u8]) -> Check
     requires { ⌜ Held form n (length (now bytes)) ⌝ }
-    ensures { λ r. ⌜ r ≡ storedCheck (form .limit) (entryCost (entryOf form (now (bytes .entry))) n) n ⌝ }
+    ensures { λ r. ⌜ r ≡ pairsCheck (valueCheck least (form .limit) (entryCost (entryOf form (now (bytes .entry))) n)) n ⌝ }
 {
     let mut i = 0;
     while i < n {
-        let c = check_row(form, n, bytes, i);
+        let c = check_row(form, least, n, bytes, i);
         match c {
             Check::Refused(_) => return c,
             Check::Passed => i += 1,
         }
     }
     Check::Passed
+}
+
+// Refusals 4 and 20. One pass finds the first entry that has either; only where there is one, a second pass asks for 4 alone, which comes first.
+fn check_values(form: Form, n: usize, bytes: &[u8]) -> Check
+    requires { ⌜ Held form n (length (now bytes)) ⌝ }
+    ensures { λ r. ⌜ r ≡ valuesCheck (form .limit) (entryCost (entryOf form (now (bytes .entry))) n) n ⌝ }
+{
+    let either = check_entries(form, 1, n, bytes);
+    let Check::Refused(_) = either else {
+        return either;
+    };
+    let four = check_entries(form, 0, n, bytes);
+    match four {
+        Check::Refused(_) => four,
+        Check::Passed => either,
+    }
 }
 
 // All checks of the table at the front of the bytes, where so many places are lent.
@@ -167,7 +195,7 @@ pub fn check_stored(form: Form, bytes: &[u8], room: usize) -> Check
     let Check::Passed = body else {
         return body;
     };
-    check_entries(form, n, bytes)
+    check_values(form, n, bytes)
 }
 
 // All checks at a position: the rest of the bytes from there on is looked at as one begins.

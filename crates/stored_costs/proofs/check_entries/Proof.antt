@@ -3,22 +3,22 @@ use mathlib.Core.Path.{_≡_}
 use Prim.Native.Nat.{_+_, _-_, _≤_}
 use Rattle.ground.specs.Lowest.{checkAll}
 use Rattle.ground.specs.Laws.Lowest.{all-begins, all-ends, all-goes, all-stops}
-use Rattle.tables.specs.Checks.{entryCheck}
+use Rattle.tables.specs.Pairs.{pairsCheck}
 use Rattle.stored_costs.specs.Entries.{entryCost}
 use Rattle.stored_costs.specs.Said.{entryOf}
-use Rattle.stored_costs.specs.Reading.{storedCheck}
+use Rattle.stored_costs.specs.Reading.{valueCheck}
 use borrow.Author.Needs.{needs}
 use Rattle.stored_costs.proofs.check_entries.Statement.{statement}
 use Rattle.stored_costs.proofs.check_entries.Tie as tie
 
 abbrev Inv-loop : tie.InvT-loop
-Inv-loop form n bytes i₀ i =
+Inv-loop form least n bytes i₀ i =
     (i ≤ n)
-    × (storedCheck (form .limit) (entryCost (entryOf form bytes) n) n ≡ checkAll
-    (λ k. checkAll (entryCheck (form .limit) (entryCost (entryOf form bytes) n) k) (k + 1) (n - (k + 1))) i (n - i))
+    × (pairsCheck (valueCheck least (form .limit) (entryCost (entryOf form bytes) n)) n ≡ checkAll
+    (λ k. checkAll (valueCheck least (form .limit) (entryCost (entryOf form bytes) n) k) (k + 1) (n - (k + 1))) i (n - i))
 
 abbrev μ-loop : tie.MeasureT-loop
-μ-loop form n bytes i₀ i = n - i
+μ-loop form least n bytes i₀ i = n - i
 
 loop-holds : tie.Need-loop-holds Inv-loop μ-loop
 loop-holds c = (search needs, all-begins _ _)

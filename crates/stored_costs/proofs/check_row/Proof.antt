@@ -4,12 +4,12 @@ use Prim.Native.Nat.{ℕ, _*_, _+_, _-_, _<_, _≤_}
 use native.Mathlib.Omega.{arith}
 use Rattle.ground.specs.Lowest.{checkAll}
 use Rattle.ground.specs.Laws.Lowest.{all-ends, all-goes, all-stops}
-use Rattle.tables.specs.Checks.{entryCheck}
 use Rattle.bits.specs.Bits.{bits, part, valueOf}
 use Rattle.bits.specs.Forms.{fieldValue}
 use Rattle.bits.specs.Laws.OneWidth.{field-end, times-more}
 use Rattle.stored_costs.specs.Entries.{entryCost, entryCount, entryNumber}
 use Rattle.stored_costs.specs.Form.{costEnd}
+use Rattle.stored_costs.specs.Reading.{valueCheck}
 use Rattle.stored_costs.specs.Said.{entryOf}
 use Rattle.stored_costs.specs.Laws.Entries.{number-lt}
 use Rattle.stored_costs.specs.Laws.Sizes.{end-le}
@@ -19,13 +19,13 @@ use Rattle.stored_costs.proofs.check_row.Statement.{statement}
 use Rattle.stored_costs.proofs.check_row.Tie as tie
 
 abbrev Inv-loop : tie.InvT-loop
-Inv-loop form n bytes i p₀ j₀ p j =
+Inv-loop form least n bytes i p₀ j₀ p j =
     (i < j) × (j ≤ n) × (p ≡ form .head + 7 + form .width * entryNumber n i j)
-    × (checkAll (entryCheck (form .limit) (entryCost (entryOf form bytes) n) i) (i + 1) (n - (i + 1)) ≡ checkAll
-    (entryCheck (form .limit) (entryCost (entryOf form bytes) n) i) j (n - j))
+    × (checkAll (valueCheck least (form .limit) (entryCost (entryOf form bytes) n) i) (i + 1) (n - (i + 1)) ≡ checkAll
+    (valueCheck least (form .limit) (entryCost (entryOf form bytes) n) i) j (n - j))
 
 abbrev μ-loop : tie.MeasureT-loop
-μ-loop form n bytes i p₀ j₀ p j = n - j
+μ-loop form least n bytes i p₀ j₀ p j = n - j
 
 abbrev begun : tie.In-loop Inv-loop μ-loop → tie.Start Inv-loop μ-loop
 begun c = c .before .before .before .before
@@ -40,23 +40,23 @@ ends c =
     field-end (a .form .head + 7) (a .form .width) (entryCount (a .n)) (entryNumber (a .n) (a .i) (l .j))
     (number-lt (a .n) (a .i) (l .j) (l .inv .0) (c .loop-test .taken))
 
-abbrev told : tie.After-refuse-if Inv-loop μ-loop → tie.In-loop Inv-loop μ-loop
-told c = c .before .before .before
+abbrev told : tie.After-check-value Inv-loop μ-loop → tie.In-loop Inv-loop μ-loop
+told c = c .before .before
 
 -- what this turn's check says
-said : (c : tie.After-refuse-if Inv-loop μ-loop)
-    → c .refuse-if .result ≡ entryCheck (begun (told c) .args .form .limit)
+said : (c : tie.After-check-value Inv-loop μ-loop)
+    → c .check-value .result ≡ valueCheck (begun (told c) .args .least) (begun (told c) .args .form .limit)
     (entryCost (entryOf (begun (told c) .args .form) (begun (told c) .args .bytes .now)) (begun (told c) .args .n)) (begun (told c) .args .i)
     (told c .before .loop .j)
 unfolding entryOf fieldValue
 said c =
     let a = begun (told c) .args in
     let l = told c .before .loop in
-    let e : c .before .before .entry-at .result ≡ entryCost (entryOf (a .form) (a .bytes .now)) (a .n) (a .i) (l .j) =
-    c .before .before .entry-at .ensures
+    let e : c .before .entry-at .result ≡ entryCost (entryOf (a .form) (a .bytes .now)) (a .n) (a .i) (l .j) =
+    c .before .entry-at .ensures
     ∙ ap (λ (x : ℕ). valueOf (part (bits (a .bytes .now)) x (a .form .width))) (l .inv .2)
     ∙ sym (cost-of-up (entryOf (a .form) (a .bytes .now)) (a .n) (a .i) (l .j) (l .inv .0)) in
-    rw (← e) (c .refuse-if .ensures)
+    rw (← e) (c .check-value .ensures)
 
 row-at-requires : tie.Need-row-at-requires Inv-loop μ-loop
 row-at-requires c κs = search needs
@@ -79,14 +79,8 @@ entry-at-requires c κs =
       record { width = omega (arith, h .small .narrow); within = omega (arith, ends c, h .within, l .2); counted = omega (arith, ends c, e, l .2) },
     )
 
-add-refuse-if : tie.Need-add-refuse-if Inv-loop μ-loop
-add-refuse-if c = search needs
-
-add-refuse-if-2 : tie.Need-add-refuse-if-2 Inv-loop μ-loop
-add-refuse-if-2 c = search needs
-
-refuse-if-requires : tie.Need-refuse-if-requires Inv-loop μ-loop
-refuse-if-requires c κs = search needs
+check-value-requires : tie.Need-check-value-requires Inv-loop μ-loop
+check-value-requires c κs = search needs
 
 enum-told : tie.Need-enum-told Inv-loop μ-loop
 enum-told c = search needs
@@ -134,9 +128,7 @@ check-row-spec =
     add-j
     loop-holds
     entry-at-requires
-    add-refuse-if
-    add-refuse-if-2
-    refuse-if-requires
+    check-value-requires
     enum-told
     returns
     enum-told-2

@@ -46,8 +46,8 @@ returns-2 c =
     then-goes _ _ (d .enum-told .given .1) (d .before .before .check-start .ensures)
     (then-stops _ _ (c .enum-told4 .given .1) (rw (i .images .ensures) at (c .before .before .check-body .ensures)))
 
-check-entries-requires : tie.Need-check-entries-requires
-check-entries-requires c κs =
+check-values-requires : tie.Need-check-values-requires
+check-values-requires c κs =
     let b = c .before .before in
     let i = b .before in
     let d = i .before in
@@ -64,7 +64,7 @@ returns-3 c =
     let d = i .before in
     then-goes _ _ (d .enum-told .given .1) (d .before .before .check-start .ensures)
     (then-goes _ _ (b .enum-told3 .given .1) (rw (i .images .ensures) at (b .before .before .check-body .ensures))
-    (rw (i .images .ensures) at (c .check-entries .ensures)))
+    (rw (i .images .ensures) at (c .check-values .ensures)))
 
 pub check-stored-spec : {M : Type 1} → statement M
 check-stored-spec =
@@ -79,5 +79,5 @@ check-stored-spec =
     enum-told-3
     enum-told-4
     returns-2
-    check-entries-requires
+    check-values-requires
     returns-3)

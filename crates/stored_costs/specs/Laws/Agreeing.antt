@@ -6,15 +6,15 @@ use native.Mathlib.Omega.{arith}
 use lib.Dec.{eqb}
 use borrow.Author.Tests.{eqb-false}
 use borrow.Table.Steps.{cases}
-use Rattle.ground.specs.Lowest.{checkAll}
-use Rattle.ground.specs.declared.Check.{Check}
-use Rattle.tables.specs.Checks.{entryCheck}
+use Rattle.ground.specs.Laws.Refusals.{then-same}
+use Rattle.tables.specs.Checks.{entryCheck, leastCheck}
+use Rattle.tables.specs.Laws.Pairs.{pairs-agree}
 use Rattle.bits.specs.Laws.Listed.{listed-same}
 use Rattle.bits.specs.declared.Form.{Form}
 use Rattle.stored_costs.specs.Entries.{entryCost, entryCount, entryNumber, rowStart, tableOf}
 use Rattle.stored_costs.specs.Form.{costEnd}
 use Rattle.stored_costs.specs.Laws.Entries.{number-lt, row-le}
-use Rattle.stored_costs.specs.Reading.{storedCheck}
+use Rattle.stored_costs.specs.Reading.{storedCheck, valuesCheck}
 
 starts-later : (n m i : ℕ) → n ≤ m → rowStart n i ≤ rowStart m i
 unfolding rowStart
@@ -28,12 +28,6 @@ end-grows form n m h =
 
 -- ## Entries that agree say the same
 
--- places whose checks agree
-all-agree : (f g : ℕ → Check) (i m : ℕ) → ((k : ℕ) → i ≤ k → k < i + m → f k ≡ g k) → checkAll f i m ≡ checkAll g i m
-unfolding checkAll
-all-agree f g i zero h = refl
-all-agree f g i (suc m) h = rw (h i (omega arith) (omega arith), all-agree f g (suc i) m (λ k l u. h k (omega arith) (omega arith)))
-
 agreeing-costs : (f g : ℕ → ℕ) (n : ℕ) → ((k : ℕ) → k < entryCount n → f k ≡ g k) → (i j : ℕ) → i < n → j < n → entryCost f n i j ≡ entryCost g n i j
 unfolding entryCost
 agreeing-costs f g n h i j hi hj =
@@ -41,11 +35,12 @@ agreeing-costs f g n h i j hi hj =
     (λ e. rw (e, h (entryNumber n (min i j) (max i j)) (number-lt n (min i j) (max i j) (omega (arith, eqb-false i j e)) (omega arith))))
 
 pub agreeing-checks : (L : ℕ) (f g : ℕ → ℕ) (n : ℕ) → ((k : ℕ) → k < entryCount n → f k ≡ g k)
-    → storedCheck L (entryCost f n) n ≡ storedCheck L (entryCost g n) n
+    → valuesCheck L (entryCost f n) n ≡ valuesCheck L (entryCost g n) n
 agreeing-checks L f g n h =
-    all-agree (λ i. checkAll (entryCheck L (entryCost f n) i) (i + 1) (n - (i + 1))) (λ i. checkAll (entryCheck L (entryCost g n) i) (i + 1) (n - (i + 1))) 0 n
-    (λ i l u. all-agree (entryCheck L (entryCost f n) i) (entryCheck L (entryCost g n) i) (i + 1) (n - (i + 1))
-    (λ j m v. rw (agreeing-costs f g n h i j (omega arith) (omega arith)) refl))
+    let same : (i j : ℕ) → i < j → j < n → entryCost f n i j ≡ entryCost g n i j = λ i j l k. agreeing-costs f g n h i j (omega arith) k in
+    then-same (storedCheck L (entryCost g n) n)
+    (pairs-agree (entryCheck L (entryCost f n)) (entryCheck L (entryCost g n)) n (λ i j l k. rw (same i j l k) refl))
+    (λ p. pairs-agree (leastCheck 1 (entryCost f n)) (leastCheck 1 (entryCost g n)) n (λ i j l k. rw (same i j l k) refl))
 
 pub agreeing-tables : (f g : ℕ → ℕ) (n : ℕ) → ((k : ℕ) → k < entryCount n → f k ≡ g k) → tableOf f n ≡ tableOf g n
 unfolding tableOf

@@ -22,7 +22,7 @@ use Rattle.stored_costs.specs.Said.{entryOf, fillOf, imagesOf, storedTab
 use Rattle.stored_costs.specs.Laws.Agreeing.{agreeing-checks, agreeing-tables, end-grows}
 use Rattle.stored_costs.specs.Laws.Passed.{read-at-passed, start-passed}
 use Rattle.stored_costs.specs.Outcomes.{readOutcome, tableIf}
-use Rattle.stored_costs.specs.Reading.{bodyChecks, readAtChecks, readChecks, startChecks, storedCheck}
+use Rattle.stored_costs.specs.Reading.{bodyChecks, readAtChecks, readChecks, startChecks, valuesCheck}
 use Rattle.stored_costs.specs.Stored.{readInto}
 use Rattle.stored_costs.specs.declared.StoredCosts.{StoredCosts}
 use Rattle.ground.specs.Laws.Refusals.{then-same}
@@ -61,10 +61,10 @@ module _ (form : Form) (s b : List ℕ) (reach : Reaching form s) where
     pub table-behind : storedTable form (imagesOf form s) (s ++ b) ≡ storedTable form (imagesOf form s) s
     table-behind = agreeing-tables (entryOf form (s ++ b)) (entryOf form s) (imagesOf form s) entry-behind
 
-    -- 9, 11, 4
+    -- 9, 11, 4, 20
     rest-behind : let n = imagesOf form s in
-        (bodyChecks form n (s ++ b) then storedCheck (form .limit) (entryCost (entryOf form (s ++ b)) n) n)
-        ≡ (bodyChecks form n s then storedCheck (form .limit) (entryCost (entryOf form s) n) n)
+        (bodyChecks form n (s ++ b) then valuesCheck (form .limit) (entryCost (entryOf form (s ++ b)) n) n)
+        ≡ (bodyChecks form n s then valuesCheck (form .limit) (entryCost (entryOf form s) n) n)
     rest-behind =
         let n = imagesOf form s in
         then-same (bodyChecks form n s)

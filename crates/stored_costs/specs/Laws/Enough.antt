@@ -28,7 +28,7 @@ use Rattle.stored_costs.specs.Laws.Sizes.{square-le}
 use Rattle.stored_costs.specs.Laws.Tables.{length-table, table-formed}
 use Rattle.stored_costs.specs.Laws.Told.{form-fits, form-limit, told-costs}
 use Rattle.stored_costs.specs.Outcomes.{readEither}
-use Rattle.stored_costs.specs.Reading.{bodyChecks, readAtChecks, readChecks, storedCheck, tableChecks}
+use Rattle.stored_costs.specs.Reading.{bodyChecks, readAtChecks, readChecks, tableChecks, valuesCheck}
 use Rattle.stored_costs.specs.Stored.{Readable}
 use Rattle.stored_costs.specs.declared.StoredCosts.the-variants.{Table}
 use Rattle.stored_costs.specs.declared.StoredCosts.the-variants as stored
@@ -44,7 +44,7 @@ module _ (form : Form) (s : List ℕ) where
   enough-room room h =
       let n = imagesOf form s in
       without (endCheck s (bytesFor (form .head + 7))) (imagesCheck n) (roomCheck (n * n) room)
-      (bodyChecks form n s then storedCheck (form .limit) (entryCost (entryOf form s) n) n)
+      (bodyChecks form n s then valuesCheck (form .limit) (entryCost (entryOf form s) n) n)
       (λ e. rw (le-ltb room (n * n) (omega (arith, square-le (outside-false 3 64 n (refuseIf-passed (outside 3 64 n) _ e) .1)))) refl)
 
   -- and the first byte is inside
@@ -65,6 +65,7 @@ table-said s e =
     let form = costFormAt s 0 in
     let r = table-readable form s e in
     table-formed (entryOf form s) (imagesOf form s) limit (r .some) (r .few) (λ i j h k. omega (arith, r .fine i j h k, form-limit (editionOf s)))
+    (r .nonzero)
 
 -- what was stored, whatever follows it: it tells its form, and passes as the table that it is
 pub record TableStored (e : Edition) (n : ℕ) (t s : List ℕ) : Type 0 where

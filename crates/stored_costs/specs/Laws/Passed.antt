@@ -1,13 +1,11 @@
 -- What it says that the reader's checks pass, and that nothing else is needed for it. Assumes nothing.
 use mathlib.Core.List.{List}
 use mathlib.Core.Path.{ap, refl, _≡_}
-use Prim.Native.Nat.{ℕ, _%_, _*_, _+_, _-_, _/_, _<_, _≤_}
+use Prim.Native.Nat.{ℕ, _%_, _*_, _+_, _/_, _<_, _≤_}
 use native.Mathlib.Omega.{arith}
 use lib.Dec.{ltb}
 use lib.ListN.{drop, length}
 use borrow.Author.Tests.{le-ltb, ltb-false}
-use Rattle.ground.specs.Lowest.{checkAll}
-use Rattle.ground.specs.Laws.Lowest.{all-passed, passed-all}
 use Rattle.ground.specs.Refusals.{roomCheck, _then_}
 use Rattle.ground.specs.Laws.Refusals.{refuseIf-passed, then-passed}
 use Rattle.ground.specs.Laws.Tests.{or-false}
@@ -17,34 +15,39 @@ use Rattle.ground.specs.declared.Refusal.{Refusal}
 use Rattle.bits.specs.Kinds.{endCheck, fillCheck, misplaced, positionCheck}
 use Rattle.theory.specs.Checks.{imagesCheck}
 use Rattle.theory.specs.Laws.Checks.{images-passed}
-use Rattle.tables.specs.Checks.{entryCheck}
+use Rattle.tables.specs.Checks.{entryCheck, offDiagonalCheck}
+use Rattle.tables.specs.Laws.Formed.{off-diagonal-passed, passed-off-diagonal}
+use Rattle.tables.specs.Laws.Pairs.{pairs-passed, passed-pairs}
 use Rattle.bits.specs.Forms.{bytesFor}
 use Rattle.stored_costs.specs.Entries.{entryCost, entryNumber}
 use Rattle.stored_costs.specs.Form.{costUsed}
 use Rattle.stored_costs.specs.Said.{entryOf, fillOf, imagesOf}
 use Rattle.stored_costs.specs.Laws.Tables.{cost-of-up}
 use Rattle.stored_costs.specs.Outcomes.{judged, tableIf}
-use Rattle.stored_costs.specs.Reading.{bodyChecks, readAtChecks, readChecks, startChecks, storedCheck}
+use Rattle.stored_costs.specs.Reading.{bodyChecks, readAtChecks, readChecks, startChecks, storedCheck, valuesCheck}
 use Rattle.stored_costs.specs.Sizes.{Held}
 use Rattle.stored_costs.specs.declared.StoredCosts.the-variants.{Table}
 use Rattle.bits.specs.declared.Form.{Form}
 use Rattle.stored_costs.specs.Stored.{Readable, TableAt}
 use Rattle.stored_costs.specs.declared.StoredCosts.the-variants as stored
 
--- ## Refusal 4
+-- ## Refusals 4 and 20
 
 module _ (L : ℕ) (f : ℕ → ℕ) (n : ℕ) where
-  pub stored-passed : storedCheck L (entryCost f n) n ≡ Passed → (i j : ℕ) → i < j → j < n → f (entryNumber n i j) ≤ L
-  stored-passed e i j h k =
-      let r = all-passed (λ i. checkAll (entryCheck L (entryCost f n) i) (i + 1) (n - (i + 1))) 0 n e i (omega arith) (omega arith) in
-      let m = all-passed (entryCheck L (entryCost f n) i) (i + 1) (n - (i + 1)) r j (omega arith) (omega arith) in
-      rw (← (cost-of-up f n i j h)) (ltb-false L (entryCost f n i j) (refuseIf-passed (ltb L (entryCost f n i j)) _ m))
+  abbrev d : ℕ → ℕ → ℕ
+  d = entryCost f n
 
-  pub passed-stored : ((i j : ℕ) → i < j → j < n → f (entryNumber n i j) ≤ L) → storedCheck L (entryCost f n) n ≡ Passed
-  passed-stored h =
-      passed-all (λ i. checkAll (entryCheck L (entryCost f n) i) (i + 1) (n - (i + 1))) 0 n
-      (λ i l u. passed-all (entryCheck L (entryCost f n) i) (i + 1) (n - (i + 1))
-      (λ j m v. let k : i < j = omega arith in rw (cost-of-up f n i j k, le-ltb L (f (entryNumber n i j)) (h i j k (omega arith)))))
+  pub values-passed : valuesCheck L d n ≡ Passed → (i j : ℕ) → i < j → j < n → (f (entryNumber n i j) ≤ L) × (0 < f (entryNumber n i j))
+  values-passed e i j h k =
+      let p = then-passed (storedCheck L d n) (offDiagonalCheck d n) e in
+      rw (← (cost-of-up f n i j h))
+      (ltb-false L (d i j) (refuseIf-passed (ltb L (d i j)) _ (pairs-passed (entryCheck L d) n (p .0) i j h k)), off-diagonal-passed L d n (p .1) i j h k)
+
+  pub passed-values : ((i j : ℕ) → i < j → j < n → f (entryNumber n i j) ≤ L) → ((i j : ℕ) → i < j → j < n → 0 < f (entryNumber n i j))
+      → valuesCheck L d n ≡ Passed
+  passed-values h g =
+      rw (passed-pairs (entryCheck L d) n (λ i j l k. rw (cost-of-up f n i j l, le-ltb L (f (entryNumber n i j)) (h i j l k))))
+      (passed-off-diagonal L d n (λ i j l k. rw (cost-of-up f n i j l) (g i j l k)))
 
 -- ## Refusals 9, 1, 3, and 9, 11
 
@@ -74,11 +77,21 @@ module _ (form : Form) (s : List ℕ) (room : ℕ) where
   pub read-passed : readChecks form s room ≡ Passed → Readable form s room
   read-passed e =
       let n = imagesOf form s in
-      let p = then-passed (startChecks form s room) (bodyChecks form n s then storedCheck (form .limit) (entryCost (entryOf form s) n) n) e in
+      let p = then-passed (startChecks form s room) (bodyChecks form n s then valuesCheck (form .limit) (entryCost (entryOf form s) n) n) e in
       let q = start-passed form s room (p .0) in
-      let t = then-passed (bodyChecks form n s) (storedCheck (form .limit) (entryCost (entryOf form s) n) n) (p .1) in
+      let t = then-passed (bodyChecks form n s) (valuesCheck (form .limit) (entryCost (entryOf form s) n) n) (p .1) in
       let u = body-passed form n s (t .0) in
-      record { begun = q .0; some = q .1; few = q .2; roomy = q .3; whole = u .0; clear = u .1; fine = stored-passed (form .limit) (entryOf form s) n (t .1) }
+      let v = values-passed (form .limit) (entryOf form s) n (t .1) in
+      record {
+        begun = q .0;
+        some = q .1;
+        few = q .2;
+        roomy = q .3;
+        whole = u .0;
+        clear = u .1;
+        fine = λ i j h k. v i j h k .0;
+        nonzero = λ i j h k. v i j h k .1;
+      }
 
   pub passed-read : Readable form s room → readChecks form s room ≡ Passed
   passed-read r =
@@ -90,7 +103,7 @@ module _ (form : Form) (s : List ℕ) (room : ℕ) where
         le-ltb room (n * n) (r .roomy),
         le-ltb (length s) (costUsed form n) (r .whole),
         r .clear,
-        passed-stored (form .limit) (entryOf form s) n (r .fine),
+        passed-values (form .limit) (entryOf form s) n (r .fine) (r .nonzero),
       )
 
   -- so the functions below may be called

@@ -108,6 +108,10 @@ module _ (form : Form) (n : ℕ) (t behind : List ℕ) (c : CostTable (form .lim
         fine = λ i j l m.
             let k : j < n = rw images-is at m in
             rw (images-is, entry-read (entryNumber n i j) (number-lt n i j l k), entry-is (cost t n) n i j l k) (c .formed .small (omega arith) k);
+        nonzero = λ i j l m.
+            let k : j < n = rw images-is at m in
+            rw (images-is, entry-read (entryNumber n i j) (number-lt n i j l k), entry-is (cost t n) n i j l k)
+            (c .formed .nonzero (omega arith) k (λ e. omega arith));
       }
 
   -- and the table is the one that was written

@@ -60,9 +60,10 @@ module _ (f : ℕ → ℕ) (n : ℕ) where
   pub table-entries : entries (cost (tableOf f n) n) n ≡ listed f (entryCount n)
   table-entries = entries-listed (cost (tableOf f n) n) f n (λ i j h k. table-cost i j (omega arith) k ∙ cost-of-up i j h)
 
-  -- it is a cost table, where no entry is above the limit
-  pub table-formed : (L : ℕ) → 3 ≤ n → n ≤ 64 → ((i j : ℕ) → i < j → j < n → f (entryNumber n i j) ≤ L) → CostTable L n (tableOf f n)
-  table-formed L s t h =
+  -- it is a cost table, where no entry is above the limit and none is 0
+  pub table-formed : (L : ℕ) → 3 ≤ n → n ≤ 64 → ((i j : ℕ) → i < j → j < n → f (entryNumber n i j) ≤ L)
+      → ((i j : ℕ) → i < j → j < n → 0 < f (entryNumber n i j)) → CostTable L n (tableOf f n)
+  table-formed L s t h g =
       record {
         some = s;
         few = t;
@@ -71,6 +72,7 @@ module _ (f : ℕ → ℕ) (n : ℕ) where
           small = λ {i} {j} hi hj. rw (table-cost i j hi hj) (small i j hi hj);
           self = λ {i} hi. table-cost i i hi hi ∙ cost-of-self i;
           same = λ {i} {j} hi hj. table-cost i j hi hj ∙ cost-of-same i j ∙ sym (table-cost j i hj hi);
+          nonzero = λ {i} {j} hi hj o. rw (table-cost i j hi hj) (nonzero i j hi hj o);
         };
       }
     where
@@ -79,6 +81,11 @@ module _ (f : ℕ → ℕ) (n : ℕ) where
           cases (ltb i j) (λ e. rw (cost-of-up i j (ltb-true i j e)) (h i j (ltb-true i j e) hj))
           (λ e. cases (eqb i j) (λ q. rw (eqb-true i j q, cost-of-self j) (omega arith))
           (λ q. let l : j < i = omega (arith, ltb-false i j e, eqb-false i j q) in rw (cost-of-down i j l) (h j i l hi)))
+
+      nonzero : (i j : ℕ) → i < n → j < n → (i ≡ j → ⊥) → 0 < entryCost f n i j
+      nonzero i j hi hj o =
+          cases (ltb i j) (λ e. rw (cost-of-up i j (ltb-true i j e)) (g i j (ltb-true i j e) hj))
+          (λ e. let l : j < i = let u = ltb-false i j e in omega (arith, o) in rw (cost-of-down i j l) (g j i l hi))
 
 -- ## A cost table's own entries
 

@@ -25,7 +25,7 @@ use Rattle.stored_costs.specs.Stored.{Readable}
 
 -- what was read is a cost table
 pub read-table : (form : Form) (s : List ℕ) (room : ℕ) → Readable form s room → CostTable (form .limit) (imagesOf form s) (storedTable form (imagesOf form s) s)
-read-table form s room r = table-formed (entryOf form s) (imagesOf form s) (form .limit) (r .some) (r .few) (r .fine)
+read-table form s room r = table-formed (entryOf form s) (imagesOf form s) (form .limit) (r .some) (r .few) (r .fine) (r .nonzero)
 
 module _ (form : Form) (s : List ℕ) (room : ℕ) (r : Readable form s room) (marked : Marked form s) where
   n : ℕ

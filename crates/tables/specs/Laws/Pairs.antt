@@ -1,7 +1,8 @@
 -- What the checks of all pairs say, and two checks of each pair by one pass. Assumes nothing.
-use mathlib.Core.Path.{refl, sym, _∙_, _≡_}
+use mathlib.Core.Path.{sym, _∙_, _≡_}
 use Prim.Native.Nat.{ℕ, _+_, _-_, _<_}
 use native.Mathlib.Omega.{arith}
+use borrow.Author.Tests.{le-ltb}
 use Rattle.ground.specs.InOrder.{Only}
 use Rattle.ground.specs.Lowest.{checkAll}
 use Rattle.ground.specs.Laws.InOrder.{all-only}
@@ -11,6 +12,7 @@ use Rattle.ground.specs.Laws.Refusals.{then-goes, then-none, then-passed, then-
 use Rattle.ground.specs.declared.Check.{Check}
 use Rattle.ground.specs.declared.Check.the-variants.{Passed, Refused}
 use Rattle.ground.specs.declared.Refusal.{Refusal}
+use Rattle.tables.specs.Checks.{leastCheck}
 use Rattle.tables.specs.Pairs.{pairsCheck}
 
 module _ (c : ℕ → ℕ → Check) (n : ℕ) where
@@ -59,6 +61,7 @@ module _ (b c : ℕ → ℕ → Check) (n : ℕ) where
       then-goes (pairsCheck b n) (pairsCheck c n) p e
       (q ∙ pairs-agree (λ i j. b i j then c i j) c n (λ i j h k. rw (pairs-passed b n (sym e ∙ p) i j h k)))
 
-  -- where c passes everywhere, the pass is one of b alone
-  pub pass-alone : ((i j : ℕ) → c i j ≡ Passed) → both ≡ pairsCheck b n
-  pass-alone h = pairs-agree (λ i j. b i j then c i j) b n (λ i j l k. then-none (b i j) (c i j) (h i j))
+-- a pass that asks for b and for no more than the least 0 is one of b alone
+pub pass-alone : (b : ℕ → ℕ → Check) (d : ℕ → ℕ → ℕ) (n : ℕ) → pairsCheck (λ i j. b i j then leastCheck 0 d i j) n ≡ pairsCheck b n
+pass-alone b d n =
+    pairs-agree (λ i j. b i j then leastCheck 0 d i j) b n (λ i j l k. then-none (b i j) (leastCheck 0 d i j) (rw (le-ltb (d i j) 0 (omega arith))))
