@@ -29,11 +29,11 @@ tableSaid s = storedTable (costFormAt s 0) (imagesSaid s) s
 abbrev pub usedIn : Edition → List ℕ → ℕ
 usedIn e s = costUsed (costForm e) (imagesSaid s)
 
--- 9, 1, 9, 11, 4, 17, 3: the reader's without 3, then those of the form that is asked for
+-- 9, 1, 9, 11, 4, 20, 17, 3: the reader's without 3, then those of the form that is asked for
 abbrev pub costChecks : Edition → List ℕ → ℕ → Check
 costChecks e s room = tableChecks (costFormAt s 0) s then storeChecks (costForm e) (imagesSaid s) (cost (tableSaid s) (imagesSaid s)) room
 
--- 9, 1, 9, 11, 4, 17 of the table that s begins with in a form, where no entry may be above the limit L
+-- 9, 1, 9, 11, 4, 20, 17 of the table that s begins with in a form, where no entry may be above the limit L
 abbrev pub entryChecks : Form → ℕ → List ℕ → Check
 entryChecks form L s = tableChecks form s then fitCheck L (cost (storedTable form (imagesOf form s) s) (imagesOf form s)) (imagesOf form s)
 

@@ -17,7 +17,7 @@ use Rattle.link_writer.specs.InOrder as links-written
 use Rattle.conversion.specs.Costs as costs
 use Rattle.conversion.specs.Links as links
 
--- 9, 1, 9, 11, 4, 17, 3
+-- 9, 1, 9, 11, 4, 20, 17, 3
 abbrev pub costSteps : Edition → List ℕ → ℕ → List Step
 costSteps e s room =
     costs-read.tableSteps (costFormAt s 0) s ++ costs-written.storeSteps (costForm e) (costs.imagesSaid s) (cost (tableSaid s) (costs.imagesSaid s)) room

@@ -45,7 +45,7 @@ fn check_again(form: Form, above: Refusal, bytes: &[u8]) -> Check
     })
 }
 
-// Refusals 9, 1, 9, 11, 4 and 17 of the table in front of the bytes. The lower of the two limits is asked first: where no entry is above it,
+// Refusals 9, 1, 9, 11, 4, 20 and 17 of the table in front of the bytes. The lower of the two limits is asked first: where no entry is above it,
 // neither 4 nor 17 is left, and every entry was looked at once.
 fn check_costs(form: Form, most: u32, bytes: &[u8]) -> Check
     requires { ⌜ (form .head ≤ 7) × (form .width ≤ 32) ⌝ }

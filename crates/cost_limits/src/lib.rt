@@ -47,7 +47,7 @@ fn check_fit(most: u32, n: usize, t: &[u32]) -> Check
     Check::Passed
 }
 
-// Refusals 1, 2, 4, 5 and 6 under a limit.
+// Refusals 1, 2, 4, 5, 6 and 20 under a limit.
 fn check_table(most: u32, n: usize, t: &[u32]) -> Check
     ensures { λ r. ⌜ r ≡ tableChecks most n (now (t .entry)) ⌝ }
 {
@@ -58,7 +58,7 @@ fn check_table(most: u32, n: usize, t: &[u32]) -> Check
     tables::check_costs(most, n, t)
 }
 
-// Refusals 1, 2, 4, 5, 6 and 17, one after the other.
+// Refusals 1, 2, 4, 5, 6, 20 and 17, one after the other.
 fn check_again(most: u32, n: usize, t: &[u32]) -> Check
     ensures { λ r. ⌜ r ≡ (tableChecks limit n (now (t .entry)) then fitCheck most (cost (now (t .entry)) n) n) ⌝ }
 {

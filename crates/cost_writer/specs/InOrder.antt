@@ -1,15 +1,15 @@
 -- The checks of the cost writer by their numbers. Assumes nothing.
 use mathlib.Core.List.{List, [], _++_, _∷_}
-use Prim.Native.Nat.{ℕ, _+_, _-_}
+use Prim.Native.Nat.{ℕ, _+_}
 use native.Mathlib.Omega.{arith}
 use lib.Dec.{ltb}
 use Rattle.ground.specs.InOrder.{InOrder}
-use Rattle.ground.specs.Laws.InOrder.{all-only, join-order, refuseIf-only, room-order, step-order}
-use Rattle.ground.specs.Lowest.{checkAll}
+use Rattle.ground.specs.Laws.InOrder.{join-order, refuseIf-only, room-order, step-order}
 use Rattle.ground.specs.Refusals.{refusal, roomCheck}
 use Rattle.ground.specs.Steps.{Step, _by_}
 use Rattle.theory.specs.Tables.{cost, limit}
 use Rattle.tables.specs.InOrder.{costs-order, costsSteps, size-order, sizeSteps}
+use Rattle.tables.specs.Laws.Pairs.{pairs-only}
 use Rattle.bits.specs.declared.Form.{Form}
 use Rattle.stored_costs.specs.Form.{costUsed}
 use Rattle.cost_limits.specs.Checks.{fitCheck, largeCheck}
@@ -23,11 +23,10 @@ pub store-order : (form : Form) (n : ℕ) (d : ℕ → ℕ → ℕ) (room : ℕ)
 store-order form n d room =
     let L = form .limit in
     join-order (step-order 17 (fitCheck L d n) (omega arith)
-    (all-only 17 (λ i. checkAll (largeCheck L d i) (i + 1) (n - (i + 1))) 0 n
-    (λ i. all-only 17 (largeCheck L d i) (i + 1) (n - (i + 1)) (λ j. refuseIf-only (ltb L (d i j)) (refusal 17 (i + 1) (j + 1) 0 0)))))
+    (pairs-only (largeCheck L d) n 17 (λ i j. refuseIf-only (ltb L (d i j)) (refusal 17 (i + 1) (j + 1) 0 0))))
     (room-order (costUsed form n) room)
 
--- 1, 2, 4, 5, 6, 17, 3
+-- 1, 2, 4, 5, 6, 20, 17, 3
 abbrev pub writeSteps : Form → ℕ → List ℕ → ℕ → List Step
 writeSteps form n t room = (sizeSteps n t ++ costsSteps limit (cost t n) n) ++ storeSteps form n (cost t n) room
 

@@ -8,6 +8,7 @@ use lib.Seq.{drop-at, take-at}
 use Rattle.ground.specs.declared.Check.the-variants.{Passed, Refused}
 use Rattle.ground.specs.declared.Refusal.{Refusal}
 use Rattle.ground.specs.declared.Written.the-variants.{Places}
+use Rattle.theory.specs.Laws.Limits.{table-wide}
 use Rattle.theory.specs.Tables.{CostTable, cost, limit}
 use Rattle.bits.specs.Bits.{AllBytes}
 use Rattle.bits.specs.Editions.{Marked, editionOf}
@@ -15,7 +16,6 @@ use Rattle.bits.specs.declared.Edition.{Edition}
 use Rattle.bits.specs.declared.Form.{Form}
 use Rattle.cost_writer.specs.Laws.Accepted.{passed-write}
 use Rattle.cost_writer.specs.Laws.Again.{read-again}
-use Rattle.cost_limits.specs.Laws.Fitting.{table-wide}
 use Rattle.cost_writer.specs.Writing.{writeChecks, writeOutcome}
 use Rattle.stored_costs.specs.Form.{costBytes, costForm, costFormAt, costUsed}
 use Rattle.stored_costs.specs.Said.{storedTable}

@@ -15,7 +15,7 @@ use Rattle.cost_limits.specs.Checks.{fitCheck, tableChecks}
 abbrev pub storeChecks : Form → ℕ → (ℕ → ℕ → ℕ) → ℕ → Check
 storeChecks form n d room = fitCheck (form .limit) d n then roomCheck (costUsed form n) room
 
--- 1, 2, 4, 5, 6, 17, 3
+-- 1, 2, 4, 5, 6, 20, 17, 3
 abbrev pub writeChecks : Form → ℕ → List ℕ → ℕ → Check
 writeChecks form n t room = tableChecks limit n t then storeChecks form n (cost t n) room
 

@@ -20,7 +20,7 @@ badFarSide n S = eqb S 0 || (eqb (bit S 0) 1 || leb (2 ^ n) S)
 abbrev pub farSideCheck : ℕ → ℕ → Check
 farSideCheck n S = refuseIf (badFarSide n S) (refusal 12 0 0 0 0)
 
--- 1, 2, 4, 5, 6, 12
+-- 1, 2, 4, 5, 6, 20, 12
 abbrev pub indexCheck : ℕ → ℕ → List ℕ → ℕ → Check
 indexCheck L n t S = sizeCheck n t then costsCheck L (cost t n) n then farSideCheck n S
 

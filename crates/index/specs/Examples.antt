@@ -1,7 +1,7 @@
--- Each end is reached, and settled examples; all are computed. Assumes nothing.
+-- The greatest and the least indices that are reached, and settled examples; all are computed. Assumes nothing.
 use mathlib.Core.List.{List, [], map, _∷_}
 use mathlib.Core.Path.{refl, _≡_}
-use Prim.Native.Nat.{ℕ, _*_}
+use Prim.Native.Nat.{ℕ, _*_, _-_}
 use lib.IntN.{negℤ, pos}
 use Rattle.ground.specs.Lowest.{checkAll}
 use Rattle.ground.specs.declared.SignedAnswer.{SignedAnswer}
@@ -14,19 +14,27 @@ use Rattle.index.specs.Call.{indexAnswer}
 abbrev answers : ℕ → List ℕ → List ℕ → List SignedAnswer
 answers n t l = map (indexAnswer limit n t) l
 
--- the upper end: images 2 and 3 cost nothing to each other and the limit to image 1
-pub top-reached : answers 3 (0 ∷ limit ∷ limit ∷ limit ∷ 0 ∷ 0 ∷ limit ∷ 0 ∷ 0 ∷ []) (6 ∷ []) ≡ Value (pos (2 * limit)) ∷ []
+-- the greatest: images 2 and 3 cost 1 to each other and the limit to image 1
+pub top-reached : answers 3 (0 ∷ limit ∷ limit ∷ limit ∷ 0 ∷ 1 ∷ limit ∷ 1 ∷ 0 ∷ []) (6 ∷ []) ≡ Value (pos (2 * limit - 1)) ∷ []
 unfolding index checkAll
 top-reached = refl
 
--- the lower end: images 1 and 2 cost the limit to each other, 3 and 4 too, and all else costs nothing
+-- the greatest of an inner division: images 1 and 2 cost 1 to each other, 3 and 4 too, and all else costs the limit
+pub inner-top-reached :
+    answers 4 (0 ∷ 1 ∷ limit ∷ limit ∷ 1 ∷ 0 ∷ limit ∷ limit ∷ limit ∷ limit ∷ 0 ∷ 1 ∷ limit ∷ limit ∷ 1 ∷ 0 ∷ []) (12 ∷ [])
+    ≡ Value (pos (2 * limit - 2)) ∷ []
+unfolding index checkAll
+inner-top-reached = refl
+
+-- the least: images 1 and 2 cost the limit to each other, 3 and 4 too, and all else costs 1
 pub bottom-reached :
-    answers 4 (0 ∷ limit ∷ 0 ∷ 0 ∷ limit ∷ 0 ∷ 0 ∷ 0 ∷ 0 ∷ 0 ∷ 0 ∷ limit ∷ 0 ∷ 0 ∷ limit ∷ 0 ∷ []) (12 ∷ []) ≡ Value (negℤ (pos (2 * limit))) ∷ []
+    answers 4 (0 ∷ limit ∷ 1 ∷ 1 ∷ limit ∷ 0 ∷ 1 ∷ 1 ∷ 1 ∷ 1 ∷ 0 ∷ limit ∷ 1 ∷ 1 ∷ limit ∷ 0 ∷ []) (12 ∷ [])
+    ≡ Value (negℤ (pos (2 * limit - 2))) ∷ []
 unfolding index checkAll
 bottom-reached = refl
 
--- the lower end of own links: images 2 and 3 cost the limit to each other and nothing to image 1
-pub own-bottom-reached : answers 3 (0 ∷ 0 ∷ 0 ∷ 0 ∷ 0 ∷ limit ∷ 0 ∷ limit ∷ 0 ∷ []) (6 ∷ []) ≡ Value (negℤ (pos limit)) ∷ []
+-- the least of an own link: images 2 and 3 cost the limit to each other and 1 to image 1
+pub own-bottom-reached : answers 3 (0 ∷ 1 ∷ 1 ∷ 1 ∷ 0 ∷ limit ∷ 1 ∷ limit ∷ 0 ∷ []) (6 ∷ []) ≡ Value (negℤ (pos (limit - 2))) ∷ []
 unfolding index checkAll
 own-bottom-reached = refl
 

@@ -10,7 +10,7 @@ use Rattle.theory.specs.Tables.{cost}
 use Rattle.tables.specs.InOrder.{costs-order, costsSteps, size-order, sizeSteps}
 use Rattle.index.specs.Call.{badFarSide, farSideCheck, indexCheck}
 
--- 1, 2, 4, 5, 6, 12
+-- 1, 2, 4, 5, 6, 20, 12
 abbrev pub indexSteps : ℕ → ℕ → List ℕ → ℕ → List Step
 indexSteps L n t S = sizeSteps n t ++ (costsSteps L (cost t n) n ++ (12 by farSideCheck n S ∷ []))
 

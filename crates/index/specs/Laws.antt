@@ -6,4 +6,5 @@ pub mod Grown
 pub mod Value
 pub mod AtZero
 pub mod Ends
+pub mod Nearest
 pub mod Moved

@@ -13,20 +13,23 @@ use Rattle.theory.specs.Index.{index}
 use Rattle.theory.specs.Tables.{cost}
 use Rattle.index.specs.AtZero.{AtZero}
 use Rattle.index.specs.Call.{IndexAsked, indexAnswer, indexCheck}
-use Rattle.index.specs.Ends.{Ends}
+use Rattle.index.specs.Ends.{Ends, Nearest}
 use Rattle.index.specs.IndexIs.{IndexIs}
 use Rattle.index.specs.Laws.AtZero.{at-zero}
 use Rattle.index.specs.Laws.Ends.{ends}
+use Rattle.index.specs.Laws.Nearest.{nearest}
 use Rattle.index.specs.Laws.Passed.{index-passed}
 use Rattle.index.specs.Laws.Value.{index-is}
 use Rattle.ground.specs.declared.SignedAnswer.the-variants as answer
 
--- an accepted answer: the table is a cost table, S is a far side, and v is its index; with that, what its sign says and where it ends
+-- an accepted answer: the table is a cost table, S is a far side, and v is its index; with that, what its sign says, where it ends and how near to
+-- its ends it comes
 pub record Answered (L n : ℕ) (t : List ℕ) (S : ℕ) (v : ℤ) : Type 0 where
   pub accepted : IndexAsked L n t S
   pub value : IndexIs (cost t n) n S v
   pub zero : AtZero L (cost t n) n S v
   pub ends : Ends L n S v
+  pub nearest : Nearest L n S v
 
 pub index-answered : (L n : ℕ) (t : List ℕ) (S : ℕ) (v : ℤ) → indexAnswer L n t S ≡ Value v → Answered L n t S v
 index-answered L n t S v e =
@@ -39,6 +42,7 @@ index-answered L n t S v e =
       value = index-is L (cost t n) n (a .table .formed) S (a .side);
       zero = at-zero L (cost t n) n (a .table .formed) S (a .side);
       ends = ends L (cost t n) n (a .table .formed) S (a .side);
+      nearest = nearest L (cost t n) n (a .table .some) (a .table .formed) S (a .side);
     })
 
 -- every cost table and every far side is answered

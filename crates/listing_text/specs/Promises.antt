@@ -11,6 +11,7 @@ use Rattle.ground.specs.declared.Check.{Check}
 use Rattle.ground.specs.declared.Check.the-variants.{Passed, Refused}
 use Rattle.ground.specs.declared.Refusal.{Refusal}
 use Rattle.ground.specs.Laws.Refusals.{then-passed}
+use Rattle.theory.specs.Laws.Limits.{table-wide}
 use Rattle.theory.specs.LinkTables.{Row}
 use Rattle.theory.specs.Readings.{Exact}
 use Rattle.theory.specs.Tables.{CostTable, cost, limit, oldLimit}
@@ -120,16 +121,7 @@ pub listing-stored : (which : Last) (e : Edition) (n : ℕ) (t b : List ℕ) →
 unfolding listingText
 listing-stored which = stored-said (textWith which)
 
--- the new form holds what the old one does
-table-wide : (n : ℕ) (t : List ℕ) → CostTable oldLimit n t → CostTable limit n t
-table-wide n t c = record {
-  some = c .some;
-  few = c .few;
-  sized = c .sized;
-  formed = record { small = λ p q. omega (arith, c .formed .small p q); self = λ p. c .formed .self p; same = λ p q. c .formed .same p q };
-}
-
--- so a table that both forms hold has one listing, in whichever it is stored
+-- the new form holds what the old one does, so a table that both forms hold has one listing, in whichever it is stored
 pub either-form-same : (which : Last) (n : ℕ) (t a b : List ℕ) → CostTable oldLimit n t
     → listingText which (costBytes oldCosts n (cost t n) ++ a) ≡ listingText which (costBytes newCosts n (cost t n) ++ b)
-either-form-same which n t a b c = listing-stored which Old n t a c ∙ sym (listing-stored which New n t b (table-wide n t c))
+either-form-same which n t a b c = listing-stored which Old n t a c ∙ sym (listing-stored which New n t b (table-wide oldLimit limit n t (omega arith) c))

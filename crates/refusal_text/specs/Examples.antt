@@ -6,7 +6,7 @@ use Rattle.text.specs.Words.{bytesOf}
 use Rattle.phrases.specs.Said.{sayingText}
 use Rattle.sayings.specs.Said.{saidOf}
 use Rattle.phrases.specs.Saying.{sayingIn}
-use Rattle.sayings.specs.Sayings.{sayings, sayingsFrom12, sayingsFrom16, sayingsFrom4, sayingsFrom8}
+use Rattle.sayings.specs.Sayings.{sayings, sayingsFrom12, sayingsFrom16, sayingsFrom20, sayingsFrom4, sayingsFrom8}
 use Rattle.refusal_text.specs.Text.{aboutTable, refusalText}
 
 -- 0 names neither table nor places
@@ -50,9 +50,17 @@ unfolding refusalText aboutTable saidOf sayingText sayingIn sayings sayingsFrom4
 outside-profile = refl
 
 pub out-of-order : refusalText 22 0 10 0 0 0 ≡ bytesOf "siblings out of order: byte 10"
-unfolding refusalText aboutTable saidOf sayingText sayingIn sayings sayingsFrom4 sayingsFrom8 sayingsFrom12 sayingsFrom16 bytesOf fields field decimal digits
+unfolding refusalText aboutTable saidOf sayingText sayingIn sayings sayingsFrom4 sayingsFrom8 sayingsFrom12 sayingsFrom16 sayingsFrom20 bytesOf fields field
+    decimal digits
 out-of-order = refl
 
+-- 20 of the second table of two
+pub off-diagonal : refusalText 20 2 3 12 0 0 ≡ bytesOf "table 2: zero off the diagonal: row and column 3 12"
+unfolding refusalText aboutTable saidOf sayingText sayingIn sayings sayingsFrom4 sayingsFrom8 sayingsFrom12 sayingsFrom16 sayingsFrom20 bytesOf fields field
+    decimal digits
+off-diagonal = refl
+
 pub no-such : refusalText 99 0 1 2 3 4 ≡ bytesOf "no such refusal: number 99"
-unfolding refusalText aboutTable saidOf sayingText sayingIn sayings sayingsFrom4 sayingsFrom8 sayingsFrom12 sayingsFrom16 bytesOf fields field decimal digits
+unfolding refusalText aboutTable saidOf sayingText sayingIn sayings sayingsFrom4 sayingsFrom8 sayingsFrom12 sayingsFrom16 sayingsFrom20 bytesOf fields field
+    decimal digits
 no-such = refl

@@ -1,9 +1,12 @@
 -- What is said of each refusal: words, and behind them its places. Each list goes on with the next, so that the code can part them too. A refusal
--- more is one line more in sayingsFrom16. Assumes nothing.
+-- more is one more in sayingsFrom20. Assumes nothing.
 use mathlib.Core.List.{List, [], _∷_}
 use Prim.Native.Nat.{ℕ}
 use Rattle.phrases.specs.Saying.{Saying, says}
 use Rattle.phrases.specs.ByPlace.{aboveOld, badRow}
+
+unfoldable pub sayingsFrom20 : ℕ → ℕ → List Saying
+sayingsFrom20 a b = says 20 "zero off the diagonal: row and column" (a ∷ b ∷ []) ∷ says 22 "siblings out of order: byte" (a ∷ []) ∷ []
 
 unfoldable pub sayingsFrom16 : ℕ → ℕ → List Saying
 sayingsFrom16 a b =
@@ -11,8 +14,7 @@ sayingsFrom16 a b =
     ∷ aboveOld a b
     ∷ says 18 "outside the Newick profile: byte" (a ∷ [])
     ∷ says 19 "more than 1,024 far sides in one report" []
-    ∷ says 22 "siblings out of order: byte" (a ∷ [])
-    ∷ []
+    ∷ sayingsFrom20 a b
 
 unfoldable pub sayingsFrom12 : ℕ → ℕ → List Saying
 sayingsFrom12 a b =

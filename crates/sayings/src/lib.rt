@@ -6,7 +6,19 @@ ghost use Rattle.text.specs.Putting.{Put};
 ghost use Rattle.phrases.specs.Said.{sayingText};
 ghost use Rattle.sayings.specs.Said.{saidOf};
 ghost use Rattle.phrases.specs.Saying.{sayingIn};
-ghost use Rattle.sayings.specs.Sayings.{sayingsFrom12, sayingsFrom16, sayingsFrom4, sayingsFrom8};
+ghost use Rattle.sayings.specs.Sayings.{sayingsFrom12, sayingsFrom16, sayingsFrom20, sayingsFrom4, sayingsFrom8};
+
+// What is said of a refusal from 20 on, and of a number that no refusal has.
+fn put_from_20(out: &mut [u8], at: usize, number: usize, a: usize, b: usize) -> usize
+    requires { ⌜ at + 163 ≤ length (now out) ⌝ }
+    ensures { λ r. ⌜ Put (sayingText (sayingIn number (sayingsFrom20 a b))) at (now (out .entry)) r (now (out .exit)) ⌝ }
+{
+    match number {
+        20 => phrases::put_two(out, at, b"zero off the diagonal: row and column", a, b),
+        22 => phrases::put_one(out, at, b"siblings out of order: byte", a),
+        _ => phrases::put_one(out, at, b"no such refusal: number", number),
+    }
+}
 
 // What is said of a refusal from 16 on, and of a number that no refusal has.
 fn put_from_16(out: &mut [u8], at: usize, number: usize, a: usize, b: usize) -> usize
@@ -18,8 +30,7 @@ fn put_from_16(out: &mut [u8], at: usize, number: usize, a: usize, b: usize) -> 
         17 => phrases::put_above_old(out, at, a, b),
         18 => phrases::put_one(out, at, b"outside the Newick profile: byte", a),
         19 => text::put_word(out, at, b"more than 1,024 far sides in one report"),
-        22 => phrases::put_one(out, at, b"siblings out of order: byte", a),
-        _ => phrases::put_one(out, at, b"no such refusal: number", number),
+        _ => put_from_20(out, at, number, a, b),
     }
 }
 

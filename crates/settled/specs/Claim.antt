@@ -9,8 +9,7 @@ use Rattle.ground.specs.Filters.{Each}
 use Rattle.ground.specs.Laws.Filters.{each-cons, each-nil}
 use Rattle.ground.specs.Least.{leastOn}
 use Rattle.ground.specs.Lowest.{checkAll}
-use Rattle.ground.specs.Refusals.{refusal, _then_}
-use Rattle.ground.specs.declared.Check.{Check}
+use Rattle.ground.specs.Refusals.{refusal}
 use Rattle.ground.specs.declared.Check.the-variants.{Passed, Refused}
 use Rattle.theory.specs.Demands.{exact-reading}
 use Rattle.theory.specs.FourPoint.{failing}
@@ -19,23 +18,18 @@ use Rattle.theory.specs.LinkTables.{Row, fars}
 use Rattle.theory.specs.Order.{closed, grow, next}
 use Rattle.theory.specs.Readings.{Exact}
 use Rattle.theory.specs.Tables.{CostTable, limit}
-use Rattle.tables.specs.Checks.{costsCheck, sizeCheck}
 use Rattle.tables.specs.Laws.Formed.{cost-table}
 use Rattle.counts.specs.Differ.{differ}
 use Rattle.settled.specs.Examples.{exampleA, exampleB, exampleC, exampleD, exampleE, exampleEG, exampleF, exampleG, exampleH, orderH, settled}
-use Rattle.settled.specs.Settled.{Holds, Settled, compared, ordered, reads, refused, around, rowsRead}
+use Rattle.settled.specs.Settled.{Holds, Settled, around, compared, ordered, reads, refused, rowsRead, tableChecks, untimed}
 use Rattle.settled.specs.Triangles.{square, table}
 use Rattle.wiring.specs.Check.{wiringCheck}
 
--- the checks 1, 2, 4, 5, 6
-abbrev checks : ℕ → List ℕ → Check
-checks n t = sizeCheck n (square n t) then costsCheck limit (table n t) n
-
-is-table : (n : ℕ) (t : List ℕ) → checks n t ≡ Passed → CostTable limit n (square n t)
+is-table : (n : ℕ) (t : List ℕ) → tableChecks n t ≡ Passed → CostTable limit n (square n t)
 is-table n t e = cost-table limit n (square n t) .0 e
 
 -- rows of a table in which no four images fail are its exact reading
-is-exact : (n : ℕ) (t : List ℕ) (T : List Row) → checks n t ≡ Passed → failing (table n t) n ≡ [] → rowsRead n t ≡ T → Exact limit (table n t) n T
+is-exact : (n : ℕ) (t : List ℕ) (T : List Row) → tableChecks n t ≡ Passed → failing (table n t) n ≡ [] → rowsRead n t ≡ T → Exact limit (table n t) n T
 is-exact n t T e f m =
     let c = is-table n t e in
     let x = exact-reading limit (table n t) n (omega (arith, c .some)) (c .formed) in
@@ -43,19 +37,21 @@ is-exact n t T e f m =
 
 -- what is computed of an example, and that it is enough
 abbrev Accepted : ℕ → List ℕ → Type 0
-Accepted n t = (checks n t ≡ Passed) × (failing (table n t) n ≡ [])
+Accepted n t = (tableChecks n t ≡ Passed) × (failing (table n t) n ≡ [])
 
 abbrev Computed : Settled → Type 0
 Computed (reads n t T) = Accepted n t × (rowsRead n t ≡ T)
 Computed (refused n t i j k l T) =
-    (checks n t ≡ Passed) × (wiringCheck (table n t) n ≡ Refused (refusal 7 i j k l)) × (rowsRead n t ≡ T)
+    (tableChecks n t ≡ Passed) × (wiringCheck (table n t) n ≡ Refused (refusal 7 i j k l)) × (rowsRead n t ≡ T)
+Computed (untimed n t i j) = tableChecks n t ≡ Refused (refusal 20 i j 0 0)
 Computed (ordered n t first last l s) =
-    (checks n t ≡ Passed) × (map suc (around n t first last) ≡ l) × (closed (table n t) (around n t first last) ≡ s)
+    (tableChecks n t ≡ Passed) × (map suc (around n t first last) ≡ l) × (closed (table n t) (around n t first last) ≡ s)
 Computed (compared n t u x) = Accepted n t × Accepted n u × (differ n (fars (rowsRead n t)) (fars (rowsRead n u)) ≡ x)
 
 computed : (x : Settled) → Computed x → Holds x
 computed (reads n t T) p = (is-table n t (p .0 .0), is-exact n t T (p .0 .0) (p .0 .1) (p .1), p .1)
 computed (refused n t i j k l T) p = (is-table n t (p .0), p .1, p .2)
+computed (untimed n t i j) p = p
 computed (ordered n t first last l s) p = (is-table n t (p .0), p .1, p .2)
 computed (compared n t u x) p = (is-exact n t _ (p .0 .0) (p .0 .1) refl, is-exact n u _ (p .1 .0) (p .1 .1) refl, p .2)
 
@@ -63,7 +59,7 @@ pub claim : Each settled Holds
 unfolding checkAll shifted leastOn ones onesIn next grow
 claim =
     each-cons Holds exampleA _ (computed exampleA ((refl, refl), refl))
-    (each-cons Holds exampleB _ (computed exampleB ((refl, refl), refl))
+    (each-cons Holds exampleB _ (computed exampleB refl)
     (each-cons Holds exampleC _ (computed exampleC (refl, refl, refl))
     (each-cons Holds exampleD _ (computed exampleD ((refl, refl), refl))
     (each-cons Holds exampleE _ (computed exampleE ((refl, refl), refl))

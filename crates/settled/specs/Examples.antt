@@ -1,8 +1,8 @@
 -- The settled examples of document 01, A to H, upper triangles in stored order. A row is a far side and its doubled cost. What the count of
--- E against G is set over is document 02's.
+-- E against G is set over is document 02's, and so is what is said of B.
 use mathlib.Core.List.{List, [], _∷_}
 use Prim.Native.Nat.{ℕ}
-use Rattle.settled.specs.Settled.{Settled, compared, ordered, reads, refused}
+use Rattle.settled.specs.Settled.{Settled, compared, ordered, reads, refused, untimed}
 
 abbrev pub triangleE : List ℕ
 triangleE = 2 ∷ 4 ∷ 4 ∷ 4 ∷ 4 ∷ 2 ∷ []
@@ -17,7 +17,7 @@ abbrev pub exampleA : Settled
 exampleA = reads 3 (1 ∷ 1 ∷ 1 ∷ []) ((2, 1) ∷ (4, 1) ∷ (6, 1) ∷ [])
 
 abbrev pub exampleB : Settled
-exampleB = reads 3 (0 ∷ 0 ∷ 0 ∷ []) ((2, 0) ∷ (4, 0) ∷ (6, 0) ∷ [])
+exampleB = untimed 3 (0 ∷ 0 ∷ 0 ∷ []) 1 2
 
 abbrev pub exampleC : Settled
 exampleC = refused 3 (1 ∷ 1 ∷ 3 ∷ []) 1 1 2 3 ((2, 2) ∷ (4, 2) ∷ (6, 0) ∷ [])

@@ -41,6 +41,8 @@ pub mod Runs
 pub mod Contained
 pub mod Routes
 pub mod Comparison
+-- Cost tables under a higher limit.
+pub mod Limits
 -- Checks and outcomes that several calls share.
 pub mod Checks
 pub mod InOrder

@@ -48,7 +48,7 @@ fitting e s b h =
       some = c .some;
       few = c .few;
       sized = c .sized;
-      formed = record { small = λ {i} {j} hi hj. h i j hi hj; self = c .formed .self; same = c .formed .same };
+      formed = record { small = λ {i} {j} hi hj. h i j hi hj; self = c .formed .self; same = c .formed .same; nonzero = c .formed .nonzero };
     }
 
 module _ (e : Edition) (s out : List ℕ) where

@@ -9,13 +9,13 @@ use borrow.Author.Tests.{ltb-false, ltb-true}
 use borrow.Table.Steps.{cases}
 use Rattle.ground.specs.Lowest.{checkAll}
 use Rattle.ground.specs.Refusals.{refusal, refuseIf, _then_}
-use Rattle.ground.specs.Laws.Refusals.{then-passed}
+use Rattle.ground.specs.Laws.Refusals.{then-none, then-passed}
 use Rattle.ground.specs.declared.Check.{Check}
 use Rattle.ground.specs.declared.Check.the-variants.{Passed, Refused}
 use Rattle.ground.specs.declared.Refusal.{Refusal}
 use Rattle.theory.specs.Tables.{cost}
 use Rattle.theory.specs.Checks.{imagesCheck}
-use Rattle.tables.specs.Checks.{entryCheck}
+use Rattle.tables.specs.Checks.{entryCheck, offDiagonalCheck}
 use Rattle.bits.specs.Forms.{bytesFor}
 use Rattle.bits.specs.Kinds.{endCheck}
 use Rattle.bits.specs.declared.Form.{Form}
@@ -23,7 +23,7 @@ use Rattle.stored_costs.specs.Entries.{entryCost, tableOf}
 use Rattle.stored_costs.specs.Said.{entryOf, fillOf, imagesOf, storedTable}
 use Rattle.stored_costs.specs.Laws.Enough.{readable-table, table-readable}
 use Rattle.stored_costs.specs.Laws.Tables.{table-cost, table-formed}
-use Rattle.stored_costs.specs.Reading.{bodyChecks, storedCheck, tableChecks}
+use Rattle.stored_costs.specs.Reading.{bodyChecks, storedCheck, tableChecks, valuesCheck}
 use Rattle.cost_limits.specs.Laws.Fitting.{passed-fit}
 use Rattle.cost_limits.specs.Checks.{fitCheck, largeCheck}
 use Rattle.conversion.specs.Costs.{entryChecks}
@@ -75,8 +75,9 @@ stricter-passed form L s e =
       whole = r .whole;
       clear = r .clear;
       fine = λ i j h k. omega (arith, r .fine i j h k);
+      nonzero = r .nonzero;
     }) in
-    let c = table-formed (entryOf form s) n (min (form .limit) L) (r .some) (r .few) (r .fine) in
+    let c = table-formed (entryOf form s) n (min (form .limit) L) (r .some) (r .few) (r .fine) (r .nonzero) in
     rw p (passed-fit L (cost (storedTable form n s) n) n (λ i j hi hj. omega (arith, c .formed .small {i = i} {j = j} hi hj)))
 
 passed-refused : {c : Check} {r : Refusal} → c ≡ Passed → c ≡ Refused r → ⊥
@@ -89,18 +90,20 @@ unfolding imagesOf entryOf fillOf
 stricter-refused form L s r e p =
     let n = imagesOf form s in
     let f = entryOf form s in
-    let four = storedCheck (form .limit) (entryCost f n) n in
-    let a = then-passed (endCheck s (bytesFor (form .head + 7))) (imagesCheck n then bodyChecks form n s then four) p in
-    let b = then-passed (imagesCheck n) (bodyChecks form n s then four) (a .1) in
-    let c = then-passed (bodyChecks form n s) four (b .1) in
-    let under : storedCheck (min (form .limit) L) (entryCost f n) n ≡ Refused r = rw (a .0, b .0, c .0) at e in
+    let values = valuesCheck (form .limit) (entryCost f n) n in
+    let a = then-passed (endCheck s (bytesFor (form .head + 7))) (imagesCheck n then bodyChecks form n s then values) p in
+    let b = then-passed (imagesCheck n) (bodyChecks form n s then values) (a .1) in
+    let c = then-passed (bodyChecks form n s) values (b .1) in
+    let v = then-passed (storedCheck (form .limit) (entryCost f n) n) (offDiagonalCheck (entryCost f n) n) (c .1) in
+    let lower = storedCheck (min (form .limit) L) (entryCost f n) n in
+    let under : lower ≡ Refused r = sym (then-none lower (offDiagonalCheck (entryCost f n) n) (v .1)) ∙ (rw (a .0, b .0, c .0) at e) in
     cases (ltb L (form .limit))
     (λ h.
     let m : min (form .limit) L ≡ L = omega (arith, ltb-true L (form .limit) h) in
     rw p (fit-renumbered L f n ∙ ap renumbered (ap (λ (x : ℕ). storedCheck x (entryCost f n) n) (sym m) ∙ under)))
     (λ h.
     let m : min (form .limit) L ≡ form .limit = omega (arith, ltb-false L (form .limit) h) in
-    absurd (passed-refused (c .1) (ap (λ (x : ℕ). storedCheck x (entryCost f n) n) (sym m) ∙ under)))
+    absurd (passed-refused (v .0) (ap (λ (x : ℕ). storedCheck x (entryCost f n) n) (sym m) ∙ under)))
 
 -- so, where the lower limit refused: what the form's own refuses, and else 17
 pub stricter-again : (form : Form) (L : ℕ) (s : List ℕ) (r : Refusal) → tableChecks (stricter form L) s ≡ Refused r

@@ -2,50 +2,36 @@
 use mathlib.Core.Bool.{false}
 use mathlib.Core.List.{List}
 use mathlib.Core.Path.{ap, sym, _∙_, _≡_}
-use Prim.Native.Nat.{ℕ, _+_, _-_, _<_, _≤_}
+use Prim.Native.Nat.{ℕ, _<_, _≤_}
 use native.Mathlib.Omega.{arith}
 use lib.Dec.{eqb, ltb}
 use borrow.Author.Tests.{eqb-false, eqb-true, le-ltb, ltb-false, ltb-true}
 use borrow.Table.Steps.{cases}
-use Rattle.ground.specs.Lowest.{checkAll}
-use Rattle.ground.specs.Laws.Lowest.{all-passed, passed-all}
 use Rattle.ground.specs.Refusals.{_then_}
 use Rattle.ground.specs.Laws.Refusals.{refuseIf-passed}
 use Rattle.ground.specs.declared.Check.the-variants.{Passed}
 use Rattle.theory.specs.Tables.{CostTable, cost, limit}
+use Rattle.theory.specs.Laws.Limits.{table-wide}
 use Rattle.tables.specs.Laws.Formed.{cost-table}
+use Rattle.tables.specs.Laws.Pairs.{pairs-passed, passed-pairs}
 use Rattle.cost_limits.specs.Checks.{fitCheck, largeCheck, tableChecks}
 
 module _ (L : ℕ) (d : ℕ → ℕ → ℕ) (n : ℕ) where
   fit-passed : fitCheck L d n ≡ Passed → (i j : ℕ) → i < j → j < n → d i j ≤ L
   fit-passed e i j h k =
-      let r = all-passed (λ i. checkAll (largeCheck L d i) (i + 1) (n - (i + 1))) 0 n e i (omega arith) (omega arith) in
-      let m = all-passed (largeCheck L d i) (i + 1) (n - (i + 1)) r j (omega arith) (omega arith) in
-      ltb-false L (d i j) (refuseIf-passed (ltb L (d i j)) _ m)
+      ltb-false L (d i j) (refuseIf-passed (ltb L (d i j)) _ (pairs-passed (largeCheck L d) n e i j h k))
 
   pub passed-fit : ((i j : ℕ) → i < n → j < n → d i j ≤ L) → fitCheck L d n ≡ Passed
-  passed-fit h =
-      passed-all (λ i. checkAll (largeCheck L d i) (i + 1) (n - (i + 1))) 0 n
-      (λ i l u. passed-all (largeCheck L d i) (i + 1) (n - (i + 1)) (λ j m v. rw (le-ltb L (d i j) (h i j (omega arith) (omega arith)))))
+  passed-fit h = passed-pairs (largeCheck L d) n (λ i j l k. rw (le-ltb L (d i j) (h i j (omega arith) (omega arith))))
 
 module _ (L M n : ℕ) (t : List ℕ) where
-  -- a lower limit allows no more tables
-  pub table-wide : L ≤ M → CostTable L n t → CostTable M n t
-  table-wide h c = record {
-    some = c .some;
-    few = c .few;
-    sized = c .sized;
-    formed =
-        record { small = λ {i} {j} hi hj. omega (arith, c .formed .small {i = i} {j = j} hi hj); self = c .formed .self; same = c .formed .same };
-  }
-
-  -- and allows those whose entries right of the diagonal are within it
+  -- a limit allows the tables whose entries right of the diagonal are within it
   pub table-narrow : CostTable M n t → fitCheck L (cost t n) n ≡ Passed → CostTable L n t
   table-narrow c e = record {
     some = c .some;
     few = c .few;
     sized = c .sized;
-    formed = record { small = λ {i} {j} hi hj. small i j hi hj; self = c .formed .self; same = c .formed .same };
+    formed = record { small = λ {i} {j} hi hj. small i j hi hj; self = c .formed .self; same = c .formed .same; nonzero = c .formed .nonzero };
   }
     where
       small : (i j : ℕ) → i < n → j < n → cost t n i j ≤ L

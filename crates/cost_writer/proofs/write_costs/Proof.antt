@@ -17,7 +17,7 @@ use Rattle.cost_writer.proofs.write_costs.Tie as tie
 abbrev begun : tie.After-check-costs → tie.Start
 begun k = k .before .before .before .before
 
--- 1, 2, 4, 5, 6; and 17, of the form that is asked for
+-- 1, 2, 4, 5, 6, 20; and 17, of the form that is asked for
 abbrev tabled : tie.Start → Check
 tabled s = tableChecks limit (s .args .n) (s .args .t .now)
 

@@ -13,10 +13,11 @@ use Rattle.ground.specs.declared.Check.the-variants.{Passed, Refused}
 use Rattle.ground.specs.declared.Refusal.{Refusal}
 use Rattle.ground.specs.declared.Written.{Written}
 use Rattle.ground.specs.declared.Written.the-variants as written
+use Rattle.theory.specs.Laws.Limits.{table-wide}
 use Rattle.theory.specs.Tables.{CostTable, cost, limit}
 use Rattle.tables.specs.Checks.{costsCheck, sizeCheck}
 use Rattle.tables.specs.Laws.Formed.{cost-table}
-use Rattle.cost_limits.specs.Laws.Fitting.{passed-fit, table-narrow, table-wide}
+use Rattle.cost_limits.specs.Laws.Fitting.{passed-fit, table-narrow}
 use Rattle.cost_limits.specs.Checks.{fitCheck, tableChecks}
 use Rattle.cost_writer.specs.Writing.{storeChecks, storedIf, writeChecks}
 use Rattle.stored_costs.specs.Form.{costUsed}

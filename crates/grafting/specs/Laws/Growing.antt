@@ -100,7 +100,7 @@ module _ (d : ℕ → ℕ → ℕ) (l : List ℕ) where
           ascends = t .ascends;
           for-far = omega (arith, room, t .far-room);
           for-cost = omega (arith, room, t .cost-room);
-          spent = omega (arith, ap allCosts (t .rows), ap allCosts (g .rows), costly-total (pathTo e o p), total e o n p formed);
+          spent = omega (arith, ap allCosts (t .rows), ap allCosts (g .rows), costly-total (pathTo e o p), total e o n p small);
         }
           where
             room : count + m ≤ n + 2 * p
@@ -108,12 +108,8 @@ module _ (d : ℕ → ℕ → ℕ) (l : List ℕ) where
                 let a = sym (rowsIn-length f v count) ∙ ap length (t .rows) in
                 omega (arith, a, sym (rowsIn-length s w m) ∙ ap length (g .rows), few e o n p (omega arith))
 
-            formed : WellFormed limit e (suc p)
-            formed = record {
-              small = λ i j. c .small (u .range (omega arith)) (u .range (omega arith));
-              self = λ i. c .self (u .range (omega arith));
-              same = λ i j. c .same (u .range (omega arith)) (u .range (omega arith));
-            }
+            small : (i j : ℕ) → i ≤ p → j ≤ p → e i j ≤ limit
+            small i j hi hj = c .small (u .range (omega arith)) (u .range (omega arith))
 
     module _ (n count : ℕ) (f v : List ℕ) (t : TableHeld d l n p count f v) (r : ℕ) (f′ v′ : List ℕ) where
       closed-path : (h : ℕ) → costly (closed h (rowsIn s w m)) ≡ costly (closed h (pathTo e o p))

@@ -55,17 +55,12 @@ module _ (e : ℕ → ℕ → ℕ) (o : ℕ → ℕ) where
         ∙ length-append (costly (kept a b P)) (costly last) in
         omega (arith, ap length (table-more p), putAll-length (costly (closed a P)) (tableTo e o n p), c, cut-few a b P, few p h, costly-few last)
 
-    pub total : (p : ℕ) → WellFormed limit e (suc p) → allCosts (tableTo e o n p) + allCosts (pathTo e o p) ≤ 2 * limit * p
-    total zero c = rw (table-none, path-none) (omega (arith, own-free n))
-    total (suc p) c =
+    pub total : (p : ℕ) → ((i j : ℕ) → i ≤ p → j ≤ p → e i j ≤ limit) → allCosts (tableTo e o n p) + allCosts (pathTo e o p) ≤ 2 * limit * p
+    total zero h = rw (table-none, path-none) (omega (arith, own-free n))
+    total (suc p) h =
         let P = pathTo e o p in
         let a = height e p (suc p) in
         let b = 2 ^ o (suc p) in
-        let fewer : WellFormed limit e (suc p) = record {
-          small = λ i j. c .small (omega arith) (omega arith);
-          self = λ i. c .self (omega arith);
-          same = λ i j. c .same (omega arith) (omega arith);
-        } in
         let x = ap allCosts (table-more p) ∙ putAll-total (costly (closed a P)) (tableTo e o n p) in
         let y = ap allCosts (path-more p) ∙ sum-append (λ r. r .1) (kept a b P) ((b, ownCost e p) ∷ []) in
         omega (
@@ -74,9 +69,9 @@ module _ (e : ℕ → ℕ → ℕ) (o : ℕ → ℕ) where
           y,
           costly-total (closed a P),
           cut-total a b P,
-          total p fewer,
-          c .small {i = 0} {j = suc p} (omega arith) (omega arith),
-          c .small {i = p} {j = suc p} (omega arith) (omega arith),
+          total p (λ i j hi hj. h i j (omega arith) (omega arith)),
+          h 0 (suc p) (omega arith) (omega arith),
+          h p (suc p) (omega arith) (omega arith),
         )
 
   pub path-length : (p : ℕ) → length (pathTo e o p) ≡ p

@@ -7,6 +7,7 @@ use lib.Dec.{eqb}
 use borrow.Author.Tests.{eqb-false, eqb-true}
 use borrow.Table.Steps.{cases}
 use Rattle.ground.specs.Bits.{bit}
+use Rattle.ground.specs.Laws.Bits.{bit-some}
 
 pub ones-none : ones 0 ≡ 0
 unfolding ones lib.Count.onesIn
@@ -51,6 +52,54 @@ pub ones-all : (k x : ℕ) → x < 2 ^ k → ones x ≡ k → x + 1 ≡ 2 ^ k
 ones-all zero x b e = omega arith
 ones-all (suc k) x b e =
     omega (arith, ones-step x, ones-le k (x / 2) (omega arith), ones-all k (x / 2) (omega arith) (omega (arith, ones-step x, ones-le k (x / 2) (omega arith))))
+
+-- two places that have the same bit, the first below the second
+pub record TwoOf (k x v : ℕ) : Type 0 where
+  pub first : ℕ
+  pub second : ℕ
+  pub apart : first < second
+  pub within : second < k
+  pub at-first : bit x first ≡ v
+  pub at-second : bit x second ≡ v
+
+-- those of x / 2 are one place further in x
+two-on : (k x v : ℕ) → TwoOf k (x / 2) v → TwoOf (suc k) x v
+two-on k x v r = record {
+  first = suc (r .first);
+  second = suc (r .second);
+  apart = omega (arith, r .apart);
+  within = omega (arith, r .within);
+  at-first = r .at-first;
+  at-second = r .at-second;
+}
+
+two-now : (k x v j : ℕ) → x % 2 ≡ v → j < k → bit (x / 2) j ≡ v → TwoOf (suc k) x v
+two-now k x v j e h f =
+    record { first = 0; second = suc j; apart = omega arith; within = omega arith; at-first = e; at-second = f }
+
+one-in : (k x : ℕ) → x < 2 ^ k → 1 ≤ ones x → (i : ℕ) × (i < k) × (bit x i ≡ 1)
+one-in k x b h = bit-some k x (cases (eqb x 0) (λ e. absurd (omega (arith, ap ones (eqb-true x 0 e), ones-none))) (λ e. omega (arith, eqb-false x 0 e))) b
+
+one-out : (k x : ℕ) → x < 2 ^ k → ones x + 1 ≤ k → (i : ℕ) × (i < k) × (bit x i ≡ 0)
+one-out zero x b h = absurd (omega arith)
+one-out (suc k) x b h =
+    cases (eqb (x % 2) 0) (λ e. (0, omega arith, eqb-true (x % 2) 0 e))
+    (λ e. let r = one-out k (x / 2) (omega arith) (omega (arith, ones-step x, eqb-false (x % 2) 0 e)) in (suc (r .0), omega arith, r .2))
+
+pub two-in : (k x : ℕ) → x < 2 ^ k → 2 ≤ ones x → TwoOf k x 1
+two-in zero x b h = absurd (omega (arith, ones-le 0 x b))
+two-in (suc k) x b h =
+    cases (eqb (x % 2) 1)
+    (λ e. let r = one-in k (x / 2) (omega arith) (omega (arith, ones-step x)) in two-now k x 1 (r .0) (eqb-true (x % 2) 1 e) (r .1) (r .2))
+    (λ e. two-on k x 1 (two-in k (x / 2) (omega arith) (omega (arith, ones-step x, eqb-false (x % 2) 1 e))))
+
+pub two-out : (k x : ℕ) → x < 2 ^ k → ones x + 2 ≤ k → TwoOf k x 0
+two-out zero x b h = absurd (omega arith)
+two-out (suc k) x b h =
+    cases (eqb (x % 2) 0)
+    (λ e. let z = eqb-true (x % 2) 0 e in
+    let r = one-out k (x / 2) (omega arith) (omega (arith, ones-step x)) in two-now k x 0 (r .0) z (r .1) (r .2))
+    (λ e. two-on k x 0 (two-out k (x / 2) (omega arith) (omega (arith, ones-step x, eqb-false (x % 2) 0 e))))
 
 -- one bit more
 pub ones-pow : (k x : ℕ) → x < 2 ^ k → ones (2 ^ k + x) ≡ ones x + 1

@@ -15,13 +15,15 @@ use Rattle.ground.specs.Least.{On}
 use Rattle.ground.specs.Laws.Ones.{ones-in-two, ones-out-two}
 use Rattle.ground.specs.Laws.Signed.{below-zero, le-signed}
 use Rattle.ground.specs.Laws.Tests.{and-l, and-r}
+use Rattle.theory.specs.Choices.{Choice, inside}
 use Rattle.theory.specs.FarSides.{FarSide, inner}
-use Rattle.theory.specs.Index.{gain, index, shifted}
-use Rattle.theory.specs.Laws.Index.{le-shifted, shifted-cap}
+use Rattle.theory.specs.Index.{index, shifted}
+use Rattle.theory.specs.Laws.Index.{shifted-cap}
 use Rattle.theory.specs.Laws.OwnLinks.{not-inner-ones}
 use Rattle.theory.specs.Laws.SignedIndex.{far-shifted}
 use Rattle.theory.specs.Tables.{WellFormed}
 use Rattle.index.specs.Ends.{Ends}
+use Rattle.index.specs.Laws.Value.{balance, some-gain}
 
 neither : {x y : ℕ} → (x < y → ⊥) → (y < x → ⊥) → x ≡ y
 neither {x} {y} p q =
@@ -43,16 +45,16 @@ module _ (L : ℕ) (d : ℕ → ℕ → ℕ) (n : ℕ) (c : WellFormed L d n) (S
   abbrev raised : ℕ
   raised = shifted L d n (bit S)
 
-  -- one of the two groups has one image, which costs nothing to itself
-  own-low : inner n S ≡ false → L ≤ raised
-  own-low o = le-shifted L d n (bit S) L (omega arith) (λ a a′ b b′ ha ha′ hb hb′. go ha ha′ hb hb′ (not-inner-ones n S f o))
+  -- to stay inside both groups of an own link: one of them has one image, which costs nothing to itself
+  pub own-inside : inner n S ≡ false → (q : Choice n (bit S)) → inside d q ≤ L
+  own-inside o q = go (not-inner-ones n S f o)
     where
-      go : {a a′ b b′ : ℕ} → On n (bit S) 0 a → On n (bit S) 0 a′ → On n (bit S) 1 b → On n (bit S) 1 b′ → (ones S ≡ 1) ⊎ (ones S + 1 ≡ n)
-          → L ≤ gain L d a a′ b b′
-      go {a} {a′} {b} {b′} ha ha′ hb hb′ (inl e) =
-          omega (arith, ap (d b) (one-far n S e hb hb′), c .self (hb .0), c .small (ha .0) (ha′ .0))
-      go {a} {a′} {b} {b′} ha ha′ hb hb′ (inr e) =
-          omega (arith, ap (d a) (one-near n S f e ha ha′), c .self (ha .0), c .small (hb .0) (hb′ .0))
+      go : (ones S ≡ 1) ⊎ (ones S + 1 ≡ n) → inside d q ≤ L
+      go (inl e) = omega (arith, ap (d (q .b)) (one-far n S e (q .on-b) (q .on-b′)), c .self (q .on-b .0), c .small (q .on-a .0) (q .on-a′ .0))
+      go (inr e) = omega (arith, ap (d (q .a)) (one-near n S f e (q .on-a) (q .on-a′)), c .self (q .on-a .0), c .small (q .on-b .0) (q .on-b′ .0))
+
+  own-low : inner n S ≡ false → L ≤ raised
+  own-low o = let s = some-gain L d n c S f in omega (arith, s .1, balance L d (s .0) c, own-inside o (s .0))
 
   own-end : inner n S ≡ false → negℤ (pos L) ≤ℤ index d n (bit S)
   own-end o = rw (below-zero L, far-shifted L d n c S f) (le-signed 0 L raised (2 * L) .1 (omega (arith, own-low o)))

@@ -34,6 +34,7 @@ module _ (m : ℕ) (d : ℕ → ℕ → ℕ) where
       small = λ {i} {j} hi hj. rw (table-cost i j hi hj) (c .small hi hj);
       self = λ {i} hi. table-cost i i hi hi ∙ c .self hi;
       same = λ {i} {j} hi hj. table-cost i j hi hj ∙ c .same hi hj ∙ sym (table-cost j i hj hi);
+      nonzero = λ {i} {j} hi hj h. rw (table-cost i j hi hj) (c .nonzero hi hj h);
     };
   }
 

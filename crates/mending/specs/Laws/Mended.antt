@@ -19,7 +19,7 @@ use Rattle.theory.specs.FarSides.{FarSide, holds, inner, own}
 use Rattle.theory.specs.Laws.FarSides.{far-image}
 use Rattle.mending.specs.Laws.MendedRows.{mend-between, mend-costs, mend-has, mend-path, mend-sides}
 use Rattle.theory.specs.Laws.Nested.{Uncrossed, bit-holds, bit-holds-not, nested-uncrossed, uncrossed-nested}
-use Rattle.mending.specs.Laws.OldNumbers.{had-all, had-lt}
+use Rattle.mending.specs.Laws.OldNumbers.{had-all, had-lt, had-once}
 use Rattle.theory.specs.Laws.OnlyOne.{unique}
 use Rattle.theory.specs.Laws.OwnLinks.{not-inner-own, own-far, own-not-inner}
 use Rattle.theory.specs.Laws.Paths.{corner, row-far}
@@ -35,6 +35,7 @@ leave-formed L d m x c = record {
   small = λ {i} {j} hi hj. c .small (had-lt m x i hi) (had-lt m x j hj);
   self = λ {i} hi. c .self (had-lt m x i hi);
   same = λ {i} {j} hi hj. c .same (had-lt m x i hi) (had-lt m x j hj);
+  nonzero = λ {i} {j} hi hj h. c .nonzero (had-lt m x i hi) (had-lt m x j hj) (λ e. h (had-once x i j e));
 }
 
 inner-none : (m : ℕ) → inner m 0 ≡ false

@@ -40,20 +40,20 @@ had-all m x i hx hi ne =
     go (suc i) hi ne h = (i, omega arith, sym (had-above x i (omega arith)))
 
 -- and no two the same
+pub had-once : (x i j : ℕ) → had x i ≡ had x j → i ≡ j
+had-once x i j q =
+    cases (ltb i x)
+    (λ s. let a = had-below x i (ltb-true i x s) in
+    cases (ltb j x)
+    (λ t. let b = had-below x j (ltb-true j x t) in omega arith)
+    (λ t. let b = had-above x j (ltb-false j x t) in omega (arith, ltb-true i x s, ltb-false j x t)))
+    (λ s. let a = had-above x i (ltb-false i x s) in
+    cases (ltb j x)
+    (λ t. let b = had-below x j (ltb-true j x t) in omega (arith, ltb-false i x s, ltb-true j x t))
+    (λ t. let b = had-above x j (ltb-false j x t) in omega arith))
+
 pub had-same : (x i j : ℕ) → eqb (had x i) (had x j) ≡ eqb i j
 had-same x i j =
     cases (eqb i j)
     (λ e. eq-eqb (had x i) (had x j) (ap (had x) (eqb-true i j e)) ∙ sym e)
-    (λ e. ne-eqb (had x i) (had x j) (λ q. eqb-false i j e (one q)) ∙ sym e)
-  where
-    one : had x i ≡ had x j → i ≡ j
-    one q =
-        cases (ltb i x)
-        (λ s. let a = had-below x i (ltb-true i x s) in
-        cases (ltb j x)
-        (λ t. let b = had-below x j (ltb-true j x t) in omega arith)
-        (λ t. let b = had-above x j (ltb-false j x t) in omega (arith, ltb-true i x s, ltb-false j x t)))
-        (λ s. let a = had-above x i (ltb-false i x s) in
-        cases (ltb j x)
-        (λ t. let b = had-below x j (ltb-true j x t) in omega (arith, ltb-false i x s, ltb-true j x t))
-        (λ t. let b = had-above x j (ltb-false j x t) in omega arith))
+    (λ e. ne-eqb (had x i) (had x j) (λ q. eqb-false i j e (had-once x i j q)) ∙ sym e)

@@ -26,15 +26,10 @@ unfolding sayingText sayingIn sayingsFrom16 bytesOf fields
 returns-4 c = rw (c .before .before .before .before .before .match .keys4) (c .before .before .put-word2 .ensures)
 
 returns-5 : tie.Need-returns-5
-unfolding sayingText sayingIn sayingsFrom16 bytesOf fields
-returns-5 c = rw (c .before .before .before .before .before .match .keys5) (c .before .before .put-one2 .ensures)
-
-returns-6 : tie.Need-returns-6
-unfolding sayingText sayingIn sayingsFrom16 bytesOf fields
-returns-6 c =
-    let m = c .before .before .before .before .before .match .rest in
-    rw (ne-eqb _ _ (m .0 .0 .0 .0 .1), ne-eqb _ _ (m .0 .0 .0 .1), ne-eqb _ _ (m .0 .0 .1), ne-eqb _ _ (m .0 .1), ne-eqb _ _ (m .1))
-    (c .before .before .put-one3 .ensures)
+unfolding sayingIn sayingsFrom16
+returns-5 c =
+    let m = c .before .before .before .before .match .rest in
+    rw (ne-eqb _ _ (m .0 .0 .0 .1), ne-eqb _ _ (m .0 .0 .1), ne-eqb _ _ (m .0 .1), ne-eqb _ _ (m .1)) (c .before .before .put-from-20 .ensures)
 
 -- in order: for each arm that its words are lent whole and fit, then for each arm that the length stays and that its text is the number's
 pub put-from-16-spec : {M : Type 1} → statement M
@@ -45,11 +40,9 @@ put-from-16-spec =
     (λ c κs. search needs)
     (λ c. search needs) (λ c κs. search needs)
     (λ c. search needs) (λ c κs. search needs)
-    (λ c. search needs) (λ c κs. search needs)
-    (λ c. search needs) (λ c κs. search needs)
+    (λ c κs. search needs)
     (λ c. search needs) returns
     (λ c. search needs) returns-2
     (λ c. search needs) returns-3
     (λ c. search needs) returns-4
-    (λ c. search needs) returns-5
-    (λ c. search needs) returns-6)
+    (λ c. search needs) returns-5)

@@ -11,7 +11,7 @@ use Rattle.text.specs.Laws.Lengths.{fields-most}
 use Rattle.text.specs.Words.{bytesOf}
 use Rattle.sayings.specs.Laws.Said.{allPass, by-zeros, said-passes}
 use Rattle.phrases.specs.Saying.{Saying, sayingIn}
-use Rattle.sayings.specs.Sayings.{sayings, sayingsFrom12, sayingsFrom16, sayingsFrom4, sayingsFrom8}
+use Rattle.sayings.specs.Sayings.{sayings, sayingsFrom12, sayingsFrom16, sayingsFrom20, sayingsFrom4, sayingsFrom8}
 use Rattle.phrases.specs.Said.{sayingText}
 use Rattle.sayings.specs.Said.{saidOf}
 
@@ -20,7 +20,7 @@ abbrev short : Saying → Bool
 short s = leb (length (bytesOf (s .words)) + 21 * length (s .places)) 163
 
 sayings-short : (a b c d : ℕ) → allPass short (sayings a b c d) ≡ true
-unfolding sayings sayingsFrom4 sayingsFrom8 sayingsFrom12 sayingsFrom16 bytesOf
+unfolding sayings sayingsFrom4 sayingsFrom8 sayingsFrom12 sayingsFrom16 sayingsFrom20 bytesOf
 sayings-short a b c d =
     by-zeros a b (λ e f. rw (e, f) refl) (λ e f. rw (e, f) refl) (λ e f. rw (e, f) refl) (λ e f. rw (e, f) refl)
 

@@ -11,7 +11,7 @@ use Rattle.sayings.specs.Laws.Parted.{apart, apart-same, parted}
 use Rattle.sayings.specs.Laws.Said.{allPass, known, known-passes, knownIn, said-number, said-passes}
 use Rattle.phrases.specs.Saying.{Saying, sayingIn, unknown}
 use Rattle.phrases.specs.ByPlace.{aboveOld, badRow}
-use Rattle.sayings.specs.Sayings.{sayings, sayingsFrom12, sayingsFrom16, sayingsFrom4, sayingsFrom8}
+use Rattle.sayings.specs.Sayings.{sayings, sayingsFrom12, sayingsFrom16, sayingsFrom20, sayingsFrom4, sayingsFrom8}
 use Rattle.sayings.specs.Said.{saidOf}
 
 -- the two shapes of a saying begin alike, so that no comparison has to know the shape
@@ -36,11 +36,11 @@ module _ (k j a b c d a′ b′ c′ d′ : ℕ) (h : known k ≡ true) where
 
   -- each saying is apart from each, and from that of any other number
   all-apart : allPass (λ s. allPass (apart s) other && partedFromUnknown s) one ≡ true
-  unfolding sayings sayingsFrom4 sayingsFrom8 sayingsFrom12 sayingsFrom16 bytesOf
+  unfolding sayings sayingsFrom4 sayingsFrom8 sayingsFrom12 sayingsFrom16 sayingsFrom20 bytesOf
   all-apart = rw (bad-row-words a, bad-row-words a′, above-old-words a b, above-old-words a′ b′) refl
 
   known-here : knownIn k one ≡ true
-  unfolding sayings sayingsFrom4 sayingsFrom8 sayingsFrom12 sayingsFrom16
+  unfolding sayings sayingsFrom4 sayingsFrom8 sayingsFrom12 sayingsFrom16 sayingsFrom20
   known-here = h
 
   -- what is said of a refusal is said of no other number

@@ -15,7 +15,7 @@ use Rattle.sayings.specs.Laws.Said.{allPass, by-zeros, said-passes}
 use Rattle.phrases.specs.Said.{sayingText}
 use Rattle.sayings.specs.Said.{saidOf}
 use Rattle.phrases.specs.Saying.{Saying, sayingIn}
-use Rattle.sayings.specs.Sayings.{sayings, sayingsFrom12, sayingsFrom16, sayingsFrom4, sayingsFrom8}
+use Rattle.sayings.specs.Sayings.{sayings, sayingsFrom12, sayingsFrom16, sayingsFrom20, sayingsFrom4, sayingsFrom8}
 
 abbrev some : Saying → Bool
 some s = ltb 0 (length (bytesOf (s .words)))
@@ -28,11 +28,11 @@ module _ (number a b c d : ℕ) where
   all = sayings a b c d
 
   all-some : allPass some all ≡ true
-  unfolding sayings sayingsFrom4 sayingsFrom8 sayingsFrom12 sayingsFrom16 bytesOf
+  unfolding sayings sayingsFrom4 sayingsFrom8 sayingsFrom12 sayingsFrom16 sayingsFrom20 bytesOf
   all-some = by-zeros a b (λ e f. rw (e, f) refl) (λ e f. rw (e, f) refl) (λ e f. rw (e, f) refl) (λ e f. rw (e, f) refl)
 
   all-plain : allPass plain all ≡ true
-  unfolding sayings sayingsFrom4 sayingsFrom8 sayingsFrom12 sayingsFrom16 bytesOf
+  unfolding sayings sayingsFrom4 sayingsFrom8 sayingsFrom12 sayingsFrom16 sayingsFrom20 bytesOf
   all-plain = by-zeros a b (λ e f. rw (e, f) refl) (λ e f. rw (e, f) refl) (λ e f. rw (e, f) refl) (λ e f. rw (e, f) refl)
 
   pub said-some : 0 < length (saidOf number a b c d)
