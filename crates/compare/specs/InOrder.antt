@@ -13,7 +13,7 @@ use Rattle.compare.specs.Call.{comparison}
 use Rattle.compare.specs.declared.Comparison.the-variants.{Compared}
 use Rattle.compare.specs.declared.Comparison.the-variants as answer
 
--- 1, then the first table's 2, 4, 5, 6, 7, then the second's
+-- 1, then the first table's 2, 4, 5, 6, 20, 7, then the second's
 abbrev pub compareSteps : ℕ → ℕ → List ℕ → List ℕ → List Step
 compareSteps L n t u = 1 by imagesCheck n ∷ (about 1 (tableSteps L n t) ++ about 2 (tableSteps L n u))
 

@@ -54,7 +54,7 @@ fn both_tables(n: usize, first: &[u32], second: &[u32]) -> Comparison
     }
 }
 
-// The two tables compared, or the first refusal: 1, then 2, 4, 5, 6, 7 for the first table and then for the second.
+// The two tables compared, or the first refusal: 1, then 2, 4, 5, 6, 20, 7 for the first table and then for the second.
 pub fn compare(n: usize, first: &[u32], second: &[u32]) -> Comparison
     ensures { λ r. ⌜ r ≡ comparison limit n (now (first .entry)) (now (second .entry)) ⌝ }
 {

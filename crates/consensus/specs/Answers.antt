@@ -32,7 +32,7 @@ pub record FirstTable (L n : ℕ) (t : List ℕ) (k m j : ℕ) (q : Refusal) : T
   pub refused : treeCheck L n (tableAt n t place) ≡ check.Refused q
   pub before : (i : ℕ) → k ≤ i → i < place → treeCheck L n (tableAt n t i) ≡ Passed
 
--- refused by 1, 16, 2 or 3 with number 0; or, those passed, by the first table that 4, 5, 6 or 7 refuse, with its number
+-- refused by 1, 16, 2 or 3 with number 0; or, those passed, by the first table that 4, 5, 6, 20 or 7 refuse, with its number
 pub data FirstRefusal (L n m : ℕ) (t : List ℕ) (f v j : ℕ) (q : Refusal) : Type 0 where
   of-team : j ≡ 0 → teamCheck n m t f v ≡ check.Refused q → FirstRefusal L n m t f v j q
   of-table : teamCheck n m t f v ≡ Passed → FirstTable L n t 0 m j q → FirstRefusal L n m t f v j q

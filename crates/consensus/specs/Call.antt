@@ -33,7 +33,7 @@ teamCheck n m t f v = imagesCheck n then numberCheck m then joinedCheck n m t th
 abbrev pub numbered : ℕ → Check → Shared → Shared
 numbered k c y = ifPassed (Refused k) c y
 
--- 4, 5, 6, 7 table by table, from place k on; tables are numbered from 1
+-- 4, 5, 6, 20, 7 table by table, from place k on; tables are numbered from 1
 unfoldable pub tableByTable : ℕ → ℕ → List ℕ → ℕ → ℕ → Shared → Shared
 tableByTable L n t k zero y = y
 tableByTable L n t k (suc m) y = numbered (k + 1) (treeCheck L n (tableAt n t k)) (tableByTable L n t (suc k) m y)

@@ -38,7 +38,7 @@ team-order n m t f v =
     (join-order (refuse-order (not (eqb (length t) (m * (n * n)))) (refusal 2 0 0 0 0) (omega arith))
     (refuse-order (short (2 * n - 3) f v) (refusal 3 0 0 0 0) (omega arith))))
 
--- 4, 5, 6, 7 table by table, from place k on
+-- 4, 5, 6, 20, 7 table by table, from place k on
 unfoldable pub stepsFrom : ℕ → ℕ → List ℕ → ℕ → ℕ → List Step
 stepsFrom L n t k zero = []
 stepsFrom L n t k (suc m) = about (k + 1) (treeSteps L n (tableAt n t k)) ++ stepsFrom L n t (suc k) m
@@ -77,14 +77,14 @@ consensus-unaltered L n m t f v s q e =
 -- ## The numbers of m tables
 
 abbrev pub tableNumbers : ℕ → List (ℕ × ℕ)
-tableNumbers k = ofTable k (4 ∷ 5 ∷ 6 ∷ 7 ∷ [])
+tableNumbers k = ofTable k (4 ∷ 5 ∷ 6 ∷ 20 ∷ 7 ∷ [])
 
 from-numbers : (L n : ℕ) (t : List ℕ) (k m : ℕ) → numbersOf (stepsFrom L n t k m) ≡ gather (from (suc k) m) tableNumbers
 unfolding stepsFrom
 from-numbers L n t k zero = refl
 from-numbers L n t k (suc m) = ap₂ (λ (i : ℕ) (z : List (ℕ × ℕ)). tableNumbers i ++ z) (add-one k) (from-numbers L n t (suc k) m)
 
--- 1, 16, 2, 3 with number 0, then 4, 5, 6, 7 table by table
+-- 1, 16, 2, 3 with number 0, then 4, 5, 6, 20, 7 table by table
 pub consensus-numbers : (L n m : ℕ) (t : List ℕ) (f v : ℕ)
     → numbersOf (consensusSteps L n m t f v) ≡ ofTable 0 (1 ∷ 16 ∷ 2 ∷ 3 ∷ []) ++ gather (from 1 m) tableNumbers
 consensus-numbers L n m t f v = ap (λ (z : List (ℕ × ℕ)). ofTable 0 (1 ∷ 16 ∷ 2 ∷ 3 ∷ []) ++ z) (from-numbers L n t 0 m)

@@ -17,7 +17,7 @@ mostTables = 500
 abbrev pub mostSides : ℕ
 mostSides = 1024
 
--- 9, 1, 9, 11, 4: the stored cost table's own without 3, of the bytes s, in the form that they tell
+-- 9, 1, 9, 11, 4, 20: the stored cost table's own without 3, of the bytes s, in the form that they tell
 abbrev pub storedChecks : List ℕ → Check
 storedChecks s = tableChecks (costFormAt s 0) s
 

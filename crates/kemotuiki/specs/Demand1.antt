@@ -44,27 +44,27 @@ use Rattle.consensus.specs.declared.Shared.the-variants as shared
 -- ## Cost tables
 
 pub index : (n : ℕ) (t : List ℕ) (s : ℕ) (r : KemotuikiIndex) → r ≡ ofIndex (indexAnswer limit n t s)
-    → Refusals (ofTable 0 (1 ∷ 2 ∷ 4 ∷ 5 ∷ 6 ∷ 12 ∷ [])) (indexSteps limit n t s) (r .head) [] []
+    → Refusals (ofTable 0 (1 ∷ 2 ∷ 4 ∷ 5 ∷ 6 ∷ 20 ∷ 12 ∷ [])) (indexSteps limit n t s) (r .head) [] []
 index n t s r e =
     by-check (λ (k : KemotuikiIndex). k .head) ofIndex signed.Refused (λ q. refl) (indexCheck limit n t s) _ refl refl (index-order limit n t s) e
     (λ q p. refl)
 
 pub order : (n : ℕ) (t : List ℕ) (first last : ℕ) (out out′ : List ℕ) (r : KemotuikiOrder)
     → Left (crossed ofOrder (orderOutcome limit n t first last out)) r out′
-    → Refusals (ofTable 0 (1 ∷ 2 ∷ 3 ∷ 4 ∷ 5 ∷ 6 ∷ 8 ∷ [])) (orderSteps limit n t first last (length out)) (r .head) (out ∷ []) (out′ ∷ [])
+    → Refusals (ofTable 0 (1 ∷ 2 ∷ 3 ∷ 4 ∷ 5 ∷ 6 ∷ 20 ∷ 8 ∷ [])) (orderSteps limit n t first last (length out)) (r .head) (out ∷ []) (out′ ∷ [])
 order n t first last out out′ r p =
     by-left (λ (k : KemotuikiOrder). k .head) ofOrder written.Refused (λ q. refl) (orderChecks limit n t first last (length out)) _ _ out refl refl
     (order-order limit n t first last (length out)) p
 
 pub measured : (n : ℕ) (t f v f′ v′ : List ℕ) (r : KemotuikiRows) → LeftRows (crossedRows ofRows (measuredOutcome limit n t f v)) r f′ v′
-    → Refusals (ofTable 0 (1 ∷ 2 ∷ 3 ∷ 4 ∷ 5 ∷ 6 ∷ [])) (measuredSteps limit n t (length f) (length v)) (r .head) (f ∷ v ∷ []) (f′ ∷ v′ ∷ [])
+    → Refusals (ofTable 0 (1 ∷ 2 ∷ 3 ∷ 4 ∷ 5 ∷ 6 ∷ 20 ∷ [])) (measuredSteps limit n t (length f) (length v)) (r .head) (f ∷ v ∷ []) (f′ ∷ v′ ∷ [])
 measured n t f v f′ v′ r p =
     let c = measuredCheck limit n t (length f) (length v) in
     by-rows (λ (k : KemotuikiRows). k .head) ofRows written.Refused (λ q. refl) c _ (measuredOutcome limit n t f v) f v refl refl
     (measured-order limit n t (length f) (length v)) (outcome-places c _ f v) (outcome-unaltered c _ f v) p
 
 pub exact : (n : ℕ) (t f v f′ v′ : List ℕ) (r : KemotuikiRows) → LeftRows (crossedRows ofRows (exactOutcome limit n t f v)) r f′ v′
-    → Refusals (ofTable 0 (1 ∷ 2 ∷ 3 ∷ 4 ∷ 5 ∷ 6 ∷ 7 ∷ [])) (exactSteps limit n t (length f) (length v)) (r .head) (f ∷ v ∷ []) (f′ ∷ v′ ∷ [])
+    → Refusals (ofTable 0 (1 ∷ 2 ∷ 3 ∷ 4 ∷ 5 ∷ 6 ∷ 20 ∷ 7 ∷ [])) (exactSteps limit n t (length f) (length v)) (r .head) (f ∷ v ∷ []) (f′ ∷ v′ ∷ [])
 exact n t f v f′ v′ r p =
     let c = exactCheck limit n t (length f) (length v) in
     by-rows (λ (k : KemotuikiRows). k .head) ofRows written.Refused (λ q. refl) c _ (exactOutcome limit n t f v) f v refl refl
@@ -72,19 +72,19 @@ exact n t f v f′ v′ r p =
 
 -- by the second engine, whose contract is the same
 pub exact-grafted : (n : ℕ) (t f v f′ v′ : List ℕ) (r : KemotuikiRows) → LeftRows (crossedRows ofRows (exactOutcome limit n t f v)) r f′ v′
-    → Refusals (ofTable 0 (1 ∷ 2 ∷ 3 ∷ 4 ∷ 5 ∷ 6 ∷ 7 ∷ [])) (exactSteps limit n t (length f) (length v)) (r .head) (f ∷ v ∷ []) (f′ ∷ v′ ∷ [])
+    → Refusals (ofTable 0 (1 ∷ 2 ∷ 3 ∷ 4 ∷ 5 ∷ 6 ∷ 20 ∷ 7 ∷ [])) (exactSteps limit n t (length f) (length v)) (r .head) (f ∷ v ∷ []) (f′ ∷ v′ ∷ [])
 exact-grafted = exact
 
 -- 1 with number 0, then each table's with its own
 pub compare : (n : ℕ) (t u : List ℕ) (r : KemotuikiComparison) → r ≡ ofComparison (comparison limit n t u)
-    → Refusals (ofTable 0 (1 ∷ []) ++ (ofTable 1 (2 ∷ 4 ∷ 5 ∷ 6 ∷ 7 ∷ []) ++ ofTable 2 (2 ∷ 4 ∷ 5 ∷ 6 ∷ 7 ∷ []))) (compareSteps limit n t u) (r .head) [] []
+    → Refusals (ofTable 0 (1 ∷ []) ++ (ofTable 1 (2 ∷ 4 ∷ 5 ∷ 6 ∷ 20 ∷ 7 ∷ []) ++ ofTable 2 (2 ∷ 4 ∷ 5 ∷ 6 ∷ 20 ∷ 7 ∷ []))) (compareSteps limit n t u) (r .head) [] []
 compare n t u r e =
     refusals (λ (k : KemotuikiComparison). k .head) ofComparison compared.Refused (λ m q. refl) refl refl (compare-decides limit n t u) e
     (λ s q f. refl)
 
 -- 1, 16, 2, 3 with number 0, then each table's with its own
 pub consensus : (n m : ℕ) (t f v f′ v′ : List ℕ) (r : KemotuikiRows) → LeftRows (crossedRows ofShared (consensusOutcome limit n m t f v)) r f′ v′
-    → Refusals (ofTable 0 (1 ∷ 16 ∷ 2 ∷ 3 ∷ []) ++ gather (from 1 m) (λ k. ofTable k (4 ∷ 5 ∷ 6 ∷ 7 ∷ [])))
+    → Refusals (ofTable 0 (1 ∷ 16 ∷ 2 ∷ 3 ∷ []) ++ gather (from 1 m) (λ k. ofTable k (4 ∷ 5 ∷ 6 ∷ 20 ∷ 7 ∷ [])))
     (consensusSteps limit n m t (length f) (length v)) (r .head) (f ∷ v ∷ []) (f′ ∷ v′ ∷ [])
 consensus n m t f v f′ v′ r p =
     refusals (λ (k : KemotuikiRows). k .head) ofShared shared.Refused (λ k q. refl) (consensus-numbers limit n m t (length f) (length v)) refl

@@ -26,7 +26,7 @@ atEvent k h = record { number = h .number; table = k; a = h .a; b = h .b; c = h 
 
 module _ (n : ℕ) (t es f v f′ v′ : List ℕ) (r : KemotuikiReplay) (p : LeftRows (crossedRows ofReplayed (replayOutcome limit n t es f v)) r f′ v′) where
   -- the exact reading's for the start, then 8 and 1 for each event in turn; the buffers are left out, since a refused event lets them be written
-  pub replay : Refusals (ofTable 0 (1 ∷ 2 ∷ 3 ∷ 4 ∷ 5 ∷ 6 ∷ 7 ∷ []) ++ gather (from 1 (length es)) eventNumbers)
+  pub replay : Refusals (ofTable 0 (1 ∷ 2 ∷ 3 ∷ 4 ∷ 5 ∷ 6 ∷ 20 ∷ 7 ∷ []) ++ gather (from 1 (length es)) eventNumbers)
       (replaySteps limit n t es (length f) (length v)) (atEvent (r .event) (r .head)) [] []
   replay =
       refusals (λ h. h) headOf stopAt (λ k q. refl) (replay-numbers limit n t es (length f) (length v)) refl (replay-decides limit n t es f v)

@@ -20,7 +20,7 @@ use Rattle.kemotuiki.specs.Laws.Refusals.{refusals}
 use Rattle.kemotuiki.specs.Refusals.{Refusals}
 
 module _ (bytes f t s f′ t′ s′ : List ℕ) (r : KemotuikiReport) (p : LeftReport (crossedReport ofReport (reportOutcome limit bytes f t s)) r f′ t′ s′) where
-  -- 3 with table number 0, then 9, 1, 9, 11, 4, 15, 19 for each table in turn; the buffers are left out, since those of the tables before a
+  -- 3 with table number 0, then 9, 1, 9, 11, 4, 20, 15, 19 for each table in turn; the buffers are left out, since those of the tables before a
   -- refused one are written
   pub report : Refusals (ofTable 0 (3 ∷ []) ++ gather (from 1 (tablesIn mostTables bytes)) tableNumbers)
       (reportSteps limit bytes (length f) (length t) (length s)) (r .head) [] []

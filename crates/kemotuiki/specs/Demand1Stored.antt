@@ -49,7 +49,7 @@ use Rattle.choice.specs.declared.Chosen.the-variants as chosen
 
 pub write-costs : (k n : ℕ) (t out out′ : List ℕ) (r : KemotuikiBytes)
     → Left (crossed ofBytes (costs-writing.writeOutcome (costForm (editionBy k)) n t out)) r out′
-    → Refusals (ofTable 0 (1 ∷ 2 ∷ 4 ∷ 5 ∷ 6 ∷ 17 ∷ 3 ∷ [])) (costs-written.writeSteps (costForm (editionBy k)) n t (length out)) (r .head) (out ∷ [])
+    → Refusals (ofTable 0 (1 ∷ 2 ∷ 4 ∷ 5 ∷ 6 ∷ 20 ∷ 17 ∷ 3 ∷ [])) (costs-written.writeSteps (costForm (editionBy k)) n t (length out)) (r .head) (out ∷ [])
     (out′ ∷ [])
 write-costs k n t out out′ r p =
     let form = costForm (editionBy k) in
@@ -59,7 +59,7 @@ write-costs k n t out out′ r p =
 -- 9 of the position before all else
 pub read-costs : (bytes : List ℕ) (position : ℕ) (out out′ : List ℕ) (r : KemotuikiCosts)
     → Left (crossed ofCosts (costs-reading.readEither bytes position out)) r out′
-    → Refusals (ofTable 0 (9 ∷ 9 ∷ 1 ∷ 3 ∷ 9 ∷ 11 ∷ 4 ∷ [])) (costs-read.readAtSteps (costFormAt bytes position) bytes position (length out)) (r .head)
+    → Refusals (ofTable 0 (9 ∷ 9 ∷ 1 ∷ 3 ∷ 9 ∷ 11 ∷ 4 ∷ 20 ∷ [])) (costs-read.readAtSteps (costFormAt bytes position) bytes position (length out)) (r .head)
     (out ∷ []) (out′ ∷ [])
 read-costs bytes position out out′ r p =
     let form = costFormAt bytes position in
@@ -109,7 +109,7 @@ choice s t r e =
 
 -- the reader's without 3, then those of the form that is asked for
 pub convert-costs : (k : ℕ) (s out out′ : List ℕ) (r : KemotuikiBytes) → Left (crossed ofBytes (costsConverted (editionBy k) s out)) r out′
-    → Refusals (ofTable 0 (9 ∷ 1 ∷ 9 ∷ 11 ∷ 4 ∷ 17 ∷ 3 ∷ [])) (costSteps (editionBy k) s (length out)) (r .head) (out ∷ []) (out′ ∷ [])
+    → Refusals (ofTable 0 (9 ∷ 1 ∷ 9 ∷ 11 ∷ 4 ∷ 20 ∷ 17 ∷ 3 ∷ [])) (costSteps (editionBy k) s (length out)) (r .head) (out ∷ []) (out′ ∷ [])
 convert-costs k s out out′ r p =
     by-left (λ (x : KemotuikiBytes). x .head) ofBytes written.Refused (λ q. refl) (costChecks (editionBy k) s (length out)) _ _ out refl refl
     (cost-order (editionBy k) s (length out)) p

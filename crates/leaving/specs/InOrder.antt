@@ -102,7 +102,7 @@ unfolding stepsFrom
 from-numbers k n [] = refl
 from-numbers k n (e ∷ es) = ap (λ (z : List (ℕ × ℕ)). eventNumbers k ++ z) (from-numbers (suc k) (n - 1) es)
 
--- 1, 2, 3, 4, 5, 6, 7 with number 0, then 8, 1 event by event
+-- 1, 2, 3, 4, 5, 6, 20, 7 with number 0, then 8, 1 event by event
 pub replay-numbers : (L n : ℕ) (t es : List ℕ) (f v : ℕ)
-    → numbersOf (replaySteps L n t es f v) ≡ ofTable 0 (1 ∷ 2 ∷ 3 ∷ 4 ∷ 5 ∷ 6 ∷ 7 ∷ []) ++ gather (from 1 (length es)) eventNumbers
-replay-numbers L n t es f v = ap (λ (z : List (ℕ × ℕ)). ofTable 0 (1 ∷ 2 ∷ 3 ∷ 4 ∷ 5 ∷ 6 ∷ 7 ∷ []) ++ z) (from-numbers 1 n es)
+    → numbersOf (replaySteps L n t es f v) ≡ ofTable 0 (1 ∷ 2 ∷ 3 ∷ 4 ∷ 5 ∷ 6 ∷ 20 ∷ 7 ∷ []) ++ gather (from 1 (length es)) eventNumbers
+replay-numbers L n t es f v = ap (λ (z : List (ℕ × ℕ)). ofTable 0 (1 ∷ 2 ∷ 3 ∷ 4 ∷ 5 ∷ 6 ∷ 20 ∷ 7 ∷ []) ++ z) (from-numbers 1 n es)

@@ -19,7 +19,7 @@ use Rattle.listing_text.specs.Listing.{imagesSaid, listingText, storedCh
 use Rattle.listing_text.specs.Promises.{acceptedText, listing-checks, listing-wiring, listingChecks}
 use Rattle.listing_text.specs.declared.Last.{Last}
 
--- 9, 1, 9, 11, 4, 7
+-- 9, 1, 9, 11, 4, 20, 7
 abbrev pub listingSteps : List ℕ → List Step
 listingSteps s = tableSteps (costFormAt s 0) s ++ wiringSteps (cost (tableSaid s) (imagesSaid s)) (imagesSaid s)
 

@@ -20,7 +20,7 @@ imagesSaid s = imagesOf (costFormAt s 0) s
 abbrev pub tableSaid : List ℕ → List ℕ
 tableSaid s = storedTable (costFormAt s 0) (imagesSaid s) s
 
--- 9, 1, 9, 11, 4: the checks of a stored cost table in that form, where there is room for every table
+-- 9, 1, 9, 11, 4, 20: the checks of a stored cost table in that form, where there is room for every table
 abbrev pub storedChecks : List ℕ → Check
 storedChecks s = tableChecks (costFormAt s 0) s
 

@@ -31,7 +31,7 @@ use Rattle.listing_text.specs.Listing.{Listed, imagesSaid, listingText, 
 use Rattle.table_text.specs.TableText.{linksText, textIf}
 use Rattle.listing_text.specs.declared.Last.{Last}
 
--- the checks of a listing in their order: 9, 1, 9, 11, 4, and those of the exact reading
+-- the checks of a listing in their order: 9, 1, 9, 11, 4, 20, and those of the exact reading
 abbrev pub listingChecks : List ℕ → Check
 listingChecks s = storedChecks s then treeCheck limit (imagesSaid s) (tableSaid s)
 

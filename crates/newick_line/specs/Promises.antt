@@ -50,7 +50,7 @@ module _ (s : List ℕ) where
   unfolding newickLine
   line-checks = text-then (storedChecks s) (treeCheck limit (imagesSaid s) (tableSaid s)) (lineOf (rowsSaid s))
 
-  -- 9, 1, 9, 11, 4, 7: the line of the first check that refuses, and the text where all pass
+  -- 9, 1, 9, 11, 4, 20, 7: the line of the first check that refuses, and the text where all pass
   pub line-decides : Decides (λ m. refusedLine) (listingSteps s) (lineOf (rowsSaid s)) (newickLine s)
   line-decides = rw line-checks (decides-last (λ m. refusedLine) 0 (lineOf (rowsSaid s)) (listing-order s))
 

@@ -10,7 +10,7 @@ use Rattle.theory.specs.Tables.{cost}
 use Rattle.tables.specs.InOrder.{costs-order, costsSteps, size-order, sizeSteps}
 use Rattle.order.specs.Outcome.{badEnds, endsCheck, orderChecks}
 
--- 1, 2, 3, 4, 5, 6, 8
+-- 1, 2, 3, 4, 5, 6, 20, 8
 abbrev pub orderSteps : ℕ → ℕ → List ℕ → ℕ → ℕ → ℕ → List Step
 orderSteps L n t first last room =
     sizeSteps n t ++ (3 by roomCheck n room ∷ (costsSteps L (cost t n) n ++ (8 by endsCheck n first last ∷ [])))

@@ -22,7 +22,7 @@ badEnds n first last = outside 1 n first || (outside 1 n last || eqb first last)
 abbrev pub endsCheck : ℕ → ℕ → ℕ → Check
 endsCheck n first last = refuseIf (badEnds n first last) (refusal 8 0 0 0 0)
 
--- 1, 2, then 3, then 4, 5, 6, then 8
+-- 1, 2, then 3, then 4, 5, 6, 20, then 8
 unfoldable pub orderChecks : ℕ → ℕ → List ℕ → ℕ → ℕ → ℕ → Check
 orderChecks L n t first last room =
     sizeCheck n t then roomCheck n room then costsCheck L (cost t n) n then endsCheck n first last

@@ -113,7 +113,7 @@ fn is_bad_ends(n: usize, first: usize, last: usize) -> bool
     first == last
 }
 
-// Refusals 1, 2, 3, 4, 5, 6, 8.
+// Refusals 1, 2, 3, 4, 5, 6, 20, 8.
 fn check_order(n: usize, t: &[u32], first: usize, last: usize, room: usize) -> Check
     ensures { λ r. ⌜ r ≡ orderChecks limit n (now (t .entry)) first last room ⌝ }
 {

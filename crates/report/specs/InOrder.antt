@@ -22,7 +22,7 @@ use Rattle.figures.specs.Checks.{differs, manyCheck, mostSides, mostTables, nex
 use Rattle.figures.specs.Reading.{Ended, goOn, readAll, readOn}
 use Rattle.figures.specs.Tables.{Table, tableAt}
 
--- 9, 1, 9, 11, 4, 15, 19 of the table at the front of s, once ts were read
+-- 9, 1, 9, 11, 4, 20, 15, 19 of the table at the front of s, once ts were read
 abbrev pub nextSteps : ℕ → List Table → List ℕ → List Step
 nextSteps L ts s = tableSteps (costFormAt s 0) s ++ (15 by sameCheck ts (tableAt s .images) ∷ 19 by manyCheck L (ts ++ (tableAt s ∷ [])) ∷ [])
 
@@ -100,7 +100,7 @@ tablesIn (suc k) [] = 0
 tablesIn (suc k) (b ∷ s) = suc (tablesIn k (drop (tableAt (b ∷ s) .used) (b ∷ s)))
 
 abbrev pub tableNumbers : ℕ → List (ℕ × ℕ)
-tableNumbers k = ofTable k (9 ∷ 1 ∷ 9 ∷ 11 ∷ 4 ∷ 15 ∷ 19 ∷ [])
+tableNumbers k = ofTable k (9 ∷ 1 ∷ 9 ∷ 11 ∷ 4 ∷ 20 ∷ 15 ∷ 19 ∷ [])
 
 from-numbers : (L k m : ℕ) (ts : List Table) (s : List ℕ) → length ts + 1 ≡ m → numbersOf (stepsFrom L k ts s) ≡ gather (from m (tablesIn k s)) tableNumbers
 unfolding stepsFrom tablesIn
@@ -111,7 +111,7 @@ from-numbers L (suc k) m ts (b ∷ s) e =
     rw e (ap (λ (z : List (ℕ × ℕ)). tableNumbers m ++ z)
     (from-numbers L k (suc m) (ts ++ (tb ∷ [])) (drop (tb .used) (b ∷ s)) (omega (arith, length-append ts (tb ∷ [])))))
 
--- 3 with number 0, then 9, 1, 9, 11, 4, 15, 19 table by table
+-- 3 with number 0, then 9, 1, 9, 11, 4, 20, 15, 19 table by table
 pub report-numbers : (L : ℕ) (bytes : List ℕ) (f t s : ℕ)
     → numbersOf (reportSteps L bytes f t s) ≡ ofTable 0 (3 ∷ []) ++ gather (from 1 (tablesIn mostTables bytes)) tableNumbers
 report-numbers L bytes f t s = ap (λ (z : List (ℕ × ℕ)). ofTable 0 (3 ∷ []) ++ z) (from-numbers L mostTables 1 [] bytes refl)

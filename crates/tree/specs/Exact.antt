@@ -16,7 +16,7 @@ use Rattle.theory.specs.Tables.{CostTable, cost}
 use Rattle.tables.specs.Checks.{costsCheck, lengthCheck}
 use Rattle.wiring.specs.Check.{wiringCheck}
 
--- 4, 5, 6, 7
+-- 4, 5, 6, 20, 7
 unfoldable pub treeCheck : ℕ → ℕ → List ℕ → Check
 treeCheck L n t = costsCheck L (cost t n) n then wiringCheck (cost t n) n
 

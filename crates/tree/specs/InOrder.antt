@@ -19,7 +19,7 @@ use Rattle.wiring.specs.InOrder.{wiring-order, wiringSteps}
 use Rattle.tree.specs.Exact.{tableCheck, treeCheck}
 use Rattle.tree.specs.Readings.{exactCheck, measuredCheck, outcome, outputsRoomCheck, short}
 
--- 1, 2, 3, 4, 5, 6, where f and v are the lengths of the outputs
+-- 1, 2, 3, 4, 5, 6, 20, where f and v are the lengths of the outputs
 abbrev pub measuredSteps : ℕ → ℕ → List ℕ → ℕ → ℕ → List Step
 measuredSteps L n t f v = sizeSteps n t ++ (3 by outputsRoomCheck (2 * n - 3) f v ∷ costsSteps L (cost t n) n)
 
@@ -34,7 +34,7 @@ exactSteps L n t f v = measuredSteps L n t f v ++ wiringSteps (cost t n) n
 pub exact-order : (L n : ℕ) (t : List ℕ) (f v : ℕ) → InOrder (exactSteps L n t f v) (exactCheck L n t f v)
 exact-order L n t f v = join-order (measured-order L n t f v) (wiring-order (cost t n) n)
 
--- 4, 5, 6, 7 of one table
+-- 4, 5, 6, 20, 7 of one table
 abbrev pub treeSteps : ℕ → ℕ → List ℕ → List Step
 treeSteps L n t = costsSteps L (cost t n) n ++ wiringSteps (cost t n) n
 

@@ -87,7 +87,7 @@ pub fn check_room(n: usize, f: usize, v: usize) -> Check
     ground::refuse_if(is_short(2 * n - 3, f, v), 3, 0, 0)
 }
 
-// The checks of the measured reading, in their order: 1, 2, 3, 4, 5, 6.
+// The checks of the measured reading, in their order: 1, 2, 3, 4, 5, 6, 20.
 pub fn check_measured(n: usize, t: &[u32], f: usize, v: usize) -> Check
     ensures { λ r. ⌜ r ≡ measuredCheck limit n (now (t .entry)) f v ⌝ }
 {

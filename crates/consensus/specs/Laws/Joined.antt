@@ -75,7 +75,7 @@ table-in n m t P h i l = h (tableAt n t i) (in-tables n m t i l)
 -- ## Table by table
 
 module _ (L n m : ℕ) (t : List ℕ) (j : Joined n m t) where
-  -- a table of a team is accepted exactly when 4, 5, 6, 7 pass
+  -- a table of a team is accepted exactly when 4, 5, 6, 20, 7 pass
   pub wired-passed : (i : ℕ) → i < m → Wired L n (tableAt n t i) → treeCheck L n (tableAt n t i) ≡ Passed
   wired-passed i l w =
       sym (table-sized L n (tableAt n t i) (part-sized n m t j i l)) ∙ table-passed L n (tableAt n t i) (j .some) (j .few) .1 w

@@ -21,6 +21,7 @@ module _ (L : ℕ) (d : ℕ → ℕ → ℕ) (o : ℕ → ℕ) (n : ℕ) (w : Pl
     small = λ {i} {j} hi hj. c .small (w .range hi) (w .range hj);
     self = λ {i} hi. c .self (w .range hi);
     same = λ {i} {j} hi hj. c .same (w .range hi) (w .range hj);
+    nonzero = λ {i} {j} hi hj h. c .nonzero (w .range hi) (w .range hj) (λ e. h (w .once hi hj e));
   }
 
   placed-condition : FourPoint d n → FourPoint (placed d o) n

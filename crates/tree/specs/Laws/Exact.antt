@@ -29,7 +29,7 @@ use Rattle.tree.specs.Exact.{SidesRead, SidesStand, Wired, exactRows, ex
 use Rattle.tree.specs.Readings.{exactCheck, exactOutcome, outcome, outputsRoomCheck}
 use Rattle.tree.specs.Laws.Writing.{room-passed}
 
--- a table of the right length has 4, 5, 6, 7 left to pass
+-- a table of the right length has 4, 5, 6, 20, 7 left to pass
 pub table-sized : (L n : ℕ) (t : List ℕ) → length t ≡ n * n → tableCheck L n t ≡ treeCheck L n t
 unfolding tableCheck
 table-sized L n t e = rw (eq-eqb (length t) (n * n) e)
