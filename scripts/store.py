@@ -64,7 +64,7 @@ def pairs(n):
 
 
 def first_zero(n, costs):
-    """Row and column of the first 0 of the upper triangle, in words; none where there is none."""
+    """Row and column of the first 0 of the upper triangle, in words, or None."""
     return next((f"row {row}, column {column}: 0" for (row, column), cost in zip(pairs(n), costs) if cost == 0), None)
 
 

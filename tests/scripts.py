@@ -241,7 +241,8 @@ def test_untimed_links():
         for form in (law.OLD, law.NEW):
             answer = run("store.py", "--matrix", given=stored_of(n, upper, form))
             check(f"the matrix of {n} images, {zero} untimed", answer, (0, wanted, UNTIMED.format(*zero)))
-        check(f"{zero} untimed, stored again", run("store.py", given=wanted), refusal(COSTS_NOTHING.format(*zero) + " (standard input)"))
+        again = refusal(COSTS_NOTHING.format(*zero) + " (standard input)")
+        check(f"{zero} untimed, stored again", run("store.py", given=wanted), again)
 
 
 REFUSED_BYTES = {
