@@ -11,7 +11,8 @@
 !         print '(a)', r%text()                     ! no wiring: images 1 2 3 5
 !     end if
 !
-! A cost table has rank 2: t(i, j) is the entry in row i and column j. The tables of a team have rank 3: tables(:, :, k) is table k.
+! A cost table has rank 2: t(i, j) is the entry in row i and column j, 0 on the diagonal and nowhere else. The tables of a team have
+! rank 3: tables(:, :, k) is table k.
 ! Entries, costs, images, rows and counts are default integers, 32 bits in arrays; far sides and the sums of a term report are
 ! integer(int64), stored bytes integer(int8). The events of a replay, which are images, are default integers or bytes.
 !
@@ -31,8 +32,8 @@ module kemotuiki
     private
 
     ! The version, as the file VERSION has it.
-    character(*), parameter, public :: kemotuiki_version = '3.3.0'
-    integer, parameter, public :: kemotuiki_version_major = 3, kemotuiki_version_minor = 3, kemotuiki_version_patch = 0
+    character(*), parameter, public :: kemotuiki_version = '4.0.0'
+    integer, parameter, public :: kemotuiki_version_major = 4, kemotuiki_version_minor = 0, kemotuiki_version_patch = 0
 
     ! Room that is enough for every n: images, rows of a tree, bytes of a stored table in either form, and in the old form alone; the
     ! tables of a team; characters of a Newick text; and bytes of a refusal's text.
@@ -73,6 +74,7 @@ module kemotuiki
         kemotuiki_above_old_limits = 17, &
         kemotuiki_outside_profile = 18, &
         kemotuiki_too_many_sides = 19, &
+        kemotuiki_zero_off_diagonal = 20, &
         kemotuiki_siblings_out_of_order = 22
 
     ! What all answers begin with: the refusal's number or 0, the table that was refused in calls that take more than one, and the
@@ -367,8 +369,8 @@ contains
 
     ! ---- the calls on cost tables ----
 
-    ! The index of the division of t with the far side s, below 0 by how far some choice of images speaks against it: from -16,000,000
-    ! to 16,000,000.
+    ! The index of the division of t with the far side s, below 0 by how far some choice of images speaks against it: from -15,999,998
+    ! to 15,999,999.
     function index_int64(t, s) result(r)
         integer(int32), intent(in), contiguous :: t(:, :)
         integer(int64), intent(in) :: s
@@ -703,8 +705,8 @@ contains
     end function
 
     ! Fortran has the columns of a table one after another in memory and C its rows, so that C is lent the transpose. Only refusal 4
-    ! tells them apart: it is given for both or for neither, before 5, 6, 7 and 17, which name the same places of both. So where t was
-    ! refused by 4, C is asked once more with t by rows; the index call looks for 4 before it looks at the far side.
+    ! tells them apart: it is given for both or for neither, before 5, 6, 20, 7 and 17, which name the same places of both. So where t
+    ! was refused by 4, C is asked once more with t by rows; the index call looks for 4 before it looks at the far side.
     subroutine place_by_rows(r, t)
         class(kemotuiki_answer), intent(inout) :: r
         integer(int32), intent(in) :: t(:, :)

@@ -1,7 +1,9 @@
 /*
  * Kemotuiki: relay trees from link costs.
  *
- * A cost table over n images, n from 3 to 64, is n*n numbers, row by row: each at most 8,000,000, zero diagonal, symmetric.
+ * A cost table over n images, n from 3 to 64, is n*n numbers, row by row: each at most 8,000,000, 0 on the diagonal and nowhere else,
+ * symmetric. A 0 between two different images is a link that nobody timed, and every call that takes a cost table refuses it, in a
+ * stored table that an earlier version wrote as well.
  * A division of the images is named by its far side, the group without image 1, as the sum of 2^(i-1) over its images i.
  * A link table is rows of a far side and a doubled cost, at most 16,000,000, far sides strictly ascending, from n to 2n-3 rows.
  * Images, rows, tables and events are counted from 1.
@@ -35,9 +37,9 @@
 #include <stdint.h>
 
 /* The version, as the file VERSION has it. */
-#define KEMOTUIKI_VERSION "3.3.0"
-#define KEMOTUIKI_VERSION_MAJOR 3
-#define KEMOTUIKI_VERSION_MINOR 3
+#define KEMOTUIKI_VERSION "4.0.0"
+#define KEMOTUIKI_VERSION_MAJOR 4
+#define KEMOTUIKI_VERSION_MINOR 0
 #define KEMOTUIKI_VERSION_PATCH 0
 
 /*
@@ -104,6 +106,7 @@ enum KemotuikiNumber {
     KEMOTUIKI_ABOVE_OLD_LIMITS = 17, /* number above the old limits, so not for the old form: row, and column of a cost table */
     KEMOTUIKI_OUTSIDE_PROFILE = 18,  /* outside the Newick profile: byte, the length plus one where the text ends too early */
     KEMOTUIKI_TOO_MANY_SIDES = 19,   /* more than 1,024 far sides in one report */
+    KEMOTUIKI_ZERO_OFF_DIAGONAL = 20, /* zero off the diagonal: row, column */
     KEMOTUIKI_SIBLINGS_OUT_OF_ORDER = 22 /* siblings of a Newick text out of order: byte */
 };
 
@@ -220,22 +223,22 @@ KEMOTUIKI_ASSERT(kemotuiki_report_size, sizeof(KemotuikiReport) == 120);
 /*
  * The index of the division with the far side s. Above 0, all choices of images support the division, by at least so much, and the
  * measured reading draws it with this doubled cost. At 0 and below, it draws no inner link, and an own link with cost 0; below 0,
- * some choice of images speaks against the division by so much, and none by more. Never above 16,000,000, never below -16,000,000,
- * for own links never below -8,000,000.
- * Answers the index. Refusals 1, 2, 4, 5, 6, 12.
+ * some choice of images speaks against the division by so much, and none by more. From -15,999,998 to 15,999,999, for own links from
+ * -7,999,998, for inner ones to 15,999,998.
+ * Answers the index. Refusals 1, 2, 4, 5, 6, 20, 12.
  */
 KemotuikiIndex kemotuiki_index(size_t n, const uint32_t *t, size_t t_count, uint64_t s);
 
 /*
  * The order around the tree from image first to image last, all images once.
- * Answers n, the images written to out. Room: n places. Refusals 1, 2, 3, 4, 5, 6, 8.
+ * Answers n, the images written to out. Room: n places. Refusals 1, 2, 3, 4, 5, 6, 20, 8.
  */
 KemotuikiOrder kemotuiki_order(size_t n, const uint32_t *t, size_t t_count, size_t first, size_t last,
                                uint32_t *KEMOTUIKI_RESTRICT out, size_t out_count);
 
 /*
  * The measured reading: each image's own link, and an inner row for every division with an index above 0.
- * Answers the rows written to fars and costs. Room: 2n-3 places in each. Refusals 1, 2, 3, 4, 5, 6.
+ * Answers the rows written to fars and costs. Room: 2n-3 places in each. Refusals 1, 2, 3, 4, 5, 6, 20.
  */
 KemotuikiRows kemotuiki_measured(size_t n, const uint32_t *t, size_t t_count,
                                  uint64_t *KEMOTUIKI_RESTRICT fars, size_t fars_count,
@@ -243,7 +246,7 @@ KemotuikiRows kemotuiki_measured(size_t n, const uint32_t *t, size_t t_count,
 
 /*
  * The exact reading: the one link table whose path costs are twice the entries.
- * Answers the rows written to fars and costs. Room: 2n-3 places in each. Refusals 1, 2, 3, 4, 5, 6, 7; 7 names the first
+ * Answers the rows written to fars and costs. Room: 2n-3 places in each. Refusals 1, 2, 3, 4, 5, 6, 20, 7; 7 names the first
  * four images for which no wiring can give the entries.
  */
 KemotuikiRows kemotuiki_exact(size_t n, const uint32_t *t, size_t t_count,
@@ -287,7 +290,7 @@ KemotuikiRows kemotuiki_route(size_t n, size_t count, const uint64_t *fars, size
  * Two cost tables compared by their exact readings. The disagreement, count / over, is not reduced and never above 1: it is 0
  * exactly when the trees have the same inner far sides, and 1 exactly when they have none in common and at least one exists. The
  * count is a distance between trees, their costs apart, and the disagreement is not.
- * Refusals 1 with table 0, then 2, 4, 5, 6, 7 of the first table and then of the second, with the table's number.
+ * Refusals 1 with table 0, then 2, 4, 5, 6, 20, 7 of the first table and then of the second, with the table's number.
  */
 KemotuikiComparison kemotuiki_compare(size_t n, const uint32_t *first, size_t first_count,
                                       const uint32_t *second, size_t second_count);
@@ -296,7 +299,7 @@ KemotuikiComparison kemotuiki_compare(size_t n, const uint32_t *first, size_t fi
  * The links that a team shares: the far sides that the exact readings of all its tables have, each with the smallest of its
  * doubled costs. The tables are 1 to 16, joined in one slice, table by table.
  * Answers the rows written to fars and costs, which are a link table. Room: 2n-3 places in each. Refusals 1, 16, 2, 3 with
- * table 0; then 4, 5, 6, 7 table by table, with the table's number.
+ * table 0; then 4, 5, 6, 20, 7 table by table, with the table's number.
  */
 KemotuikiRows kemotuiki_consensus(size_t n, size_t number, const uint32_t *tables, size_t tables_count,
                                   uint64_t *KEMOTUIKI_RESTRICT fars, size_t fars_count,
@@ -307,9 +310,9 @@ KemotuikiRows kemotuiki_consensus(size_t n, size_t number, const uint32_t *table
  * image 2 becomes image 1 where image 1 leaves. The rows start as the exact reading of t and are mended after each event: then they
  * are the exact reading of the cost table of the images that are left. With no events they stay as they start.
  * Answers the images that are left, and the rows written to fars and costs, which are those after the last event alone. Room: 2n-3
- * places in each, for the n of the start. Refusals 1, 2, 3, 4, 5, 6, 7 of the start, where event is 0 and nothing is altered; then event
- * by event 8, and 1, which names 2, where two would be left. The first event that is refused ends the replay, and those behind it are
- * not looked at: event is its number, and images and rows, which are written as in an accepted call, are those before it.
+ * places in each, for the n of the start. Refusals 1, 2, 3, 4, 5, 6, 20, 7 of the start, where event is 0 and nothing is altered; then
+ * event by event 8, and 1, which names 2, where two would be left. The first event that is refused ends the replay, and those behind it
+ * are not looked at: event is its number, and images and rows, which are written as in an accepted call, are those before it.
  */
 KemotuikiReplay kemotuiki_replay(size_t n, const uint32_t *t, size_t t_count, const uint8_t *events, size_t events_count,
                                  uint64_t *KEMOTUIKI_RESTRICT fars, size_t fars_count,
@@ -318,7 +321,7 @@ KemotuikiReplay kemotuiki_replay(size_t n, const uint32_t *t, size_t t_count, co
 /*
  * The stored form of a cost table, in the form that is told.
  * Answers the bytes written to out, each by one store; none is loaded. Room: those bytes, (7 + 10*n*(n-1) + 7) / 8 in the old form
- * and (14 + 23*n*(n-1)/2 + 7) / 8 in the new one. Refusals 1, 2, 4, 5, 6, 17, 3; 17 in the old form alone, at the lowest row and
+ * and (14 + 23*n*(n-1)/2 + 7) / 8 in the new one. Refusals 1, 2, 4, 5, 6, 20, 17, 3; 17 in the old form alone, at the lowest row and
  * column with an entry above KEMOTUIKI_OLD_ENTRY_LIMIT: the new form takes that table.
  */
 KemotuikiBytes kemotuiki_write_costs(size_t form, size_t n, const uint32_t *t, size_t t_count,
@@ -327,7 +330,7 @@ KemotuikiBytes kemotuiki_write_costs(size_t form, size_t n, const uint32_t *t, s
 /*
  * The stored cost table, in either form, that begins at a bit position, which is the start of a byte.
  * Answers n, of which n*n entries are written to out, and the used bytes: the next table begins at position + 8 * used.
- * Room: n*n places. Refusals 9, 1, 3, 9, 11, 4; 4 at an entry above the limit of its form.
+ * Room: n*n places. Refusals 9, 1, 3, 9, 11, 4, 20; 4 at an entry above the limit of its form.
  */
 KemotuikiCosts kemotuiki_read_costs(const uint8_t *bytes, size_t bytes_count, size_t position,
                                     uint32_t *KEMOTUIKI_RESTRICT out, size_t out_count);
@@ -353,10 +356,10 @@ KemotuikiLinks kemotuiki_read_links(const uint8_t *bytes, size_t bytes_count, si
 
 /*
  * A stored cost table once more, in the form that is told. It stands at the front of bytes in either form, and what follows it
- * plays no part. To the new form every table goes, with the same entries, and an old one from there back to the same bytes; to the
- * old form it goes where no entry is above KEMOTUIKI_OLD_ENTRY_LIMIT; to the form that it has it is copied.
+ * plays no part. To the new form every table without a zero off the diagonal goes, with the same entries, and an old one from there
+ * back to the same bytes; to the old form it goes where no entry is above KEMOTUIKI_OLD_ENTRY_LIMIT; to the form that it has it is copied.
  * Answers the bytes written to out, each by one store; none is loaded. Room: those bytes, as of kemotuiki_write_costs. Refusals 9,
- * 1, 9, 11, 4, 17, 3.
+ * 1, 9, 11, 4, 20, 17, 3.
  */
 KemotuikiBytes kemotuiki_convert_costs(size_t form, const uint8_t *bytes, size_t bytes_count,
                                        uint8_t *KEMOTUIKI_RESTRICT out, size_t out_count);
@@ -398,9 +401,9 @@ KemotuikiChoice kemotuiki_choice(const uint8_t *first, size_t first_count, const
  * Answers the figures, and writes in ascending order each inner far side that some tree has to fars, in how many trees it is to trees,
  * and the sum of its doubled costs to sums: its mean cost, doubled, is sums[k] / trees[k], two whole numbers and never a rounded one.
  * Room: KEMOTUIKI_REPORT_SIDES places in each of the three, also where fewer are written. Refusals 3 with table 0, where nothing is
- * altered and all figures are 0; then table by table, with its number, 9, 1, 9, 11, 4 as of kemotuiki_read_costs; 15, an n other than
- * that of the first table; 19, where more far sides would be kept than there are places for. The first table that is refused ends the
- * report: it counts in nothing, and the figures and the places written are those of the tables before it, as in an accepted call.
+ * altered and all figures are 0; then table by table, with its number, 9, 1, 9, 11, 4, 20 as of kemotuiki_read_costs; 15, an n other
+ * than that of the first table; 19, where more far sides would be kept than there are places for. The first table that is refused ends
+ * the report: it counts in nothing, and the figures and the places written are those of the tables before it, as in an accepted call.
  */
 KemotuikiReport kemotuiki_report(const uint8_t *bytes, size_t bytes_count,
                                  uint64_t *KEMOTUIKI_RESTRICT fars, size_t fars_count,

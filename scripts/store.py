@@ -15,12 +15,14 @@ version 3 read no other; the new form is for costs to 8,000,000. A matrix is pri
 Text has one row a line: whole numbers with blanks, tabs, commas or semicolons between them. Empty lines and lines that begin
 with # are skipped. There are three shapes, and the one that more lines fit is meant:
 
-    matrix                 n lines of n numbers, the diagonal 0, and d(i,j) = d(j,i)
+    matrix                 n lines of n numbers, 0 on the diagonal and nowhere else, and d(i,j) = d(j,i)
     upper triangle         line i has d(i,i+1), .., d(i,n), so the lines have n-1, n-2, .., 1 numbers
     the same, diagonal     line i has d(i,i), .., d(i,n), so the lines have n, n-1, .., 1 numbers
 
-Both triangles have lines of the same lengths. Three or more lines that all begin with 0 are one with its diagonal, and a note
-says so; a table in which d(1,2), d(2,3), .. are all 0 is given as a matrix.
+Both triangles have lines of the same lengths. Where each line begins with 0 it is one with its diagonal, and a note says so.
+
+A 0 between two different images is a link that nobody timed, and is refused. A stored table that has one, as programs before
+version 4 wrote it, is still printed as a matrix, and a note names the first.
 
 Status 0; 1 where the table is refused or cannot be read, with a message on standard error and nothing on standard output; 2
 where the arguments are wrong.
@@ -61,6 +63,11 @@ def pairs(n):
     return [(i, j) for i in range(1, n + 1) for j in range(i + 1, n + 1)]
 
 
+def first_zero(n, costs):
+    """Row and column of the first 0 of the upper triangle, in words, or None."""
+    return next((f"row {row}, column {column}: 0" for (row, column), cost in zip(pairs(n), costs) if cost == 0), None)
+
+
 def cost_of(word, row, column, *line, most=MOST_COST):
     """The cost that the word is, or what is wrong with it."""
     try:
@@ -94,7 +101,7 @@ def shape_of(rows):
         if set(lengths) != {count} and len(set(lengths)) == 1:
             raise Refused(f"{counted(count, 'row')} of {counted(lengths[0], 'number')}, and a matrix has as many rows as columns")
         return "a matrix", count, [count] * count
-    if count < FEWEST_IMAGES or any(words[0].strip("0") for words, _ in rows):
+    if any(words[0].strip("0") for words, _ in rows):
         return "an upper triangle", count + 1, falling
     note(f"each line begins with 0, so this is an upper triangle with its diagonal, of {count} images")
     return "an upper triangle with diagonal", count, falling
@@ -153,15 +160,21 @@ def from_stored(data):
         raise Refused(f"the bits that fill byte {used}, the last of {n} images, are not zero")
     fields = [bits[at:at + cost_bits] for at in range(start, end, cost_bits)]
     costs = [cost_of(str(int(field, 2)), row, column, most=most) for field, (row, column) in zip(fields, pairs(n))]
+    zero = first_zero(n, costs)
+    if zero:
+        note(f"{zero}, a link that nobody timed; every call refuses this table with 20")
     if len(data) > used:
         note(f"{counted(len(data) - used, 'byte')} behind the table of {used} bytes, not looked at")
     return n, costs
 
 
 def stored(form, n, costs):
-    """The stored form: fields of bits, the most significant first, and zeros behind them to a whole byte. The old form is
-    refused where a cost is above its limit."""
+    """The stored form: fields of bits, the most significant first, and zeros behind them to a whole byte. It is refused where
+    two different images cost nothing, and the old form where a cost is above its limit."""
     mark, cost_bits, most = FORMS[form]
+    zero = first_zero(n, costs)
+    if zero:
+        raise Refused(f"{zero}, and two different images must cost something")
     for cost, (row, column) in zip(costs, pairs(n)):
         if cost > most:
             raise Refused(f"row {row}, column {column}: {cost} is above {most:,}, the limit of the old form; --form new takes it")

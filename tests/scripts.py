@@ -106,13 +106,14 @@ def test_shapes():
 
 
 def test_which_triangle():
-    """Two lines are of three images; of more lines the zeros in front decide."""
-    check("two lines", run("store.py", given=b"0 7\n0\n"), (0, stored_of(3, [0, 7, 0]), ""))
+    """The zeros in front of the lines decide."""
+    check("two lines", run("store.py", given=b"1 7\n2\n"), (0, stored_of(3, [1, 7, 2]), ""))
+    check("three lines", run("store.py", given=b"1 7 8\n2 9\n3\n"), (0, stored_of(4, [1, 7, 8, 2, 9, 3]), ""))
     check("three lines, zeros", run("store.py", given=b"0 7 8\n0 9\n0\n"), (0, stored_of(3, [7, 8, 9]), WITH_DIAGONAL.format(3)))
-    check("three lines, one not zero", run("store.py", given=b"0 7 8\n0 9\n1\n"), (0, stored_of(4, [0, 7, 8, 0, 9, 1]), ""))
 
 
 TOO_LARGE_FOR_OLD = ", the limit of the old form; --form new takes it"
+COSTS_NOTHING = "row {}, column {}: 0, and two different images must cost something"
 # What is given, and the message without the script's name and "standard input".
 REFUSED_TEXTS = (
     ("", "there are no numbers ({})"),
@@ -130,6 +131,16 @@ REFUSED_TEXTS = (
     ("1 -3\n2\n", "row 1, column 3: -3 is below 0 ({}, line 1)"),
     ("0 1 1\n1 0 1\n1 1 5\n", "row 3, column 3: the diagonal must be 0, and it is 5 ({})"),
     ("0 1 2\n1 0 4\n2 5 0\n", "rows 2 and 3: d(2,3) is 4 and d(3,2) is 5 ({})"),
+    ("0 0 0\n0 0 0\n0 0 0\n", COSTS_NOTHING.format(1, 2) + " ({})"),
+    ("0 1 1\n1 0 0\n1 0 0\n", COSTS_NOTHING.format(2, 3) + " ({})"),
+    ("0 7 8\n0 9\n1\n", COSTS_NOTHING.format(1, 2) + " ({})"),
+    ("1 7 0\n2 0\n3\n", COSTS_NOTHING.format(1, 4) + " ({})"),
+    ("0 7 8\n0 00\n0\n", COSTS_NOTHING.format(2, 3) + " ({})"),
+    ("0 0 1\n0 0 8000001\n1 8000001 0\n", "row 2, column 3: 8000001 is above 8,000,000 ({}, line 2)"),
+    ("0 0 1\n0 0 1\n1 1 5\n", "row 3, column 3: the diagonal must be 0, and it is 5 ({})"),
+    ("0 0 2\n0 0 4\n2 5 0\n", "rows 2 and 3: d(2,3) is 4 and d(3,2) is 5 ({})"),
+    ("0 0 2\n3 0 4\n2 4 0\n", "rows 1 and 2: d(1,2) is 0 and d(2,1) is 3 ({})"),
+    ("1000001 2\n0\n", COSTS_NOTHING.format(2, 3) + " ({})"),
     ("0 1 1 1 1\n" * 3 + "1 1 1\n1 1 1 1 0\n", "row 4 has 3 numbers, and a matrix of 5 images has 5 in each row ({}, line 4)"),
     ("1 1 1\n" + "0 1 1 1\n" * 3, "row 1 has 3 numbers, and a matrix of 4 images has 4 in each row ({}, line 1)"),
     ("1 2 3\n4 5\n6 7\n", "row 3 has 2 numbers, and an upper triangle of 4 images has 1 there ({}, line 3)"),
@@ -138,6 +149,7 @@ REFUSED_TEXTS = (
     ("1 2 3 4 5 6\n", "1 row of 6 numbers, and a matrix has as many rows as columns ({})"),
     ("0\n", "1 image, and it must be 3 to 64 ({})"),
     ("0 1\n1 0\n", "2 images, and it must be 3 to 64 ({})"),
+    ("0 7\n0\n", "2 images, and it must be 3 to 64 ({})"),
     ("0 " * 65 + "\n", "1 row of 65 numbers, and a matrix has as many rows as columns ({})"),
     (("0 " * 65 + "\n") * 65, "65 images, and it must be 3 to 64 ({})"),
 )
@@ -151,6 +163,10 @@ REFUSED_ARGUMENTS = (
     ("3 1 1000001 1", "row 1, column 3: 1000001 is above 1,000,000" + TOO_LARGE_FOR_OLD),
     ("--form old 3 1 1000001 1", "row 1, column 3: 1000001 is above 1,000,000" + TOO_LARGE_FOR_OLD),
     ("--form new 3 1 8000001 1", "row 1, column 3: 8000001 is above 8,000,000"),
+    ("3 0 0 0", COSTS_NOTHING.format(1, 2)),
+    ("--form new 4 2 4 4 4 0 0", COSTS_NOTHING.format(2, 4)),
+    ("3 0 8000001 1", "row 1, column 3: 8000001 is above 8,000,000"),
+    ("3 1000001 0 1", COSTS_NOTHING.format(1, 3)),
     ("nowhere", "nowhere cannot be read: No such file or directory"),
 )
 
@@ -165,7 +181,7 @@ def test_messages():
         status, answer, said = run("store.py", given=given.encode())
         note, found, rest = said.rpartition("store.py: ")
         check(f"the text {short(given)}", (status, answer, found + rest), refusal(words.format("standard input")))
-        check(f"what is said before, of {short(given)}", note in ("", WITH_DIAGONAL.format(4), WITH_DIAGONAL.format(3)))
+        check(f"what is said before, of {short(given)}", note in ("", *map(WITH_DIAGONAL.format, (2, 3, 4))))
     in_file = refusal('row 2, column 3: "x" is no number (bad.txt, line 2)')
     check("in a file", run("store.py", put("bad.txt", b"1 2\nx\n")), in_file)
     no_text = refusal("this is no text: byte 5 is no part of a character (standard input)")
@@ -197,7 +213,7 @@ def test_limits_of_n():
     for n in (3, 64):
         for shape in ("matrix", "triangle", "diagonal"):
             for name, form in (("old", law.OLD), ("new", law.NEW)):
-                upper = [form.most_entry, 0, 1] * (n * (n - 1) // 6)
+                upper = [form.most_entry, 1, 2] * (n * (n - 1) // 6)
                 answer = run("store.py", "--form", name, given=text_of(rows_of(n, upper, shape)))
                 check(f"{shape} of {n}, {name} form", answer[:2], (0, stored_of(n, upper, form)))
 
@@ -206,13 +222,27 @@ def test_round_trips(dice):
     """Stored, printed as a matrix, and stored again; the matrix is the one that is made here."""
     for n in (3, 4, 9, 33, 64):
         for most, name, form in ((9, "old", law.OLD), (1_000_000, "old", law.OLD), (8_000_000, "new", law.NEW)):
-            upper = [dice.between(0, most) for _ in law.pairs(n)]
+            upper = [dice.between(1, most) for _ in law.pairs(n)]
             table = stored_of(n, upper, form)
             status, text, said = run("store.py", "--matrix", put("table", table))
             wide = len(str(max(upper)))
             wanted = [[str(cost).rjust(wide) for cost in row] for row in rows_of(n, upper, "matrix")]
             check(f"the matrix of {n} images", (status, text, said), (0, text_of(wanted), ""))
             check(f"{n} images stored again", run("store.py", "--form", name, given=text), (0, table, ""))
+
+
+UNTIMED = "store.py: row {}, column {}: 0, a link that nobody timed; every call refuses this table with 20\n"
+
+
+def test_untimed_links():
+    """Stored tables with zeros off the diagonal are printed, and the first zero is named; what was printed is refused as text."""
+    for n, upper, zero in ((3, [0, 0, 0], (1, 2)), (4, [2, 4, 4, 4, 0, 2], (2, 4)), (64, [7] * 2015 + [0], (63, 64))):
+        wanted = text_of(rows_of(n, upper, "matrix"))
+        for form in (law.OLD, law.NEW):
+            answer = run("store.py", "--matrix", given=stored_of(n, upper, form))
+            check(f"the matrix of {n} images, {zero} untimed", answer, (0, wanted, UNTIMED.format(*zero)))
+        again = refusal(COSTS_NOTHING.format(*zero) + " (standard input)")
+        check(f"{zero} untimed, stored again", run("store.py", given=wanted), again)
 
 
 REFUSED_BYTES = {
@@ -227,22 +257,28 @@ REFUSED_BYTES = {
 
 
 def test_stored_bytes():
-    """The inputs of the listing program: printed and stored again, or refused where the independent program refuses them."""
+    """The inputs of the listing program: printed and stored again, or refused where the independent program refuses them. Where it
+    refuses with 20 the table is printed with a note, and cannot be stored again."""
     for path in sorted(glob.glob(os.path.join(ROOT, "tests/listing/*.stdin"))):
         name = os.path.basename(path)[:-len(".stdin")]
-        data, room = kept(path), [0] * 64 * 64
-        number, *places = law.read_costs(list(data), 0, room)
+        data = kept(path)
+        number, *places = law.read_costs(list(data), 0, [0] * 64 * 64)
         status, text, said = run("store.py", "--matrix", given=data)
-        if number:
+        if number not in (0, 20):
             check(f"the bytes {name}", (status, text, said), refusal(REFUSED_BYTES.get(name, "?") + " (standard input)"))
             continue
-        n, used = places[:2]
-        check(f"the matrix of {name}", [int(word) for word in text.split()], room[:n * n])
-        form = "new" if data[0] >= 254 else "old"
-        check(f"{name} stored again", run("store.py", "--form", form, "-", given=text), (0, data[:used], ""))
-        over = len(data) - used
-        note = f"store.py: {over} byte{'s' * (over != 1)} behind the table of {used} bytes, not looked at\n"
-        check(f"said of {name}", said, note if over else "")
+        rows = [[int(word) for word in line.split()] for line in text.splitlines()]
+        n, form = len(rows), "new" if data[0] >= 254 else "old"
+        upper = [rows[i - 1][j - 1] for i, j in law.pairs(n)]
+        table = stored_of(n, upper, law.NEW if form == "new" else law.OLD)
+        check(f"the matrix of {name}", (rows, table), (rows_of(n, upper, "matrix"), data[:len(table)]))
+        zero = next((pair for pair, cost in zip(law.pairs(n), upper) if cost == 0), ())
+        check(f"the first zero of {name}", number == 0 or tuple(places[:2]) == zero)
+        again = refusal(COSTS_NOTHING.format(*zero) + " (standard input)") if zero else (0, table, "")
+        check(f"{name} stored again", run("store.py", "--form", form, "-", given=text), again)
+        over = len(data) - len(table)
+        note = f"store.py: {over} byte{'s' * (over != 1)} behind the table of {len(table)} bytes, not looked at\n"
+        check(f"said of {name}", said, (UNTIMED.format(*zero) if zero else "") + (note if over else ""))
 
 
 # Drawings. Places are whole tenths, so all of this is exact.
@@ -405,6 +441,7 @@ with tempfile.TemporaryDirectory() as work:
     test_forms()
     test_limits_of_n()
     test_round_trips(law.Dice(1))
+    test_untimed_links()
     test_stored_bytes()
     test_drawings(law.Dice(2))
     test_kept_drawing()

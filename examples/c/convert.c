@@ -1,5 +1,6 @@
-/* A stored cost table of four images goes into the new form, and back into the same bytes. With a cost above the old limits it stays in
- * the new form, and the refusal says where that cost stands. */
+/* A stored cost table of four images goes into the new form, and back into the same bytes. With a link that nobody timed, which versions
+ * before 4 stored as 0, it goes nowhere; with a cost above the old limits it stays in the new form. The refusals say where that link and
+ * that cost stand. */
 #include <kemotuiki.h>
 #include <stdio.h>
 #include <string.h>
@@ -14,6 +15,12 @@ int main(void) {
     int same = !returned.number && returned.used == stored.used && !memcmp(back, old_bytes, stored.used);
     printf("%zu bytes in the old form, %zu in the new one, and back: %s\n", stored.used, converted.used,
            same ? "the same" : "not the same");
+
+    /* The last byte ends with the cost of images 3 and 4. */
+    old_bytes[stored.used - 1] = 0;
+    converted = kemotuiki_convert_costs(KEMOTUIKI_NEW_FORM, old_bytes, stored.used, new_bytes, sizeof new_bytes);
+    kemotuiki_refusal_text(KEMOTUIKI_HEAD(converted), text, sizeof text);
+    printf("%zu bytes in the old form, and in none from now on: %s\n", stored.used, text);
 
     table[3] = table[12] = 1500000;
     stored = kemotuiki_write_costs(KEMOTUIKI_NEW_FORM, 4, table, 16, new_bytes, sizeof new_bytes);

@@ -1,5 +1,5 @@
-/* Sixty-four images on a line of switches, read exactly by both engines, and once more with one entry too high: the same rows, and
- * the same refusal. */
+/* Sixty-four images on a line of switches, read exactly by both engines; once more with one entry too high, and with a link that nobody
+ * timed: the same rows, and the same refusals. */
 #include <kemotuiki.h>
 #include <stdio.h>
 #include <string.h>
@@ -26,6 +26,8 @@ int main(void) {
         for (size_t j = 0; j < N; j++) table[i * N + j] = i == j ? 0 : 2 + (uint32_t)(i < j ? j - i : i - j);
     read_both();
     table[61 * N + 63]++, table[63 * N + 61]++;
+    read_both();
+    table[4 * N + 6] = table[6 * N + 4] = 0;
     read_both();
     return 0;
 }

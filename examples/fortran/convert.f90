@@ -1,5 +1,6 @@
-! A stored cost table of four images goes into the new form, and back into the same bytes. With a cost above the old limits it stays in
-! the new form, and the refusal says where that cost stands.
+! A stored cost table of four images goes into the new form, and back into the same bytes. With a link that nobody timed, which versions
+! before 4 stored as 0, it goes nowhere; with a cost above the old limits it stays in the new form. The refusals say where that link and
+! that cost stand.
 program convert
     use, intrinsic :: iso_fortran_env, only: int8
     use kemotuiki, only: kemotuiki_bytes_answer, kemotuiki_convert_costs, kemotuiki_cost_bytes, kemotuiki_new_form, &
@@ -17,6 +18,11 @@ program convert
     if (same) same = all(back(:stored%used) == old_bytes(:stored%used))
     print '(2(i0, a), a)', stored%used, ' bytes in the old form, ', converted%used, ' in the new one, and back: ', &
         trim(merge('the same    ', 'not the same', same))
+
+    ! The last byte ends with the cost of images 3 and 4.
+    old_bytes(stored%used) = 0_int8
+    converted = kemotuiki_convert_costs(kemotuiki_new_form, old_bytes(:stored%used), new_bytes)
+    print '(i0, 2a)', stored%used, ' bytes in the old form, and in none from now on: ', converted%text()
 
     t(1, 4) = 1500000
     t(4, 1) = 1500000
