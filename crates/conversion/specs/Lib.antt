@@ -8,5 +8,7 @@ pub mod Laws
 -- What the promises are worth.
 pub mod ConvertedCosts
 pub mod ConvertedLinks
+-- Tables that were stored while two images could cost nothing.
+pub mod Zeros
 -- Examples that antt computes.
 pub mod Examples

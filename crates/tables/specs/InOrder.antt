@@ -12,8 +12,19 @@ use Rattle.ground.specs.Refusals.{refusal}
 use Rattle.ground.specs.Steps.{Step, _by_}
 use Rattle.theory.specs.Checks.{imagesCheck}
 use Rattle.theory.specs.Laws.InOrder.{images-order}
-use Rattle.tables.specs.Checks.{costsCheck, diagonalCheck, entriesCheck, entryCheck, leastCheck, lengthCheck, mirrorCheck, offDiagonalCheck, sizeCheck,
-    symmetryCheck, zeroCheck}
+use Rattle.tables.specs.Checks.{
+  costsCheck,
+  diagonalCheck,
+  entriesCheck,
+  entryCheck,
+  leastCheck,
+  lengthCheck,
+  mirrorCheck,
+  offDiagonalCheck,
+  sizeCheck,
+  symmetryCheck,
+  zeroCheck,
+}
 use Rattle.tables.specs.Laws.Pairs.{pairs-only}
 
 -- 2

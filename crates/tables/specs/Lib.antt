@@ -4,5 +4,7 @@ pub mod Checks
 pub mod Formed
 -- What is true of them.
 pub mod Laws
+-- What 20 says.
+pub mod Zeros
 -- Its checks by their numbers, in order.
 pub mod InOrder

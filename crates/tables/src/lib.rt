@@ -5,8 +5,17 @@ ghost use Prim.Native.Nat.{_+_, _-_, _<_, _≤_, _*_};
 ghost use Rattle.ground.specs.Lowest.{checkAll};
 ghost use Rattle.theory.specs.Tables.{limit, cost, CostTable};
 ghost use Rattle.ground.specs.Refusals.{_then_};
-ghost use Rattle.tables.specs.Checks.{sizeCheck, entryCheck, entriesCheck, zeroCheck, diagonalCheck, pairCheck, symmetryCheck, offDiagonalCheck,
-    costsCheck};
+ghost use Rattle.tables.specs.Checks.{
+  sizeCheck,
+  entryCheck,
+  entriesCheck,
+  zeroCheck,
+  diagonalCheck,
+  pairCheck,
+  symmetryCheck,
+  offDiagonalCheck,
+  costsCheck,
+};
 ghost use Rattle.tables.specs.Formed.{Sized};
 ghost use Rattle.tables.specs.Pairs.{pairsCheck};
 

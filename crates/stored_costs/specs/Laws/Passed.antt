@@ -41,13 +41,13 @@ module _ (L : ℕ) (f : ℕ → ℕ) (n : ℕ) where
   values-passed e i j h k =
       let p = then-passed (storedCheck L d n) (offDiagonalCheck d n) e in
       rw (← (cost-of-up f n i j h))
-      (ltb-false L (d i j) (refuseIf-passed (ltb L (d i j)) _ (pairs-passed (entryCheck L d) n (p .0) i j h k)), off-diagonal-passed L d n (p .1) i j h k)
+      (ltb-false L (d i j) (refuseIf-passed (ltb L (d i j)) _ (pairs-passed (entryCheck L d) n (p .0) i j h k)), off-diagonal-passed d n (p .1) i j h k)
 
   pub passed-values : ((i j : ℕ) → i < j → j < n → f (entryNumber n i j) ≤ L) → ((i j : ℕ) → i < j → j < n → 0 < f (entryNumber n i j))
       → valuesCheck L d n ≡ Passed
   passed-values h g =
       rw (passed-pairs (entryCheck L d) n (λ i j l k. rw (cost-of-up f n i j l, le-ltb L (f (entryNumber n i j)) (h i j l k))))
-      (passed-off-diagonal L d n (λ i j l k. rw (cost-of-up f n i j l) (g i j l k)))
+      (passed-off-diagonal d n (λ i j l k. rw (cost-of-up f n i j l) (g i j l k)))
 
 -- ## Refusals 9, 1, 3, and 9, 11
 

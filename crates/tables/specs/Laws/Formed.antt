@@ -17,8 +17,19 @@ use Rattle.ground.specs.declared.Check.the-variants.{Passed}
 use Rattle.theory.specs.Checks.{imagesCheck}
 use Rattle.theory.specs.Laws.Checks.{images-passed}
 use Rattle.theory.specs.Tables.{CostTable, WellFormed, cost}
-use Rattle.tables.specs.Checks.{costsCheck, diagonalCheck, entriesCheck, entryCheck, leastCheck, lengthCheck, mirrorCheck, offDiagonalCheck, sizeCheck,
-    symmetryCheck, zeroCheck}
+use Rattle.tables.specs.Checks.{
+  costsCheck,
+  diagonalCheck,
+  entriesCheck,
+  entryCheck,
+  leastCheck,
+  lengthCheck,
+  mirrorCheck,
+  offDiagonalCheck,
+  sizeCheck,
+  symmetryCheck,
+  zeroCheck,
+}
 use Rattle.tables.specs.Laws.Pairs.{pairs-passed, passed-pairs}
 use Rattle.tables.specs.Formed.{Sized}
 
@@ -37,7 +48,7 @@ passed-size n t s = rw (le-ltb n 3 (s .some), le-ltb 64 n (s .few), eq-eqb (leng
 
 -- ## 4, 5, 6 and 20
 
-module _ (L : ℕ) (d : ℕ → ℕ → ℕ) (n : ℕ) where
+module _ (d : ℕ → ℕ → ℕ) (n : ℕ) where
   mirrored : symmetryCheck d n ≡ Passed → (i j : ℕ) → i < n → j < n → d i j ≡ d j i
   mirrored e i j hi hj =
       cases (ltb i j) (λ t. upper i j (ltb-true i j t) hj)
@@ -49,19 +60,20 @@ module _ (L : ℕ) (d : ℕ → ℕ → ℕ) (n : ℕ) where
           let m = pairs-passed (mirrorCheck d) n e i j l hj in
           eqb-true (d i j) (d j i) (not-false (eqb (d i j) (d j i)) (refuseIf-passed (not (eqb (d i j) (d j i))) _ m))
 
-  -- 20 alone, of any table
+  -- 20, of any numbers
   pub off-diagonal-passed : offDiagonalCheck d n ≡ Passed → (i j : ℕ) → i < j → j < n → 0 < d i j
   off-diagonal-passed e i j l hj = ltb-false (d i j) 1 (refuseIf-passed (ltb (d i j) 1) _ (pairs-passed (leastCheck 1 d) n e i j l hj))
 
   pub passed-off-diagonal : ((i j : ℕ) → i < j → j < n → 0 < d i j) → offDiagonalCheck d n ≡ Passed
   passed-off-diagonal h = passed-pairs (leastCheck 1 d) n (λ i j l k. rw (le-ltb (d i j) 1 (h i j l k)))
 
+module _ (L : ℕ) (d : ℕ → ℕ → ℕ) (n : ℕ) where
   pub costs-passed : costsCheck L d n ≡ Passed → WellFormed L d n
   costs-passed e =
       let p = then-passed (entriesCheck L d n) (diagonalCheck d n then symmetryCheck d n then offDiagonalCheck d n) e in
       let q = then-passed (diagonalCheck d n) (symmetryCheck d n then offDiagonalCheck d n) (p .1) in
       let r = then-passed (symmetryCheck d n) (offDiagonalCheck d n) (q .1) in
-      let above = off-diagonal-passed (r .1) in
+      let above = off-diagonal-passed d n (r .1) in
       record {
         small = λ {i} {j} hi hj.
             let r = all-passed (λ i. checkAll (entryCheck L d i) 0 n) 0 n (p .0) i (omega arith) (omega arith) in
@@ -69,9 +81,9 @@ module _ (L : ℕ) (d : ℕ → ℕ → ℕ) (n : ℕ) where
         self =
             λ {i} hi. omega
             (arith, ltb-false 0 (d i i) (refuseIf-passed (ltb 0 (d i i)) _ (all-passed (zeroCheck d) 0 n (q .0) i (omega arith) (omega arith))));
-        same = λ {i} {j} hi hj. mirrored (r .0) i j hi hj;
+        same = λ {i} {j} hi hj. mirrored d n (r .0) i j hi hj;
         nonzero = λ {i} {j} hi hj h. cases (ltb i j) (λ t. above i j (ltb-true i j t) hj)
-            (λ t. omega (arith, mirrored (r .0) i j hi hj, above j i (let u = ltb-false i j t in omega (arith, h)) hi));
+            (λ t. omega (arith, mirrored d n (r .0) i j hi hj, above j i (let u = ltb-false i j t in omega (arith, h)) hi));
       }
 
   pub passed-costs : WellFormed L d n → costsCheck L d n ≡ Passed
@@ -82,7 +94,7 @@ module _ (L : ℕ) (d : ℕ → ℕ → ℕ) (n : ℕ) where
         passed-all (zeroCheck d) 0 n (λ i l h. rw (le-ltb 0 (d i i) (omega (arith, c .self {i = i} (omega arith))))),
         passed-pairs (mirrorCheck d) n (λ i j l k. rw (eq-eqb (d i j) (d j i) (c .same (omega arith) (omega arith)))),
       )
-      (passed-off-diagonal (λ i j l k. c .nonzero (omega arith) k (λ e. omega arith)))
+      (passed-off-diagonal d n (λ i j l k. c .nonzero (omega arith) k (λ e. omega arith)))
 
 -- ## Together
 

@@ -6,14 +6,14 @@ use borrow.Author.Tests.{le-ltb}
 use Rattle.ground.specs.InOrder.{Only}
 use Rattle.ground.specs.Lowest.{checkAll}
 use Rattle.ground.specs.Laws.InOrder.{all-only}
-use Rattle.ground.specs.Laws.Lowest.{all-agree, all-passed, passed-all}
+use Rattle.ground.specs.Laws.Lowest.{all-agree, all-passed, all-refused, passed-all}
 use Rattle.ground.specs.Refusals.{_then_}
 use Rattle.ground.specs.Laws.Refusals.{then-goes, then-none, then-passed, then-stops}
 use Rattle.ground.specs.declared.Check.{Check}
 use Rattle.ground.specs.declared.Check.the-variants.{Passed, Refused}
 use Rattle.ground.specs.declared.Refusal.{Refusal}
 use Rattle.tables.specs.Checks.{leastCheck}
-use Rattle.tables.specs.Pairs.{pairsCheck}
+use Rattle.tables.specs.Pairs.{LowestPair, pairsCheck}
 
 module _ (c : ℕ → ℕ → Check) (n : ℕ) where
   pub pairs-passed : pairsCheck c n ≡ Passed → (i j : ℕ) → i < j → j < n → c i j ≡ Passed
@@ -25,6 +25,20 @@ module _ (c : ℕ → ℕ → Check) (n : ℕ) where
   passed-pairs h =
       passed-all (λ i. checkAll (c i) (i + 1) (n - (i + 1))) 0 n
       (λ i l u. passed-all (c i) (i + 1) (n - (i + 1)) (λ j m v. h i j (omega arith) (omega arith)))
+
+  pub pairs-refused : (r : Refusal) → pairsCheck c n ≡ Refused r → LowestPair c n r
+  pairs-refused r e =
+      let i = all-refused (λ i. checkAll (c i) (i + 1) (n - (i + 1))) 0 n r e in
+      let j = all-refused (c (i .place)) (i .place + 1) (n - (i .place + 1)) r (i .refused) in
+      record {
+        row = i .place;
+        column = j .place;
+        above = omega (arith, j .least);
+        within = omega (arith, j .least, j .most);
+        refused = j .refused;
+        rows-before = λ x y h l k. all-passed (c x) (x + 1) (n - (x + 1)) (i .below x (omega arith) h) y (omega arith) (omega arith);
+        columns-before = λ y l k. j .below y (omega arith) k;
+      }
 
   pub pairs-only : (k : ℕ) → ((i j : ℕ) → Only k (c i j)) → Only k (pairsCheck c n)
   pairs-only k h = all-only k (λ i. checkAll (c i) (i + 1) (n - (i + 1))) 0 n (λ i. all-only k (c i) (i + 1) (n - (i + 1)) (h i))

@@ -96,9 +96,11 @@ module _ (L k : ℕ) (T : List Row) (t : LinkTable L (suc (suc k)) T) where
 
   path-small : (i j : ℕ) → table i j ≤ all
   path-small i j =
-      omega
-      (arith, sum-le (λ r. when (apart (r .0) i j) (r .1)) (λ r. r .1) (map raised T)
-      (λ r m. cases (apart (r .0) i j) (λ e. rw e (omega arith)) (λ e. rw e (omega arith))))
+      omega (
+        arith,
+        sum-le (λ r. when (apart (r .0) i j) (r .1)) (λ r. r .1) (map raised T)
+            (λ r m. cases (apart (r .0) i j) (λ e. rw e (omega arith)) (λ e. rw e (omega arith))),
+      )
 
   own-apart : (i j : ℕ) → i < n → j < n → (i ≡ j → ⊥) → apart (own n i) i j ≡ true
   own-apart i j hi hj h = own-parts n i i j hi hj ∙ rw (eq-eqb i i refl, ne-eqb i j h)
