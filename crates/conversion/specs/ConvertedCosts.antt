@@ -13,7 +13,7 @@ use Rattle.bits.specs.Bits.{AllBytes}
 use Rattle.bits.specs.Editions.{editionOf}
 use Rattle.bits.specs.declared.Edition.{Edition}
 use Rattle.bits.specs.declared.Edition.the-variants.{New, Old}
-use Rattle.stored_costs.specs.Form.{costBytes, costForm, costFormAt}
+use Rattle.cost_forms.specs.Form.{costBytes, costForm, costFormAt}
 use Rattle.stored_costs.specs.Laws.Enough.{table-readable, table-said, table-stored}
 use Rattle.stored_costs.specs.Laws.Told.{costs-marked, either-written}
 use Rattle.stored_costs.specs.Laws.WriteBack.{read-table, read-written}

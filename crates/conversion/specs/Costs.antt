@@ -12,8 +12,8 @@ use Rattle.ground.specs.declared.Written.{Written}
 use Rattle.theory.specs.Tables.{cost}
 use Rattle.bits.specs.declared.Edition.{Edition}
 use Rattle.bits.specs.declared.Form.{Form}
-use Rattle.stored_costs.specs.Form.{costForm, costFormAt, costUsed}
-use Rattle.stored_costs.specs.Said.{imagesOf, storedTable}
+use Rattle.cost_forms.specs.Form.{costForm, costFormAt, costUsed}
+use Rattle.cost_forms.specs.Said.{imagesOf, storedTable}
 use Rattle.stored_costs.specs.Reading.{tableChecks}
 use Rattle.cost_limits.specs.Checks.{fitCheck}
 use Rattle.cost_writer.specs.Writing.{storeChecks, storedIf}

@@ -23,10 +23,10 @@ use Rattle.bits.specs.Forms.{bytesFor}
 use Rattle.bits.specs.Kinds.{endCheck}
 use Rattle.bits.specs.declared.Edition.{Edition}
 use Rattle.bits.specs.declared.Edition.the-variants.{New}
-use Rattle.stored_costs.specs.Entries.{entryCost}
-use Rattle.stored_costs.specs.Form.{costFormAt}
-use Rattle.stored_costs.specs.Said.{entryOf}
-use Rattle.stored_costs.specs.Laws.Tables.{table-cost}
+use Rattle.cost_forms.specs.Entries.{entryCost}
+use Rattle.cost_forms.specs.Form.{costFormAt}
+use Rattle.cost_forms.specs.Said.{entryOf}
+use Rattle.cost_forms.specs.Laws.Tables.{table-cost}
 use Rattle.stored_costs.specs.Reading.{bodyChecks, storedCheck, tableChecks, valuesCheck}
 use Rattle.conversion.specs.ConvertedCosts.{to-new-always}
 use Rattle.conversion.specs.Costs.{costsConverted, imagesSaid, tableSaid, usedIn}

@@ -18,11 +18,11 @@ ghost use Rattle.theory.specs.Tables.{cost};
 ghost use Rattle.bits.specs.Forms.{fieldBits, fieldsOf};
 ghost use Rattle.bits.specs.Listed.{listed};
 ghost use Rattle.packer.specs.Gathering.{Put, Room};
-ghost use Rattle.stored_costs.specs.Entries.{entryCount};
-ghost use Rattle.stored_costs.specs.Form.{costBytes, costUsed};
-ghost use Rattle.stored_costs.specs.Said.{entryOf, storedTable};
+ghost use Rattle.cost_forms.specs.Entries.{entryCount};
+ghost use Rattle.cost_forms.specs.Form.{costBytes, costUsed};
+ghost use Rattle.cost_forms.specs.Said.{entryOf, storedTable};
 ghost use Rattle.stored_costs.specs.Reading.{tableChecks};
-ghost use Rattle.stored_costs.specs.Sizes.{Held, Small};
+ghost use Rattle.cost_forms.specs.Sizes.{Held, Small};
 ghost use Rattle.cost_writer.specs.Writing.{storedIf};
 ghost use Rattle.conversion.specs.Costs.{costsConverted, entryChecks};
 ghost use Rattle.conversion.specs.Links.{linksConverted};
@@ -75,7 +75,7 @@ fn put_entries(
     requires { ⌜ Held from n (length (now bytes)) × (w ≤ 32) × Room (length (now out)) g (w * entryCount n) ⌝ }
     ensures { λ r. ⌜ Put (fieldBits (fieldsOf w (listed (entryOf from (now (bytes .entry))) (entryCount n)))) (now (out .entry)) (now (out .exit)) g r ⌝ }
 {
-    let count = stored_costs::entry_count(n);
+    let count = cost_forms::entry_count(n);
     let mut gathered = g;
     let mut p = from.head + 7;
     let mut k = 0;
@@ -104,7 +104,7 @@ fn store_costs(from: Form, to: Form, n: usize, bytes: &[u8], out: &mut [u8]) -> 
     ensures { λ r. ⌜ Left (storedIf (roomCheck (costUsed to n) (length (now (out .entry)))) to n (storedTable from n (now (bytes .entry)))
         (now (out .entry))) r (now (out .exit)) ⌝ }
 {
-    let end = stored_costs::row_at(to, n, n);
+    let end = cost_forms::row_at(to, n, n);
     match ground::refuse_if(out.len() < (end + 7) / 8, 3, 0, 0) {
         Check::Refused(r) => Written::Refused(r),
         Check::Passed => Written::Places(put_form(from, to, n, bytes, out)),
@@ -116,11 +116,11 @@ fn store_costs(from: Form, to: Form, n: usize, bytes: &[u8], out: &mut [u8]) -> 
 pub fn convert_costs(edition: Edition, bytes: &[u8], out: &mut [u8]) -> Written
     ensures { λ r. ⌜ Left (costsConverted edition (now (bytes .entry)) (now (out .entry))) r (now (out .exit)) ⌝ }
 {
-    let from = stored_costs::form_at(bytes, 0);
-    let to = stored_costs::form_of(edition);
+    let from = cost_forms::form_at(bytes, 0);
+    let to = cost_forms::form_of(edition);
     match check_costs(from, to.limit, bytes) {
         Check::Refused(r) => Written::Refused(r),
-        Check::Passed => store_costs(from, to, stored_costs::images(from, bytes), bytes, out),
+        Check::Passed => store_costs(from, to, cost_forms::images(from, bytes), bytes, out),
     }
 }
 

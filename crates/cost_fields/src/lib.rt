@@ -8,9 +8,9 @@ ghost use Rattle.ground.specs.Buffers.{front};
 ghost use Rattle.theory.specs.Tables.{cost, CostTable, limit};
 ghost use Rattle.bits.specs.Forms.{fieldsOf, fieldBits};
 ghost use Rattle.packer.specs.Gathering.{Put, Room};
-ghost use Rattle.stored_costs.specs.Entries.{entries, entryCount, rowEntries};
-ghost use Rattle.stored_costs.specs.Form.{costBytes, costUsed};
-ghost use Rattle.stored_costs.specs.Sizes.{Small};
+ghost use Rattle.cost_forms.specs.Entries.{entries, entryCount, rowEntries};
+ghost use Rattle.cost_forms.specs.Form.{costBytes, costUsed};
+ghost use Rattle.cost_forms.specs.Sizes.{Small};
 
 // The entries of row i right of the diagonal, behind what was put.
 fn put_row(g: Gathered, w: usize, n: usize, t: &[u32], i: usize, out: &mut [u8]) -> Gathered

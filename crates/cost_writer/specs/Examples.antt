@@ -5,8 +5,8 @@ use Prim.Native.Nat.{ℕ}
 use Rattle.ground.specs.Lowest.{checkAll}
 use Rattle.ground.specs.Refusals.{refusal}
 use Rattle.ground.specs.declared.Written.the-variants.{Places, Refused}
-use Rattle.stored_costs.specs.Entries.{rowStart}
-use Rattle.stored_costs.specs.Form.{newCosts, oldCosts}
+use Rattle.cost_forms.specs.Entries.{rowStart}
+use Rattle.cost_forms.specs.Form.{newCosts, oldCosts}
 use Rattle.cost_writer.specs.Writing.{writeOutcome}
 
 -- three images: x between the second and the third, y below the diagonal, and 1,000,001 between the first and the third

@@ -11,7 +11,7 @@ use Rattle.theory.specs.Tables.{cost, limit}
 use Rattle.tables.specs.InOrder.{costs-order, costsSteps, size-order, sizeSteps}
 use Rattle.tables.specs.Laws.Pairs.{pairs-only}
 use Rattle.bits.specs.declared.Form.{Form}
-use Rattle.stored_costs.specs.Form.{costUsed}
+use Rattle.cost_forms.specs.Form.{costUsed}
 use Rattle.cost_limits.specs.Checks.{fitCheck, largeCheck}
 use Rattle.cost_writer.specs.Writing.{storeChecks, writeChecks}
 

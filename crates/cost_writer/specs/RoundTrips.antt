@@ -17,9 +17,9 @@ use Rattle.bits.specs.declared.Form.{Form}
 use Rattle.cost_writer.specs.Laws.Accepted.{passed-write}
 use Rattle.cost_writer.specs.Laws.Again.{read-again}
 use Rattle.cost_writer.specs.Writing.{writeChecks, writeOutcome}
-use Rattle.stored_costs.specs.Form.{costBytes, costForm, costFormAt, costUsed}
-use Rattle.stored_costs.specs.Said.{storedTable}
-use Rattle.stored_costs.specs.Laws.Form.{length-costs}
+use Rattle.cost_forms.specs.Form.{costBytes, costForm, costFormAt, costUsed}
+use Rattle.cost_forms.specs.Said.{storedTable}
+use Rattle.cost_forms.specs.Laws.Form.{length-costs}
 use Rattle.stored_costs.specs.Laws.Passed.{table-at}
 use Rattle.stored_costs.specs.Laws.Positions.{same-bytes}
 use Rattle.stored_costs.specs.Laws.Told.{costs-marked, either-rest, either-written, form-limit}

@@ -7,7 +7,7 @@ use Rattle.ground.specs.declared.Check.{Check}
 use Rattle.ground.specs.declared.Written.{Written}
 use Rattle.ground.specs.Outcomes.{Outcome, frontIf}
 use Rattle.theory.specs.Tables.{cost, limit}
-use Rattle.stored_costs.specs.Form.{costBytes, costUsed}
+use Rattle.cost_forms.specs.Form.{costBytes, costUsed}
 use Rattle.bits.specs.declared.Form.{Form}
 use Rattle.cost_limits.specs.Checks.{fitCheck, tableChecks}
 

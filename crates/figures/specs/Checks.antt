@@ -5,7 +5,7 @@ use Prim.Native.Nat.{ℕ}
 use lib.Dec.{eqb, ltb}
 use Rattle.ground.specs.Refusals.{refusal, refuseIf, _then_}
 use Rattle.ground.specs.declared.Check.{Check}
-use Rattle.stored_costs.specs.Form.{costFormAt}
+use Rattle.cost_forms.specs.Form.{costFormAt}
 use Rattle.stored_costs.specs.Reading.{tableChecks}
 use Rattle.figures.specs.Figures.{sidesAt}
 use Rattle.figures.specs.Tables.{Table, tableAt}

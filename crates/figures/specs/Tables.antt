@@ -10,8 +10,8 @@ use Rattle.theory.specs.Tables.{cost}
 use Rattle.wiring.specs.Check.{wiringCheck}
 use Rattle.tree.specs.Exact.{exactRows}
 use Rattle.bits.specs.declared.Form.{Form}
-use Rattle.stored_costs.specs.Form.{costFormAt, costUsed}
-use Rattle.stored_costs.specs.Said.{imagesOf, storedTable}
+use Rattle.cost_forms.specs.Form.{costFormAt, costUsed}
+use Rattle.cost_forms.specs.Said.{imagesOf, storedTable}
 
 -- a table: n, the bytes that it used, and its costs row by row
 pub record Table : Type 0 where

@@ -9,7 +9,7 @@ use Rattle.ground.specs.Ranges.{from, gather}
 use Rattle.ground.specs.Steps.{ofTable}
 use Rattle.theory.specs.Outcomes.{LeftRows}
 use Rattle.bits.specs.Editions.{editionBy}
-use Rattle.stored_costs.specs.Form.{costForm, costFormAt}
+use Rattle.cost_forms.specs.Form.{costForm, costFormAt}
 use Rattle.stored_links.specs.Form.{linkForm, linkFormAt}
 use Rattle.batch.specs.Batch.{batchOutcome}
 use Rattle.batch.specs.InOrder.{batch-decides, batch-numbers, batch-unaltered, batchSteps}

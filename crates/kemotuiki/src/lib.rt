@@ -41,7 +41,7 @@ ghost use Rattle.numbers.specs.Reports.{ofReport};
 ghost use Rattle.numbers.specs.Stored.{ofBytes, ofBatched, ofCosts, ofLinks, ofChosen, ofTree};
 ghost use Rattle.kemotuiki.specs.Crossing.{crossed, crossedReport, crossedRows};
 ghost use Rattle.bits.specs.Editions.{editionBy};
-ghost use Rattle.stored_costs.specs.Form.{costForm};
+ghost use Rattle.cost_forms.specs.Form.{costForm};
 ghost use Rattle.stored_links.specs.Form.{linkForm};
 
 // The index of the division with the far side s.

@@ -11,8 +11,8 @@ use Rattle.bits.specs.Bits.{bits, bitsOf, part, valueOf}
 use Rattle.bits.specs.Editions.{editionOf}
 use Rattle.bits.specs.Forms.{fieldValue}
 use Rattle.bits.specs.Listed.{listed}
-use Rattle.stored_costs.specs.Entries.{entryCost, rowStart, tableOf}
-use Rattle.stored_costs.specs.Said.{entryOf, fillOf, imagesOf}
+use Rattle.cost_forms.specs.Entries.{entryCost, rowStart, tableOf}
+use Rattle.cost_forms.specs.Said.{entryOf, fillOf, imagesOf}
 use Rattle.tree.specs.Exact.{exactRows, treeCheck}
 use Rattle.text.specs.Decimal.{decimal, digits}
 use Rattle.text.specs.Fields.{field, fields}

@@ -9,8 +9,8 @@ use Rattle.bits.specs.Editions.{editionOf}
 use Rattle.bits.specs.Laws.Behind.{first-bytes}
 use Rattle.bits.specs.declared.Edition.{Edition}
 use Rattle.bits.specs.declared.Edition.the-variants.{New, Old}
-use Rattle.stored_costs.specs.Entries.{rowStart}
-use Rattle.stored_costs.specs.Form.{costForm, costFormAt, costUsed, newCosts}
+use Rattle.cost_forms.specs.Entries.{rowStart}
+use Rattle.cost_forms.specs.Form.{costForm, costFormAt, costUsed, newCosts}
 use Rattle.stored_costs.specs.Laws.Behind.{longest-reaches, whole-reaches}
 use Rattle.listing_text.specs.Laws.Behind.{stored-reached}
 use Rattle.listing_text.specs.Listing.{imagesSaid, listingText, storedText, textWith}

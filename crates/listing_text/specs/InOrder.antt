@@ -11,7 +11,7 @@ use Rattle.ground.specs.declared.Check.the-variants.{Passed, Refused}
 use Rattle.theory.specs.Tables.{cost, limit}
 use Rattle.wiring.specs.Check.{wiringCheck}
 use Rattle.wiring.specs.InOrder.{wiring-order, wiringSteps}
-use Rattle.stored_costs.specs.Form.{costFormAt}
+use Rattle.cost_forms.specs.Form.{costFormAt}
 use Rattle.stored_costs.specs.InOrder.{table-order, tableSteps}
 use Rattle.tree.specs.Exact.{treeCheck}
 use Rattle.listing_lines.specs.Lines.{refusedLine}

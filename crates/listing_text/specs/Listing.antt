@@ -5,8 +5,8 @@ use Prim.Native.Nat.{ℕ, _≤_}
 use lib.ListN.{length, replicate, take}
 use Rattle.ground.specs.Buffers.{front}
 use Rattle.ground.specs.declared.Check.{Check}
-use Rattle.stored_costs.specs.Form.{costFormAt}
-use Rattle.stored_costs.specs.Said.{imagesOf, storedTable}
+use Rattle.cost_forms.specs.Form.{costFormAt}
+use Rattle.cost_forms.specs.Said.{imagesOf, storedTable}
 use Rattle.stored_costs.specs.Reading.{tableChecks}
 use Rattle.listing_lines.specs.Lines.{room}
 use Rattle.listing_text.specs.declared.Last.{Last}

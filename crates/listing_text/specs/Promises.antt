@@ -21,8 +21,8 @@ use Rattle.tree.specs.Exact.{exactRows, treeCheck}
 use Rattle.tree.specs.Laws.Exact.{exact-rows, table-passed, table-sized, tree-wiring}
 use Rattle.bits.specs.declared.Edition.{Edition}
 use Rattle.bits.specs.declared.Edition.the-variants.{New, Old}
-use Rattle.stored_costs.specs.Form.{costBytes, costForm, newCosts, oldCosts}
-use Rattle.stored_costs.specs.Said.{storedTable}
+use Rattle.cost_forms.specs.Form.{costBytes, costForm, newCosts, oldCosts}
+use Rattle.cost_forms.specs.Said.{storedTable}
 use Rattle.stored_costs.specs.Laws.Enough.{table-said, table-stored}
 use Rattle.listing_text.specs.LastImage.{lastImage}
 use Rattle.listing_text.specs.Laws.Behind.{textBy, textIn}

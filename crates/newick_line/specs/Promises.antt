@@ -18,7 +18,7 @@ use Rattle.theory.specs.Tables.{CostTable, cost, limit}
 use Rattle.tree.specs.Exact.{exactRows, treeCheck}
 use Rattle.tree.specs.Laws.Exact.{exact-rows, table-passed, table-sized}
 use Rattle.bits.specs.declared.Edition.{Edition}
-use Rattle.stored_costs.specs.Form.{costBytes, costForm}
+use Rattle.cost_forms.specs.Form.{costBytes, costForm}
 use Rattle.listing_lines.specs.Lines.{newline, refusedLine, room}
 use Rattle.listing_text.specs.Ignored.{longestTable, stored-ignores}
 use Rattle.listing_text.specs.InOrder.{listing-order, listingSteps}

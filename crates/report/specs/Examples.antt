@@ -14,9 +14,9 @@ use Rattle.bits.specs.Bits.{bits, bitsOf, part, valueOf}
 use Rattle.bits.specs.Editions.{editionOf}
 use Rattle.bits.specs.Forms.{fieldValue}
 use Rattle.bits.specs.Listed.{listed}
-use Rattle.stored_costs.specs.Entries.{entryCost, rowStart, tableOf}
+use Rattle.cost_forms.specs.Entries.{entryCost, rowStart, tableOf}
 use Rattle.stored_costs.specs.Examples.{newStoredA, storedA}
-use Rattle.stored_costs.specs.Said.{entryOf, fillOf, imagesOf}
+use Rattle.cost_forms.specs.Said.{entryOf, fillOf, imagesOf}
 use Rattle.seen.specs.Seen.{entries, seen}
 use Rattle.figures.specs.Figures.{counts, entriesAt, noFigures, sidesAt}
 use Rattle.report.specs.Outcome.{reportOf, roomCheck}

@@ -14,7 +14,7 @@ use Rattle.ground.specs.Steps.{Step, about, numbersOf, ofTable, _by_}
 use Rattle.ground.specs.declared.Check.{Check}
 use Rattle.ground.specs.declared.Check.the-variants.{Passed, Refused}
 use Rattle.ground.specs.declared.Refusal.{Refusal}
-use Rattle.stored_costs.specs.Form.{costFormAt}
+use Rattle.cost_forms.specs.Form.{costFormAt}
 use Rattle.stored_costs.specs.InOrder.{table-order, tableSteps}
 use Rattle.figures.specs.Figures.{sidesAt}
 use Rattle.report.specs.Outcome.{outcome, refusedTable, reportOutcome, roomCheck, short}

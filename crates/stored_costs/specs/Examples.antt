@@ -9,9 +9,9 @@ use Rattle.bits.specs.Bits.{bits, bitsOf, part, valueOf}
 use Rattle.bits.specs.Editions.{editionOf}
 use Rattle.bits.specs.Forms.{bytesOf, fieldValue, filled, fieldBits, fieldBytes, packed}
 use Rattle.bits.specs.Listed.{listed}
-use Rattle.stored_costs.specs.Entries.{entryCost, entriesTo, rowEntries, rowStart, tableOf}
-use Rattle.stored_costs.specs.Form.{costBytes, costFields, newCosts, oldCosts}
-use Rattle.stored_costs.specs.Said.{storedTable, entryOf, fillOf, imagesOf}
+use Rattle.cost_forms.specs.Entries.{entryCost, entriesTo, rowEntries, rowStart, tableOf}
+use Rattle.cost_forms.specs.Form.{costBytes, costFields, newCosts, oldCosts}
+use Rattle.cost_forms.specs.Said.{storedTable, entryOf, fillOf, imagesOf}
 use Rattle.stored_costs.specs.Outcomes.{judged, judgedEither}
 use Rattle.stored_costs.specs.declared.StoredCosts.the-variants.{Table}
 use Rattle.stored_costs.specs.declared.StoredCosts.the-variants as stored

@@ -16,9 +16,9 @@ use Rattle.bits.specs.Forms.{bytesFor}
 use Rattle.bits.specs.Kinds.{endCheck, fillCheck, positionCheck}
 use Rattle.bits.specs.Laws.InOrder.{end-order, fill-order, position-order}
 use Rattle.bits.specs.declared.Form.{Form}
-use Rattle.stored_costs.specs.Entries.{entryCost}
-use Rattle.stored_costs.specs.Form.{costUsed}
-use Rattle.stored_costs.specs.Said.{entryOf, fillOf, imagesOf}
+use Rattle.cost_forms.specs.Entries.{entryCost}
+use Rattle.cost_forms.specs.Form.{costUsed}
+use Rattle.cost_forms.specs.Said.{entryOf, fillOf, imagesOf}
 use Rattle.stored_costs.specs.Reading.{readAtChecks, readChecks, storedCheck, tableChecks, valuesCheck}
 
 -- 4

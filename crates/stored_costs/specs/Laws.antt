@@ -1,10 +1,5 @@
--- The laws, from the stored order up to what is read and what was written.
-pub mod Entries
-pub mod Tables
-pub mod Filling
-pub mod Sizes
+-- What is read, and what was written.
 pub mod Passed
-pub mod Form
 pub mod ReadBack
 pub mod WriteBack
 pub mod Positions

@@ -1,11 +1,7 @@
--- What is stored of a cost table, and what the reader answers.
-pub mod Entries
-pub mod Form
-pub mod Said
+-- What the reader asks of a stored cost table, and what it answers.
 pub mod Reading
 pub mod Outcomes
 pub mod Stored
-pub mod Sizes
 -- Its checks by their numbers, in order.
 pub mod InOrder
 -- What is true of them.

@@ -4,8 +4,8 @@ use Prim.Native.Nat.{ℕ, _/_}
 use lib.ListN.{drop, length}
 use Rattle.ground.specs.Outcomes.{Outcome, frontIf}
 use Rattle.ground.specs.declared.Check.{Check}
-use Rattle.stored_costs.specs.Form.{costFormAt, costUsed}
-use Rattle.stored_costs.specs.Said.{storedTable, imagesOf}
+use Rattle.cost_forms.specs.Form.{costFormAt, costUsed}
+use Rattle.cost_forms.specs.Said.{storedTable, imagesOf}
 use Rattle.stored_costs.specs.Reading.{readAtChecks}
 use Rattle.stored_costs.specs.declared.StoredCosts.{StoredCosts}
 use Rattle.stored_costs.specs.declared.StoredCosts.the-variants.{Table}

@@ -9,9 +9,9 @@ use Rattle.tables.specs.Checks.{entryCheck, leastCheck, offDiagonalCheck}
 use Rattle.tables.specs.Pairs.{pairsCheck}
 use Rattle.bits.specs.Forms.{bytesFor}
 use Rattle.bits.specs.Kinds.{endCheck, fillCheck, positionCheck}
-use Rattle.stored_costs.specs.Entries.{entryCost}
-use Rattle.stored_costs.specs.Form.{costUsed}
-use Rattle.stored_costs.specs.Said.{entryOf, fillOf, imagesOf}
+use Rattle.cost_forms.specs.Entries.{entryCost}
+use Rattle.cost_forms.specs.Form.{costUsed}
+use Rattle.cost_forms.specs.Said.{entryOf, fillOf, imagesOf}
 use Rattle.bits.specs.declared.Form.{Form}
 
 -- 4: an entry above the limit, at the lowest row and column with row below column

@@ -6,9 +6,9 @@ use Prim.Native.Nat.{ℕ, _%_, _*_, _+_, _/_, _<_, _≤_}
 use lib.ListN.{drop, length}
 use Rattle.ground.specs.declared.Check.the-variants.{Passed}
 use Rattle.bits.specs.Forms.{bytesFor}
-use Rattle.stored_costs.specs.Entries.{entryNumber}
-use Rattle.stored_costs.specs.Form.{costUsed}
-use Rattle.stored_costs.specs.Said.{entryOf, fillOf, imagesOf}
+use Rattle.cost_forms.specs.Entries.{entryNumber}
+use Rattle.cost_forms.specs.Form.{costUsed}
+use Rattle.cost_forms.specs.Said.{entryOf, fillOf, imagesOf}
 use Rattle.stored_costs.specs.Reading.{readAtChecks}
 use Rattle.stored_costs.specs.declared.StoredCosts.the-variants.{Table}
 use Rattle.bits.specs.declared.Form.{Form}

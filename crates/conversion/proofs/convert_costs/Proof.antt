@@ -4,7 +4,7 @@ use Rattle.ground.specs.Laws.Refusals.{then-passed}
 use Rattle.ground.specs.declared.Check.{Check}
 use Rattle.theory.specs.Tables.{cost}
 use Rattle.bits.specs.declared.Form.{Form}
-use Rattle.stored_costs.specs.Form.{costForm, costFormAt}
+use Rattle.cost_forms.specs.Form.{costForm, costFormAt}
 use Rattle.stored_costs.specs.Laws.Enough.{table-readable}
 use Rattle.stored_costs.specs.Laws.Passed.{readable-held}
 use Rattle.stored_costs.specs.Laws.Told.{form-small, told-small}

@@ -10,11 +10,11 @@ use Rattle.bits.specs.Laws.OneWidth.{field-end, times-more}
 use Rattle.bits.specs.Listed.{listed}
 use Rattle.packer.specs.Gathering.{Put}
 use Rattle.packer.specs.Laws.Putting.{room-then}
-use Rattle.stored_costs.specs.Entries.{entryCount}
-use Rattle.stored_costs.specs.Form.{costEnd}
-use Rattle.stored_costs.specs.Said.{entryOf}
-use Rattle.stored_costs.specs.Laws.Sizes.{count-le, end-le}
-use Rattle.stored_costs.specs.Sizes.{lastEntryEnd}
+use Rattle.cost_forms.specs.Entries.{entryCount}
+use Rattle.cost_forms.specs.Form.{costEnd}
+use Rattle.cost_forms.specs.Said.{entryOf}
+use Rattle.cost_forms.specs.Laws.Sizes.{count-le, end-le}
+use Rattle.cost_forms.specs.Sizes.{lastEntryEnd}
 use Rattle.cost_fields.specs.Laws.Putting.{length-listed-bits, row-put-more, row-put-none}
 use borrow.Author.Needs.{needs}
 use Rattle.conversion.proofs.put_entries.Statement.{statement}

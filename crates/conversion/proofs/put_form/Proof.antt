@@ -5,9 +5,9 @@ use lib.ListN.{length}
 use Rattle.theory.specs.Tables.{cost}
 use Rattle.packer.specs.Gathering.{Room}
 use Rattle.packer.specs.Laws.Putting.{room-begun, room-then}
-use Rattle.stored_costs.specs.Entries.{entryCount}
-use Rattle.stored_costs.specs.Said.{entryOf, storedTable}
-use Rattle.stored_costs.specs.Laws.Tables.{table-entries}
+use Rattle.cost_forms.specs.Entries.{entryCount}
+use Rattle.cost_forms.specs.Said.{entryOf, storedTable}
+use Rattle.cost_forms.specs.Laws.Tables.{table-entries}
 use Rattle.cost_fields.specs.Laws.Putting.{form-put, length-listed-bits}
 use borrow.Author.Needs.{needs}
 use Rattle.conversion.proofs.put_form.Statement.{statement}

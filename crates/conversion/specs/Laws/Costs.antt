@@ -12,7 +12,7 @@ use Rattle.ground.specs.declared.Written.the-variants.{Places}
 use Rattle.ground.specs.declared.Written.the-variants as written
 use Rattle.theory.specs.Tables.{CostTable, cost, limit}
 use Rattle.bits.specs.declared.Edition.{Edition}
-use Rattle.stored_costs.specs.Form.{costBytes, costForm, costFormAt}
+use Rattle.cost_forms.specs.Form.{costBytes, costForm, costFormAt}
 use Rattle.stored_costs.specs.Laws.Enough.{TableStored, table-said}
 use Rattle.stored_costs.specs.Reading.{tableChecks}
 use Rattle.cost_writer.specs.Laws.Accepted.{passed-store, store-passed}

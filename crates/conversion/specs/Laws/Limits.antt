@@ -19,10 +19,10 @@ use Rattle.tables.specs.Checks.{entryCheck, offDiagonalCheck}
 use Rattle.bits.specs.Forms.{bytesFor}
 use Rattle.bits.specs.Kinds.{endCheck}
 use Rattle.bits.specs.declared.Form.{Form}
-use Rattle.stored_costs.specs.Entries.{entryCost, tableOf}
-use Rattle.stored_costs.specs.Said.{entryOf, fillOf, imagesOf, storedTable}
+use Rattle.cost_forms.specs.Entries.{entryCost, tableOf}
+use Rattle.cost_forms.specs.Said.{entryOf, fillOf, imagesOf, storedTable}
 use Rattle.stored_costs.specs.Laws.Enough.{readable-table, table-readable}
-use Rattle.stored_costs.specs.Laws.Tables.{table-cost, table-formed}
+use Rattle.cost_forms.specs.Laws.Tables.{table-cost, table-formed}
 use Rattle.stored_costs.specs.Reading.{bodyChecks, storedCheck, tableChecks, valuesCheck}
 use Rattle.cost_limits.specs.Laws.Fitting.{passed-fit}
 use Rattle.cost_limits.specs.Checks.{fitCheck, largeCheck}

@@ -7,8 +7,8 @@ use Rattle.theory.specs.Tables.{cost}
 use Rattle.bits.specs.Forms.{fieldsOf, fieldBits}
 use Rattle.packer.specs.Gathering.{Put}
 use Rattle.packer.specs.Laws.Putting.{room-then}
-use Rattle.stored_costs.specs.Entries.{entriesTo}
-use Rattle.stored_costs.specs.Laws.Entries.{row-within}
+use Rattle.cost_forms.specs.Entries.{entriesTo}
+use Rattle.cost_forms.specs.Laws.Entries.{row-within}
 use Rattle.cost_fields.specs.Laws.Putting.{length-rows-bits, rows-put-end, rows-put-more, rows-put-none}
 use borrow.Author.Needs.{needs}
 use Rattle.cost_fields.proofs.put_entries.Statement.{statement}

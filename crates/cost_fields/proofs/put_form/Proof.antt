@@ -5,7 +5,7 @@ use lib.ListN.{length}
 use Rattle.theory.specs.Tables.{cost}
 use Rattle.packer.specs.Gathering.{Room}
 use Rattle.packer.specs.Laws.Putting.{room-begun, room-then}
-use Rattle.stored_costs.specs.Entries.{entryCount}
+use Rattle.cost_forms.specs.Entries.{entryCount}
 use Rattle.cost_fields.specs.Laws.Putting.{form-put, length-rows-bits}
 use borrow.Author.Needs.{needs}
 use Rattle.cost_fields.proofs.put_form.Statement.{statement}

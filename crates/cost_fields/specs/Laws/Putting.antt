@@ -15,10 +15,10 @@ use Rattle.packer.specs.Laws.Finished.{form-packed}
 use Rattle.packer.specs.Laws.Putting.{put-none, put-then}
 use Rattle.packer.specs.Start.{startBits, started}
 use Rattle.packer.specs.declared.Gathered.{Gathered}
-use Rattle.stored_costs.specs.Entries.{entries, entriesTo, rowEntries, rowStart}
-use Rattle.stored_costs.specs.Form.{costBytes, costUsed}
-use Rattle.stored_costs.specs.Laws.Entries.{entries-more, length-entries}
-use Rattle.stored_costs.specs.Laws.Form.{all-bits-costs, cost-parts, costBits, entryBits, length-cost-bits}
+use Rattle.cost_forms.specs.Entries.{entries, entriesTo, rowEntries, rowStart}
+use Rattle.cost_forms.specs.Form.{costBytes, costUsed}
+use Rattle.cost_forms.specs.Laws.Entries.{entries-more, length-entries}
+use Rattle.cost_forms.specs.Laws.Form.{all-bits-costs, cost-parts, costBits, entryBits, length-cost-bits}
 
 -- ## Within a row: the values f 0, f 1, ..
 

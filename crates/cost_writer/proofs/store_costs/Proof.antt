@@ -8,8 +8,8 @@ use Rattle.ground.specs.Laws.Refusals.{if-goes, if-stops, refuseIf-passed}
 use Rattle.ground.specs.Refusals.{roomCheck}
 use Rattle.ground.specs.declared.Written.the-variants.{Places}
 use Rattle.ground.specs.declared.Written.the-variants as written
-use Rattle.stored_costs.specs.Form.{costUsed}
-use Rattle.stored_costs.specs.Laws.Sizes.{end-le}
+use Rattle.cost_forms.specs.Form.{costUsed}
+use Rattle.cost_forms.specs.Laws.Sizes.{end-le}
 use borrow.Author.Needs.{needs}
 use borrow.Author.Tests.{ltb-false}
 use Rattle.cost_writer.proofs.store_costs.Statement.{statement}

@@ -5,7 +5,7 @@ use Rattle.ground.specs.Refusals.{_then_}
 use Rattle.ground.specs.declared.Check.{Check}
 use Rattle.theory.specs.Tables.{CostTable, cost, limit}
 use Rattle.tables.specs.Laws.Formed.{cost-table}
-use Rattle.stored_costs.specs.Form.{costForm}
+use Rattle.cost_forms.specs.Form.{costForm}
 use Rattle.stored_costs.specs.Laws.Told.{form-limit, form-small}
 use Rattle.cost_writer.specs.Laws.Accepted.{together-passed, together-refused}
 use Rattle.cost_limits.specs.Checks.{fitCheck, tableChecks}

@@ -20,7 +20,7 @@ use Rattle.tables.specs.Laws.Formed.{cost-table}
 use Rattle.cost_limits.specs.Laws.Fitting.{passed-fit, table-narrow}
 use Rattle.cost_limits.specs.Checks.{fitCheck, tableChecks}
 use Rattle.cost_writer.specs.Writing.{storeChecks, storedIf, writeChecks}
-use Rattle.stored_costs.specs.Form.{costUsed}
+use Rattle.cost_forms.specs.Form.{costUsed}
 use Rattle.bits.specs.declared.Form.{Form}
 
 module _ (form : Form) (n : ℕ) (t : List ℕ) (room : ℕ) where

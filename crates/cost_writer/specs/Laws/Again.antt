@@ -9,7 +9,7 @@ use Rattle.bits.specs.Bits.{AllBytes}
 use Rattle.bits.specs.Editions.{Marked}
 use Rattle.cost_writer.specs.Laws.Accepted.{passed-write}
 use Rattle.cost_writer.specs.Writing.{writeOutcome}
-use Rattle.stored_costs.specs.Said.{storedTable}
+use Rattle.cost_forms.specs.Said.{storedTable}
 use Rattle.stored_costs.specs.Laws.Passed.{table-at}
 use Rattle.stored_costs.specs.Laws.Positions.{used-bytes}
 use Rattle.stored_costs.specs.Laws.WriteBack.{read-table}

@@ -6,7 +6,7 @@ use native.Mathlib.Omega.{arith}
 use lib.ListN.{length, length-replicate, replicate}
 use lib.Seq.{length-take-le}
 use borrow.Author.Needs.{needs}
-use Rattle.stored_costs.specs.Laws.Sizes.{square-le}
+use Rattle.cost_forms.specs.Laws.Sizes.{square-le}
 use Rattle.listing_text.specs.Laws.LastImage.{last-other}
 use Rattle.listing_lines.specs.Laws.Lengths.{refused-fits}
 use Rattle.listing_lines.specs.Lines.{refusedLine}

@@ -8,8 +8,8 @@ use Rattle.ground.specs.declared.Check.the-variants.{Passed, Refused}
 use Rattle.bits.specs.Laws.Editions.{edition-behind}
 use Rattle.bits.specs.declared.Edition.{Edition}
 use Rattle.bits.specs.declared.Form.{Form}
-use Rattle.stored_costs.specs.Form.{costForm, costFormAt}
-use Rattle.stored_costs.specs.Said.{imagesOf, storedTable}
+use Rattle.cost_forms.specs.Form.{costForm, costFormAt}
+use Rattle.cost_forms.specs.Said.{imagesOf, storedTable}
 use Rattle.stored_costs.specs.Laws.Behind.{Reaching, checks-behind, images-behind, table-behind}
 use Rattle.stored_costs.specs.Laws.Enough.{enough-room, table-readable}
 use Rattle.stored_costs.specs.Reading.{tableChecks}

@@ -8,8 +8,8 @@ use Rattle.ground.specs.Outcomes.{Left}
 use Rattle.ground.specs.declared.Check.{Check}
 use Rattle.ground.specs.declared.Refusal.{Refusal}
 use Rattle.theory.specs.Tables.{CostTable, limit}
-use Rattle.stored_costs.specs.Form.{costFormAt}
-use Rattle.stored_costs.specs.Said.{storedTable}
+use Rattle.cost_forms.specs.Form.{costFormAt}
+use Rattle.cost_forms.specs.Said.{storedTable}
 use Rattle.stored_costs.specs.Laws.Enough.{front-read, front-refused}
 use Rattle.stored_costs.specs.Outcomes.{readEither}
 use Rattle.stored_costs.specs.declared.StoredCosts.the-variants.{Table}

@@ -24,7 +24,7 @@ use Rattle.positions.specs.Laws.Stands.{costs-inside, links-inside, stands-behi
 use Rattle.positions.specs.Stands.{afterCosts, afterLinks, countedBytes}
 use Rattle.reader.specs.Moves.{costsHere, costsMoved, linksHere, linksMoved, standing}
 use Rattle.reader.specs.declared.Reader.{Reader}
-use Rattle.stored_costs.specs.Form.{costFormAt}
+use Rattle.cost_forms.specs.Form.{costFormAt}
 use Rattle.stored_links.specs.Form.{linkFormAt}
 
 -- ## One take: where the reader is left, and what it answers

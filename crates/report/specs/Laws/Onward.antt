@@ -11,7 +11,7 @@ use Rattle.ground.specs.declared.Check.{Check}
 use Rattle.ground.specs.declared.Check.the-variants.{Passed, Refused}
 use Rattle.ground.specs.declared.Refusal.{Refusal}
 use Rattle.theory.specs.Tables.{limit}
-use Rattle.stored_costs.specs.Form.{costFormAt}
+use Rattle.cost_forms.specs.Form.{costFormAt}
 use Rattle.stored_costs.specs.Laws.Enough.{table-readable}
 use Rattle.seen.specs.Columns.{Room}
 use Rattle.seen.specs.Laws.Columns.{stored-then}

@@ -9,10 +9,10 @@ use Rattle.ground.specs.Outcomes.{Left}
 use Rattle.ground.specs.declared.Check.the-variants.{Passed, Refused}
 use Rattle.ground.specs.declared.Refusal.{Refusal}
 use Rattle.theory.specs.Tables.{CostTable, limit}
-use Rattle.stored_costs.specs.Form.{costFormAt}
+use Rattle.cost_forms.specs.Form.{costFormAt}
 use Rattle.stored_costs.specs.Laws.Enough.{front-read, front-refused}
 use Rattle.stored_costs.specs.Laws.Passed.{table-at}
-use Rattle.stored_costs.specs.Laws.Sizes.{square-le}
+use Rattle.cost_forms.specs.Laws.Sizes.{square-le}
 use Rattle.stored_costs.specs.Outcomes.{readEither}
 use Rattle.stored_costs.specs.declared.StoredCosts.{StoredCosts}
 use Rattle.stored_costs.specs.declared.StoredCosts.the-variants as stored

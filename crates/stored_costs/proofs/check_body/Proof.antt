@@ -6,11 +6,11 @@ use lib.Dec.{ltb}
 use lib.ListN.{length}
 use borrow.Author.Tests.{ltb-false}
 use Rattle.ground.specs.Laws.Refusals.{refuseIf-passed, then-goes, then-stops}
-use Rattle.stored_costs.specs.Said.{fillOf}
-use Rattle.stored_costs.specs.Laws.Sizes.{end-le}
+use Rattle.cost_forms.specs.Said.{fillOf}
+use Rattle.cost_forms.specs.Laws.Sizes.{end-le}
 use borrow.Author.Needs.{needs}
 use Rattle.stored_costs.proofs.check_body.Statement.{statement}
-use Rattle.stored_costs.specs.Sizes.{lastEntryEnd}
+use Rattle.cost_forms.specs.Sizes.{lastEntryEnd}
 use Rattle.stored_costs.proofs.check_body.Tie as tie
 
 end-small : (c : tie.After-row-at) → c .row-at .result ≤ lastEntryEnd

@@ -4,8 +4,8 @@ use Prim.Native.Nat.{_+_, _-_, _≤_}
 use Rattle.ground.specs.Lowest.{checkAll}
 use Rattle.ground.specs.Laws.Lowest.{all-begins, all-ends, all-goes, all-stops}
 use Rattle.tables.specs.Pairs.{pairsCheck}
-use Rattle.stored_costs.specs.Entries.{entryCost}
-use Rattle.stored_costs.specs.Said.{entryOf}
+use Rattle.cost_forms.specs.Entries.{entryCost}
+use Rattle.cost_forms.specs.Said.{entryOf}
 use Rattle.stored_costs.specs.Reading.{valueCheck}
 use borrow.Author.Needs.{needs}
 use Rattle.stored_costs.proofs.check_entries.Statement.{statement}

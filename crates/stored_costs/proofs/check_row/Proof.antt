@@ -7,13 +7,13 @@ use Rattle.ground.specs.Laws.Lowest.{all-ends, all-goes, all-stops}
 use Rattle.bits.specs.Bits.{bits, part, valueOf}
 use Rattle.bits.specs.Forms.{fieldValue}
 use Rattle.bits.specs.Laws.OneWidth.{field-end, times-more}
-use Rattle.stored_costs.specs.Entries.{entryCost, entryCount, entryNumber}
-use Rattle.stored_costs.specs.Form.{costEnd}
+use Rattle.cost_forms.specs.Entries.{entryCost, entryCount, entryNumber}
+use Rattle.cost_forms.specs.Form.{costEnd}
 use Rattle.stored_costs.specs.Reading.{valueCheck}
-use Rattle.stored_costs.specs.Said.{entryOf}
-use Rattle.stored_costs.specs.Laws.Entries.{number-lt}
-use Rattle.stored_costs.specs.Laws.Sizes.{end-le}
-use Rattle.stored_costs.specs.Laws.Tables.{cost-of-up}
+use Rattle.cost_forms.specs.Said.{entryOf}
+use Rattle.cost_forms.specs.Laws.Entries.{number-lt}
+use Rattle.cost_forms.specs.Laws.Sizes.{end-le}
+use Rattle.cost_forms.specs.Laws.Tables.{cost-of-up}
 use borrow.Author.Needs.{needs}
 use Rattle.stored_costs.proofs.check_row.Statement.{statement}
 use Rattle.stored_costs.proofs.check_row.Tie as tie

@@ -8,7 +8,7 @@ use borrow.Author.Tests.{ltb-false}
 use Rattle.bits.specs.Forms.{bytesFor}
 use Rattle.ground.specs.Refusals.{outside}
 use Rattle.ground.specs.Laws.Refusals.{outside-false, refuseIf-passed, then-goes, then-stops}
-use Rattle.stored_costs.specs.Laws.Sizes.{square-le}
+use Rattle.cost_forms.specs.Laws.Sizes.{square-le}
 use borrow.Author.Needs.{needs}
 use Rattle.stored_costs.proofs.check_start.Statement.{statement}
 use Rattle.stored_costs.proofs.check_start.Tie as tie

@@ -6,8 +6,8 @@ use borrow.Author.Needs.{needs}
 use Rattle.ground.specs.declared.Check.{Check}
 use Rattle.tables.specs.Checks.{entryCheck, leastCheck}
 use Rattle.tables.specs.Laws.Pairs.{pass-alone, pass-clean, pass-first, pass-second}
-use Rattle.stored_costs.specs.Entries.{entryCost}
-use Rattle.stored_costs.specs.Said.{entryOf}
+use Rattle.cost_forms.specs.Entries.{entryCost}
+use Rattle.cost_forms.specs.Said.{entryOf}
 use Rattle.stored_costs.proofs.check_values.Statement.{statement}
 use Rattle.stored_costs.proofs.check_values.Tie as tie
 

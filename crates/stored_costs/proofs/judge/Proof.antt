@@ -8,8 +8,8 @@ use Rattle.ground.specs.Laws.Refusals.{if-goes, if-stops}
 use Rattle.stored_costs.specs.declared.StoredCosts.the-variants.{Table}
 use Rattle.stored_costs.specs.declared.StoredCosts.the-variants as stored
 use Rattle.stored_costs.specs.Laws.Passed.{read-at-passed}
-use Rattle.stored_costs.specs.Laws.Sizes.{end-le}
-use Rattle.stored_costs.specs.Sizes.{Small}
+use Rattle.cost_forms.specs.Laws.Sizes.{end-le}
+use Rattle.cost_forms.specs.Sizes.{Small}
 use borrow.Author.Needs.{needs}
 use Rattle.stored_costs.proofs.judge.Statement.{statement}
 use Rattle.stored_costs.specs.Stored.{Readable}

@@ -9,7 +9,7 @@ use borrow.Author.Needs.{needs}
 use Rattle.ground.specs.Laws.Outcomes.{front-goes, front-stops}
 use Rattle.stored_costs.proofs.read_costs.Statement.{statement}
 use Rattle.bits.specs.declared.Form.{Form}
-use Rattle.stored_costs.specs.Form.{costFormAt}
+use Rattle.cost_forms.specs.Form.{costFormAt}
 use Rattle.stored_costs.specs.Outcomes.{judged}
 use Rattle.stored_costs.specs.Stored.{TableAt}
 use Rattle.stored_costs.proofs.read_costs.Tie as tie

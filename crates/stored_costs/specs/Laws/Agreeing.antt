@@ -11,9 +11,9 @@ use Rattle.tables.specs.Checks.{entryCheck, leastCheck}
 use Rattle.tables.specs.Laws.Pairs.{pairs-agree}
 use Rattle.bits.specs.Laws.Listed.{listed-same}
 use Rattle.bits.specs.declared.Form.{Form}
-use Rattle.stored_costs.specs.Entries.{entryCost, entryCount, entryNumber, rowStart, tableOf}
-use Rattle.stored_costs.specs.Form.{costEnd}
-use Rattle.stored_costs.specs.Laws.Entries.{number-lt, row-le}
+use Rattle.cost_forms.specs.Entries.{entryCost, entryCount, entryNumber, rowStart, tableOf}
+use Rattle.cost_forms.specs.Form.{costEnd}
+use Rattle.cost_forms.specs.Laws.Entries.{number-lt, row-le}
 use Rattle.stored_costs.specs.Reading.{storedCheck, valuesCheck}
 
 starts-later : (n m i : ℕ) → n ≤ m → rowStart n i ≤ rowStart m i

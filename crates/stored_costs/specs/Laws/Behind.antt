@@ -16,9 +16,9 @@ use Rattle.bits.specs.Kinds.{endCheck, positionCheck}
 use Rattle.bits.specs.Laws.Behind.{end-behind, first-bytes, part-behind, position-behind}
 use Rattle.bits.specs.Laws.OneWidth.{field-end}
 use Rattle.bits.specs.declared.Form.{Form}
-use Rattle.stored_costs.specs.Entries.{entryCost, entryCount}
-use Rattle.stored_costs.specs.Form.{costEnd, costUsed}
-use Rattle.stored_costs.specs.Said.{entryOf, fillOf, imagesOf, storedTable}
+use Rattle.cost_forms.specs.Entries.{entryCost, entryCount}
+use Rattle.cost_forms.specs.Form.{costEnd, costUsed}
+use Rattle.cost_forms.specs.Said.{entryOf, fillOf, imagesOf, storedTable}
 use Rattle.stored_costs.specs.Laws.Agreeing.{agreeing-checks, agreeing-tables, end-grows}
 use Rattle.stored_costs.specs.Laws.Passed.{read-at-passed, start-passed}
 use Rattle.stored_costs.specs.Outcomes.{readOutcome, tableIf}

@@ -19,13 +19,13 @@ use Rattle.bits.specs.Forms.{bytesFor}
 use Rattle.bits.specs.Kinds.{endCheck}
 use Rattle.bits.specs.declared.Edition.{Edition}
 use Rattle.bits.specs.declared.Form.{Form}
-use Rattle.stored_costs.specs.Entries.{entryCost}
-use Rattle.stored_costs.specs.Form.{costBytes, costForm, costFormAt}
-use Rattle.stored_costs.specs.Said.{entryOf, imagesOf, storedTable}
+use Rattle.cost_forms.specs.Entries.{entryCost}
+use Rattle.cost_forms.specs.Form.{costBytes, costForm, costFormAt}
+use Rattle.cost_forms.specs.Said.{entryOf, imagesOf, storedTable}
 use Rattle.stored_costs.specs.Laws.Passed.{judged-refused, passed-read, read-passed, table-at}
 use Rattle.stored_costs.specs.Laws.ReadBack.{written-costs-of, written-images, written-readable}
-use Rattle.stored_costs.specs.Laws.Sizes.{square-le}
-use Rattle.stored_costs.specs.Laws.Tables.{length-table, table-formed}
+use Rattle.cost_forms.specs.Laws.Sizes.{square-le}
+use Rattle.cost_forms.specs.Laws.Tables.{length-table, table-formed}
 use Rattle.stored_costs.specs.Laws.Told.{form-fits, form-limit, told-costs}
 use Rattle.stored_costs.specs.Outcomes.{readEither}
 use Rattle.stored_costs.specs.Reading.{bodyChecks, readAtChecks, readChecks, tableChecks, valuesCheck}

@@ -19,13 +19,13 @@ use Rattle.tables.specs.Checks.{entryCheck, offDiagonalCheck}
 use Rattle.tables.specs.Laws.Formed.{off-diagonal-passed, passed-off-diagonal}
 use Rattle.tables.specs.Laws.Pairs.{pairs-passed, passed-pairs}
 use Rattle.bits.specs.Forms.{bytesFor}
-use Rattle.stored_costs.specs.Entries.{entryCost, entryNumber}
-use Rattle.stored_costs.specs.Form.{costUsed}
-use Rattle.stored_costs.specs.Said.{entryOf, fillOf, imagesOf}
-use Rattle.stored_costs.specs.Laws.Tables.{cost-of-up}
+use Rattle.cost_forms.specs.Entries.{entryCost, entryNumber}
+use Rattle.cost_forms.specs.Form.{costUsed}
+use Rattle.cost_forms.specs.Said.{entryOf, fillOf, imagesOf}
+use Rattle.cost_forms.specs.Laws.Tables.{cost-of-up}
 use Rattle.stored_costs.specs.Outcomes.{judged, tableIf}
 use Rattle.stored_costs.specs.Reading.{bodyChecks, readAtChecks, readChecks, startChecks, storedCheck, valuesCheck}
-use Rattle.stored_costs.specs.Sizes.{Held}
+use Rattle.cost_forms.specs.Sizes.{Held}
 use Rattle.stored_costs.specs.declared.StoredCosts.the-variants.{Table}
 use Rattle.bits.specs.declared.Form.{Form}
 use Rattle.stored_costs.specs.Stored.{Readable, TableAt}

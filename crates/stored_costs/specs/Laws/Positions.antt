@@ -11,8 +11,8 @@ use Rattle.theory.specs.Tables.{CostTable, cost}
 use Rattle.bits.specs.Bits.{AllBytes}
 use Rattle.bits.specs.Editions.{Marked}
 use Rattle.bits.specs.Laws.Written.{all-bytes-drop}
-use Rattle.stored_costs.specs.Form.{costBytes, costUsed}
-use Rattle.stored_costs.specs.Said.{storedTable, imagesOf}
+use Rattle.cost_forms.specs.Form.{costBytes, costUsed}
+use Rattle.cost_forms.specs.Said.{storedTable, imagesOf}
 use Rattle.stored_costs.specs.Laws.Passed.{passed-read, table-at}
 use Rattle.stored_costs.specs.Laws.ReadBack.{written-costs-of, written-images, written-readable}
 use Rattle.stored_costs.specs.Laws.WriteBack.{read-written}

@@ -17,12 +17,12 @@ use Rattle.bits.specs.Laws.Numbers.{length-bitsOf, value-bits}
 use Rattle.bits.specs.Laws.OneWidth.{field-value}
 use Rattle.bits.specs.Laws.Parts.{part-cut}
 use Rattle.bits.specs.Laws.Listed.{listed-at}
-use Rattle.stored_costs.specs.Entries.{entries, entriesTo, entryCount, entryNumber, rowEntries}
-use Rattle.stored_costs.specs.Form.{costBytes, costEnd}
-use Rattle.stored_costs.specs.Said.{storedTable, entryOf, fillOf, imagesOf}
-use Rattle.stored_costs.specs.Laws.Entries.{entry-is, length-entries, length-row, number-lt}
-use Rattle.stored_costs.specs.Laws.Form.{bits-costs-then, entryBits, length-costs, length-entry-bits, length-front}
-use Rattle.stored_costs.specs.Laws.Tables.{table-is}
+use Rattle.cost_forms.specs.Entries.{entries, entriesTo, entryCount, entryNumber, rowEntries}
+use Rattle.cost_forms.specs.Form.{costBytes, costEnd}
+use Rattle.cost_forms.specs.Said.{storedTable, entryOf, fillOf, imagesOf}
+use Rattle.cost_forms.specs.Laws.Entries.{entry-is, length-entries, length-row, number-lt}
+use Rattle.cost_forms.specs.Laws.Form.{bits-costs-then, entryBits, length-costs, length-entry-bits, length-front}
+use Rattle.cost_forms.specs.Laws.Tables.{table-is}
 use Rattle.bits.specs.declared.Form.{Form}
 use Rattle.stored_costs.specs.Stored.{Readable}
 

@@ -11,8 +11,8 @@ use Rattle.bits.specs.Editions.{Marked, ToldApart, editionOf}
 use Rattle.bits.specs.Laws.Editions.{told-form, told-marked}
 use Rattle.bits.specs.declared.Edition.{Edition}
 use Rattle.bits.specs.declared.Edition.the-variants.{New, Old}
-use Rattle.stored_costs.specs.Form.{costBytes, costForm, costFormAt, costUsed}
-use Rattle.stored_costs.specs.Laws.Form.{bits-costs-then}
+use Rattle.cost_forms.specs.Form.{costBytes, costForm, costFormAt, costUsed}
+use Rattle.cost_forms.specs.Laws.Form.{bits-costs-then}
 use Rattle.stored_costs.specs.Laws.Positions.{read-rest, written-at}
 use Rattle.stored_costs.specs.Outcomes.{readEither, readOutcome}
 use Rattle.stored_costs.specs.Stored.{readInto}

@@ -15,11 +15,11 @@ use Rattle.bits.specs.Laws.OneWidth.{fields-part, part-again}
 use Rattle.bits.specs.Laws.Packed.{packed-only}
 use Rattle.bits.specs.Laws.Parts.{part-more}
 use Rattle.bits.specs.Laws.Written.{all-bytes-take, bits-take}
-use Rattle.stored_costs.specs.Entries.{entryCount}
-use Rattle.stored_costs.specs.Form.{costBytes, costEnd, costUsed}
-use Rattle.stored_costs.specs.Said.{storedTable, entryOf, fillOf, imagesOf}
-use Rattle.stored_costs.specs.Laws.Form.{all-bits-costs, cost-parts, costBits, entryBits, length-cost-bits}
-use Rattle.stored_costs.specs.Laws.Tables.{table-entries, table-formed}
+use Rattle.cost_forms.specs.Entries.{entryCount}
+use Rattle.cost_forms.specs.Form.{costBytes, costEnd, costUsed}
+use Rattle.cost_forms.specs.Said.{storedTable, entryOf, fillOf, imagesOf}
+use Rattle.cost_forms.specs.Laws.Form.{all-bits-costs, cost-parts, costBits, entryBits, length-cost-bits}
+use Rattle.cost_forms.specs.Laws.Tables.{table-entries, table-formed}
 use Rattle.bits.specs.declared.Form.{Form}
 use Rattle.stored_costs.specs.Stored.{Readable}
 

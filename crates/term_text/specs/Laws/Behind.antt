@@ -13,13 +13,13 @@ use Rattle.bits.specs.Laws.Editions.{edition-behind}
 use Rattle.bits.specs.declared.Edition.{Edition}
 use Rattle.bits.specs.declared.Edition.the-variants.{New, Old}
 use Rattle.bits.specs.declared.Form.{Form}
-use Rattle.stored_costs.specs.Entries.{rowStart}
-use Rattle.stored_costs.specs.Form.{costForm, costFormAt, costUsed}
+use Rattle.cost_forms.specs.Entries.{rowStart}
+use Rattle.cost_forms.specs.Form.{costForm, costFormAt, costUsed}
 use Rattle.stored_costs.specs.Laws.Agreeing.{end-grows}
 use Rattle.stored_costs.specs.Laws.Behind.{Reaching, checks-behind, images-behind, longest-reaches, table-behind}
 use Rattle.stored_costs.specs.Laws.Enough.{enough-room, table-readable}
 use Rattle.stored_costs.specs.Reading.{tableChecks}
-use Rattle.stored_costs.specs.Said.{imagesOf, storedTable}
+use Rattle.cost_forms.specs.Said.{imagesOf, storedTable}
 use Rattle.figures.specs.Checks.{manyCheck, nextCheck, sameCheck}
 use Rattle.figures.specs.Reading.{Ended, goOn, readOn}
 use Rattle.figures.specs.Tables.{Table, tableIn, tableOf}

@@ -1,0 +1,2 @@
+-- Rows that are filled one after another.
+pub mod Filling

@@ -1,0 +1,2 @@
+-- What the proofs cite.
+pub mod Laws
