@@ -459,9 +459,10 @@ def signed_index_cases(dice):
         owns = [own_link(n, 1), own_link(n, dice.between(2, n))]
         inners = [2 ** (n - 1) + 2 ** dice.between(1, n - 2), 2 ** n - 4] if n > 3 else []
         for s in owns + inners if n < 10 else owns[1:] + inners[:1]:
-            for inside, across in (3, 1), (2, 1), (1, 1), (2, 3):
-                if n < 64 or (inside != 2 * across and (across == 3) != is_inner(n, s)):
-                    yield n, two_groups(n, s, inside, across), s
+            # Of 64 images one table for each sign is enough.
+            some = [(3, 1), (2, 1), (1, 1), (2, 3)] if n < 64 else [(3, 1), (1, 1)] if is_inner(n, s) else [(2, 3)]
+            for inside, across in some:
+                yield n, two_groups(n, s, inside, across), s
         for s in owns[:1] + inners[:1] if n < 64 else inners[:1]:
             for inside, across in (8000000, 1), (1, 8000000):
                 yield n, two_groups(n, s, inside, across), s
@@ -2112,12 +2113,14 @@ def convert_costs_cases(dice):
         yield dice.one_of([0, 1]), stored_costs(n, t, any_form(dice)), byte_places(dice, costs_length(NEW, n))
     for n, t in large_zeros(dice, (33, "last"), (33, "between")):
         yield dice.one_of([0, 1]), stored_costs(n, t, any_form(dice)), byte_places(dice, 20)
-    # 64 images: each way, the whole room and little; the last entry above the old limits, behind a zero too, and
-    # above all limits among zeros.
+    # 64 images: each way, the whole room and little; a fill bit that is a one; the last entry above the old limits,
+    # behind a zero too, and above all limits among zeros.
     t = sparse_table(dice, 64, 1000000)
     yield 1, stored_costs(64, t), [9] * 5800
     yield 0, stored_costs(64, t, NEW) + [3], [9] * 5041
-    yield 1, stored_costs(64, table_from(64, [1] * 2015 + [1000000])), [9] * 50
+    last = stored_costs(64, table_from(64, [1] * 2015 + [1000000]))
+    yield 1, last, [9] * 50
+    yield 1, last[:-1] + [last[-1] + 1], [9] * 50
     for upper in ([1] * 2015 + [1000001], [1] * 2014 + [0, 8000000], [0] * 2015 + [8000001]):
         yield 0, stored_costs(64, table_from(64, upper), NEW), [9] * 50
 
