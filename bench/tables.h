@@ -1,4 +1,4 @@
-/* Cost tables to time the calls on. The same seed gives the same table. */
+/* Cost tables to time the calls on, in which no two images cost nothing. The same seed gives the same table. */
 #include <stddef.h>
 #include <stdint.h>
 
@@ -9,5 +9,5 @@ void random_tree(size_t n, uint32_t *t);  /* path costs; three links at each swi
 void caterpillar(size_t n, uint32_t *t);  /* every switch on one path, image 1 at its end */
 void star(size_t n, uint32_t *t);         /* one switch */
 void balanced(size_t n, uint32_t *t);     /* images in halves, quarters, eighths */
-void random_table(size_t n, uint32_t *t); /* entries up to 1,000,000 that no wiring gives */
+void random_table(size_t n, uint32_t *t); /* entries from 1 to 1,000,000 that no wiring gives */
 void raise(size_t n, uint32_t *t);        /* each entry by 0, 1 or 2 */

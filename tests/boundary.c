@@ -5,8 +5,8 @@
  * converted once more, to the form that it has, and must stay; a Newick text that was written is read and one that was read is written,
  * and must be the same; the rows that a replay leaves must be those that the cost table of the images left is read as; a term report and
  * those of its first tables must be what single calls give, table by table. boundary --edges tries null pointers with count 0, numbers too
- * large for anything, the longest stored tables and Newick text, Newick texts, replays and term reports that were written by hand, the
- * longest replays, the most tables and far sides of a term report, and the text of every answer.
+ * large for anything, the longest stored tables and Newick text, images that cost nothing, Newick texts, replays and term reports that
+ * were written by hand, the longest replays, the most tables and far sides of a term report, and the text of every answer.
  */
 #include <errno.h>
 #include <stdio.h>
@@ -743,14 +743,19 @@ static int cases(const char *folder) {
         expect(#name, &r, sizeof r / sizeof(size_t), want, place, table); \
     } while (0)
 
-static void expect(const char *name, const void *answer, size_t size, size_t want, size_t place, size_t table) {
-    size_t words[15], wanted[15] = {want, table, place};
+static void expect_at(const char *name, const void *answer, size_t size, size_t want, size_t a, size_t b, size_t table) {
+    size_t words[15], wanted[15] = {want, table, a, b};
     call_name = name;
     memcpy(words, answer, size * sizeof(size_t));
     if (memcmp(words, wanted, size * sizeof(size_t))) {
-        fprintf(stderr, "%s: refusal %zu at %zu of table %zu, not %zu at %zu of %zu\n", name, words[0], words[2], words[1], want, place, table);
+        fprintf(stderr, "%s: refusal %zu at %zu %zu of table %zu, not %zu at %zu %zu of %zu\n", name, words[0], words[2], words[3], words[1],
+                want, a, b, table);
         faults++;
     }
+}
+
+static void expect(const char *name, const void *answer, size_t size, size_t want, size_t place, size_t table) {
+    expect_at(name, answer, size, want, place, 0, table);
 }
 
 /* Numbers that a writer may be told for the form: the first is the old one, all others are the new one. */
@@ -872,6 +877,145 @@ static void longest_tables(void) {
     }
 }
 
+/* ---- images that cost nothing ---- */
+
+/* Two tables of document 01, which are accepted; in the third image 1 stands between the two others, and its own link costs 0. */
+static const uint32_t three[] = {0, 1, 1, 1, 0, 1, 1, 1, 0};
+static const uint32_t four[] = {0, 2, 4, 4, 2, 0, 4, 4, 4, 4, 0, 2, 4, 4, 2, 0};
+static const uint32_t between[] = {0, 1, 1, 1, 0, 2, 1, 2, 0};
+
+/* Tables with a zero off the diagonal, the first of them document 01's B, and the pair that is named. */
+static const struct {
+    size_t n;
+    uint32_t t[16];
+    size_t row, column;
+} untimed[] = {
+    {3, {0}, 1, 2},
+    {3, {0, 0, 1, 0, 0, 1, 1, 1, 0}, 1, 2},
+    {3, {0, 1, 0, 1, 0, 1, 0, 1, 0}, 1, 3},
+    {3, {0, 1, 2, 1, 0, 0, 2, 0, 0}, 2, 3},
+    {4, {0, 1, 1, 0, 1, 0, 0, 1, 1, 0, 0, 1, 0, 1, 1, 0}, 1, 4},
+    {4, {0, 1000001, 9, 9, 1000001, 0, 9, 0, 9, 9, 0, 0, 9, 0, 0, 0}, 2, 4},
+};
+
+/* The bytes of a table in a form, bit by bit, whatever its entries are; how many there are. */
+static size_t store_bits(size_t form, size_t n, const uint32_t *t, uint8_t *bytes) {
+    size_t count = 0, width = form ? 23 : 20;
+    memset(bytes, 0, 32);
+    for (size_t k = 0; form && k < 7; k++, count++) bytes[count / 8] |= (uint8_t)(128 >> count % 8);
+    for (size_t k = 7; k-- > 0; count++) bytes[count / 8] |= (uint8_t)((n >> k & 1) << (7 - count % 8));
+    for (size_t i = 0; i < n; i++)
+        for (size_t j = i + 1; j < n; j++)
+            for (size_t k = width; k-- > 0; count++) bytes[count / 8] |= (uint8_t)((t[i * n + j] >> k & 1) << (7 - count % 8));
+    return (count + 7) / 8;
+}
+
+#define EXPECT_ZERO(Kind, name, arguments, table) \
+    do { \
+        Kind r = kemotuiki_##name arguments; \
+        expect_at(#name, &r, sizeof r / sizeof(size_t), KEMOTUIKI_ZERO_OFF_DIAGONAL, row, column, table); \
+    } while (0)
+
+/* Every call that takes such a table: 20, before a far side, images, a wiring or room for bytes is asked for. A good table stands beside. */
+static void refuse_table(size_t n, const uint32_t *t, const uint32_t *good, size_t row, size_t column) {
+    const size_t all = n * n, room = 2 * n - 3;
+    uint32_t joined[3 * 16];
+    uint8_t event = 0;
+    Lent lo;
+    Rows w;
+    uint32_t *out = lend(&lo, n, 4);
+    keep(&lo);
+    lend_rows(&w, room, room);
+    EXPECT_ZERO(KemotuikiIndex, index, (n, t, all, 2), 0);
+    EXPECT_ZERO(KemotuikiIndex, index, (n, t, all, 0), 0);
+    EXPECT_ZERO(KemotuikiOrder, order, (n, t, all, 1, 2, out, n), 0);
+    EXPECT_ZERO(KemotuikiOrder, order, (n, t, all, SIZE_MAX, 0, out, n), 0);
+    EXPECT_ZERO(KemotuikiRows, measured, (n, t, all, ROWS(w)), 0);
+    EXPECT_ZERO(KemotuikiRows, exact, (n, t, all, ROWS(w)), 0);
+    EXPECT_ZERO(KemotuikiRows, exact_grafted, (n, t, all, ROWS(w)), 0);
+    EXPECT_ZERO(KemotuikiReplay, replay, (n, t, all, NULL, 0, ROWS(w)), 0);
+    EXPECT_ZERO(KemotuikiReplay, replay, (n, t, all, &event, 1, ROWS(w)), 0);
+    EXPECT_ZERO(KemotuikiComparison, compare, (n, t, all, good, all), 1);
+    EXPECT_ZERO(KemotuikiComparison, compare, (n, good, all, t, all), 2);
+    EXPECT_ZERO(KemotuikiComparison, compare, (n, t, all, t, all), 1);
+    EXPECT_ZERO(KemotuikiRows, consensus, (n, 1, t, all, ROWS(w)), 1);
+    for (size_t place = 0; place < 3; place++) {
+        for (size_t k = 0; k < 3; k++) memcpy(joined + k * all, k == place ? t : good, all * sizeof *t);
+        EXPECT_ZERO(KemotuikiRows, consensus, (n, 3, joined, 3 * all, ROWS(w)), place + 1);
+    }
+    for (size_t f = 0; f < sizeof forms / sizeof *forms; f++) EXPECT_ZERO(KemotuikiBytes, write_costs, (forms[f], n, t, all, NULL, 0), 0);
+    EXPECT(KemotuikiRows, measured, (n, t, all, w.fars, room - 1, w.costs, room), KEMOTUIKI_NO_ROOM, 0, 0);
+    EXPECT(KemotuikiOrder, order, (n, t, all, 1, 2, out, n - 1), KEMOTUIKI_NO_ROOM, 0, 0);
+    settle(&lo, 0);
+    settle_rows(&w, 0);
+}
+
+/* Every call that reads such a table in a stored form, at its front and behind a good one; a fill bit, and too few bytes, come before it. */
+static void refuse_stored(size_t form, size_t n, const uint32_t *t, size_t row, size_t column) {
+    uint8_t bytes[64];
+    Lent lb, lo;
+    Sides w;
+    size_t front = store_bits(KEMOTUIKI_NEW_FORM, 3, three, bytes), used = store_bits(form, n, t, bytes + front), whole = front + used;
+    const uint8_t *stream = lend_bytes(&lb, bytes, whole);
+    uint32_t *out = lend(&lo, n * n, 4);
+    keep(&lo);
+    lend_sides(&w, KEMOTUIKI_REPORT_SIDES, KEMOTUIKI_REPORT_SIDES, KEMOTUIKI_REPORT_SIDES);
+    EXPECT_ZERO(KemotuikiCosts, read_costs, (stream, whole, 8 * front, out, n * n), 0);
+    EXPECT(KemotuikiCosts, read_costs, (stream, whole, 8 * front, out, n * n - 1), KEMOTUIKI_NO_ROOM, 0, 0);
+    EXPECT(KemotuikiCosts, read_costs, (stream, whole - 1, 8 * front, out, n * n), KEMOTUIKI_BYTES_END, 0, 0);
+    for (size_t f = 0; f < sizeof forms / sizeof *forms; f++)
+        EXPECT_ZERO(KemotuikiBytes, convert_costs, (forms[f], stream + front, used, NULL, 0), 0);
+    EXPECT_ZERO(KemotuikiReport, report, (stream + front, used, SIDES(w)), 1);
+    KemotuikiReport r = kemotuiki_report(stream, whole, SIDES(w));
+    KemotuikiReport want = {KEMOTUIKI_ZERO_OFF_DIAGONAL, 2, row, column, 0, 0, 3, 1, 1, 0, 0, 0, 0, 0, front};
+    if (memcmp(&r, &want, sizeof r)) fault("not what is answered to a second table with a zero");
+    bytes[whole - 1] |= 1;
+    if (n == 3) EXPECT(KemotuikiBytes, convert_costs, (form, bytes + front, used, NULL, 0), KEMOTUIKI_FILL_NOT_ZERO, 0, 0);
+    settle_sides(&w, 0);
+    settle(&lo, 0);
+    settle(&lb, 0);
+}
+
+static void images_that_cost_nothing(void) {
+    for (size_t k = 0; k < sizeof untimed / sizeof *untimed; k++) {
+        size_t n = untimed[k].n, row = untimed[k].row, column = untimed[k].column;
+        int fits_old = untimed[k].t[1] <= KEMOTUIKI_OLD_ENTRY_LIMIT;
+        refuse_table(n, untimed[k].t, n == 3 ? three : four, row, column);
+        refuse_stored(KEMOTUIKI_NEW_FORM, n, untimed[k].t, row, column);
+        if (fits_old) refuse_stored(KEMOTUIKI_OLD_FORM, n, untimed[k].t, row, column);
+    }
+}
+
+/* The table in which image 1 stands between the others: every call takes it, and the own link of 0 is read, stored and converted. */
+static void own_link_of_nothing(void) {
+    static const uint64_t sides[] = {2, 4, 6};
+    static const uint32_t links[] = {2, 2, 0};
+    uint8_t bytes[32], again[32], wanted[32];
+    uint32_t out[9];
+    call_name = "an own link of cost 0";
+    KemotuikiIndex i = kemotuiki_index(3, between, 9, 6);
+    if (i.number || i.signed_index) fault("its index is not 0");
+    if (kemotuiki_order(3, between, 9, 1, 3, out, 3).number) fault("there is no order");
+    if (kemotuiki_compare(3, between, 9, three, 9).number) fault("it is not compared");
+    Reading *const readings[] = {kemotuiki_measured, kemotuiki_exact, kemotuiki_exact_grafted};
+    for (size_t k = 0; k < 5; k++) {
+        Rows w;
+        lend_rows(&w, 3, 3);
+        size_t rows = k < 3 ? readings[k](3, between, 9, ROWS(w)).rows
+                    : k < 4 ? kemotuiki_consensus(3, 1, between, 9, ROWS(w)).rows : kemotuiki_replay(3, between, 9, NULL, 0, ROWS(w)).rows;
+        if (rows != 3 || !same_rows(3, sides, links, &w)) fault("it is not read as its rows");
+        settle_rows(&w, rows);
+    }
+    for (size_t form = 0; form < 2; form++) {
+        size_t used = store_bits(form, 3, between, wanted);
+        KemotuikiBytes b = kemotuiki_write_costs(form, 3, between, 9, bytes, used);
+        if (b.number || b.used != used || memcmp(bytes, wanted, used)) fault("it is not stored bit by bit");
+        KemotuikiCosts c = kemotuiki_read_costs(bytes, used, 0, out, 9);
+        if (c.number || memcmp(out, between, sizeof between)) fault("it is not read back");
+        if (kemotuiki_convert_costs(!form, bytes, used, again, sizeof again).number) fault("it is not converted");
+    }
+}
+
 /* ---- Newick text ---- */
 
 /* Texts, and what is answered where there are 125 places: the images of one that is accepted, or the refusal and its place. */
@@ -970,9 +1114,7 @@ static void longest_newick(void) {
 
 /* ---- images that leave ---- */
 
-/* Two tables of document 01, and five images of which 2 and 4 share a switch. */
-static const uint32_t three[] = {0, 1, 1, 1, 0, 1, 1, 1, 0};
-static const uint32_t four[] = {0, 2, 4, 4, 2, 0, 4, 4, 4, 4, 0, 2, 4, 4, 2, 0};
+/* Five images of which 2 and 4 share a switch. */
 static const uint32_t five[] = {0, 4, 2, 4, 2, 4, 0, 4, 2, 4, 2, 4, 0, 4, 2, 4, 2, 4, 0, 4, 2, 4, 2, 4, 0};
 
 /* Replays, and what is answered to each: the refusal of an event and its place, the images and rows that are left, and the event. */
@@ -1031,7 +1173,7 @@ static void replays_by_hand(void) {
 }
 
 /*
- * All images but three leave a line of 64 that is as long as an entry may be, so that own links cost 0 and joined rows cost up to the
+ * All images but three leave a line of 64 that is as long as an entry may be, so that own links cost 0 and joined rows cost nearly the
  * limit: always the first, always the last, or one in between. Every trace is replayed up to each of its events, and two further than
  * the one that is refused.
  */
@@ -1062,16 +1204,17 @@ static void longest_replays(void) {
 
 /*
  * Cost tables by a letter, in the old form, and by the small letter in the new one. A to G are those of document 01; H and I are E with
- * images 2 and 4, or 2 and 3, on one side. X is A with an entry that has all its upper bits.
+ * images 2 and 4, or 2 and 3, on one side. X is A with an entry that has all its upper bits, and Y is E whose last two images cost
+ * nothing. A writer refuses B and Y, so the bytes are made here.
  */
 static const struct {
     char letter;
     size_t n;
     uint32_t entries[6];
 } lettered[] = {
-    {'A', 3, {1, 1, 1}},          {'C', 3, {1, 1, 3}},          {'D', 3, {1, 1, 2}},
-    {'E', 4, {2, 4, 4, 4, 4, 2}}, {'F', 4, {2, 3, 4, 4, 4, 2}}, {'G', 4, {2, 2, 2, 2, 2, 2}},
-    {'H', 4, {4, 2, 4, 4, 2, 4}}, {'I', 4, {4, 4, 2, 2, 4, 4}}, {'X', 3, {1, 1, 1}},
+    {'A', 3, {1, 1, 1}},          {'B', 3, {0, 0, 0}},          {'C', 3, {1, 1, 3}},          {'D', 3, {1, 1, 2}},
+    {'E', 4, {2, 4, 4, 4, 4, 2}}, {'F', 4, {2, 3, 4, 4, 4, 2}}, {'G', 4, {2, 2, 2, 2, 2, 2}}, {'H', 4, {4, 2, 4, 4, 2, 4}},
+    {'I', 4, {4, 4, 2, 2, 4, 4}}, {'X', 3, {1, 1, 1}},          {'Y', 4, {2, 4, 4, 4, 4, 0}},
 };
 
 /* The stored table of a letter, at the end of so many bytes; how many there are then. */
@@ -1082,7 +1225,7 @@ static size_t put_letter(char letter, uint8_t *bytes, size_t count) {
     size_t n = lettered[k].n;
     for (size_t i = 0; i < n; i++)
         for (size_t j = i + 1; j < n; j++) t[i * n + j] = t[j * n + i] = lettered[k].entries[e++];
-    size_t used = kemotuiki_write_costs(form, n, t, n * n, bytes + count, 32).used;
+    size_t used = store_bits(form, n, t, bytes + count);
     if (lettered[k].letter == 'X' && form) bytes[count + 4] |= 0x07, bytes[count + 5] = 0xFF;
     if (lettered[k].letter == 'X' && !form) bytes[count + 3] |= 0x1F;
     return count + used;
@@ -1137,6 +1280,16 @@ static const struct {
     {"EA-", {KEMOTUIKI_BYTES_END, 2, 0, 0, 0, 0, 4, 1, 1, 0, 1, 0, 0, 0, 16}, {12}, {1}, {4}},
     {"EA+", {KEMOTUIKI_FILL_NOT_ZERO, 2, 0, 0, 0, 0, 4, 1, 1, 0, 1, 0, 0, 0, 16}, {12}, {1}, {4}},
     {"EX", {KEMOTUIKI_ENTRY_TOO_LARGE, 2, 1, 3, 0, 0, 4, 1, 1, 0, 1, 0, 0, 0, 16}, {12}, {1}, {4}},
+    {"B", {KEMOTUIKI_ZERO_OFF_DIAGONAL, 1, 1, 2, 0, 0, 0, 0, 0, 0, 0, 0, 0, 0, 0}, {0}, {0}, {0}},
+    {"bA", {KEMOTUIKI_ZERO_OFF_DIAGONAL, 1, 1, 2, 0, 0, 0, 0, 0, 0, 0, 0, 0, 0, 0}, {0}, {0}, {0}},
+    {"YE", {KEMOTUIKI_ZERO_OFF_DIAGONAL, 1, 3, 4, 0, 0, 0, 0, 0, 0, 0, 0, 0, 0, 0}, {0}, {0}, {0}},
+    {"ADCB", {KEMOTUIKI_ZERO_OFF_DIAGONAL, 4, 1, 2, 0, 0, 3, 3, 2, 1, 0, 1, 0, 0, 27}, {0}, {0}, {0}},
+    {"EYE", {KEMOTUIKI_ZERO_OFF_DIAGONAL, 2, 3, 4, 0, 0, 4, 1, 1, 0, 1, 0, 0, 0, 16}, {12}, {1}, {4}},
+    {"EFGy", {KEMOTUIKI_ZERO_OFF_DIAGONAL, 4, 3, 4, 0, 0, 4, 3, 2, 1, 1, 1, 1, 1, 48}, {12}, {1}, {4}},
+    {"EB", {KEMOTUIKI_ZERO_OFF_DIAGONAL, 2, 1, 2, 0, 0, 4, 1, 1, 0, 1, 0, 0, 0, 16}, {12}, {1}, {4}},
+    {"AY", {KEMOTUIKI_ZERO_OFF_DIAGONAL, 2, 3, 4, 0, 0, 3, 1, 1, 0, 0, 0, 0, 0, 9}, {0}, {0}, {0}},
+    {"AB-", {KEMOTUIKI_BYTES_END, 2, 0, 0, 0, 0, 3, 1, 1, 0, 0, 0, 0, 0, 9}, {0}, {0}, {0}},
+    {"AB+", {KEMOTUIKI_FILL_NOT_ZERO, 2, 0, 0, 0, 0, 3, 1, 1, 0, 0, 0, 0, 0, 9}, {0}, {0}, {0}},
 };
 
 /* Each of them with just enough places, with one place less of each kind, and with places to spare. No bytes are null. */
@@ -1178,10 +1331,10 @@ static void expect_report(const char *name, const uint8_t *bytes, size_t count, 
 
 /*
  * As many tables as a report may have and bytes behind them that are no table, which are not looked at, or one table more; one table
- * fewer, where they are. The costs are as large as they may be, so that their sums have more than 32 bits.
+ * fewer, where they are. The costs are as large as those of a table can be, so that their sums have more than 32 bits.
  */
 static void most_tables(void) {
-    static const uint32_t far_apart[] = {0, 0, 8000000, 8000000, 0, 0, 8000000, 8000000, 8000000, 8000000, 0, 0, 8000000, 8000000, 0, 0};
+    static const uint32_t far_apart[] = {0, 1, 8000000, 8000000, 1, 0, 8000000, 8000000, 8000000, 8000000, 0, 1, 8000000, 8000000, 1, 0};
     static uint8_t bytes[19 * (KEMOTUIKI_REPORT_TABLES + 1)];
     const size_t most = KEMOTUIKI_REPORT_TABLES, used = 19;
     for (size_t k = 0; k <= most; k++) kemotuiki_write_costs(KEMOTUIKI_NEW_FORM, 4, far_apart, 16, bytes + k * used, used);
@@ -1269,7 +1422,9 @@ static const struct {
     {{18, 0, 1433, 0, 0, 0}, "outside the Newick profile: byte 1433"},
     {{19, 0, 0, 0, 0, 0}, "more than 1,024 far sides in one report"},
     {{19, 500, 0, 0, 0, 0}, "table 500: more than 1,024 far sides in one report"},
-    {{20, 0, 0, 0, 0, 0}, "no such refusal: number 20"},
+    {{20, 0, 1, 2, 0, 0}, "zero off the diagonal: row and column 1 2"},
+    {{20, 0, 0, 0, 0, 0}, "zero off the diagonal: row and column 0 0"},
+    {{20, 500, 63, 64, 0, 0}, "table 500: zero off the diagonal: row and column 63 64"},
     {{21, 0, 0, 0, 0, 0}, "no such refusal: number 21"},
     {{22, 0, 10, 0, 0, 0}, "siblings out of order: byte 10"},
     {{22, 2, 10, 0, 0, 0}, "table 2: siblings out of order: byte 10"},
@@ -1302,6 +1457,8 @@ static int edges(void) {
     no_team();
     no_bytes();
     longest_tables();
+    images_that_cost_nothing();
+    own_link_of_nothing();
     newick_texts();
     longest_newick();
     replays_by_hand();

@@ -1,7 +1,8 @@
 #!/usr/bin/env bash
 # Runs the cases of crates/cases/data through the archive and compares with crates/cases/stdout, but for the calls of the reader
 # and the listings, which are not exported; then null pointers, large numbers, the longest stored tables, Newick text, replays and term
-# reports, Newick texts, replays and term reports by hand, and the text of every answer; then the header in every language that it is for.
+# reports, images that cost nothing, Newick texts, replays and term reports by hand, and the text of every answer; then the header in
+# every language that it is for.
 # Status 1 on a difference, 0 if all is the same or nothing could be run, which is said.
 set -euo pipefail
 cd "$(dirname "$0")/.."
@@ -36,8 +37,8 @@ else
     status=1
 fi
 if $RUN "$work/boundary" --edges; then
-    echo "boundary: null pointers, large numbers, the longest stored tables, Newick texts, replays, term reports and the text of" \
-        "every answer, as expected"
+    echo "boundary: null pointers, large numbers, the longest stored tables, images that cost nothing, Newick texts, replays," \
+        "term reports and the text of every answer, as expected"
 else
     status=1
 fi

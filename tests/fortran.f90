@@ -356,28 +356,28 @@ contains
 
     subroutine run_all(folder)
         character(*), intent(in) :: folder
-        call run('index', do_index, folder, [1, 2, 4, 5, 6, 12], far_sides=.true.)
-        call run('order', do_order, folder, [1, 2, 3, 4, 5, 6, 8])
-        call run('measured', do_measured, folder, [1, 2, 3, 4, 5, 6], far_sides=.true.)
-        call run('exact', do_exact, folder, [1, 2, 3, 4, 5, 6, 7], far_sides=.true.)
+        call run('index', do_index, folder, [1, 2, 4, 5, 6, 12, 20], far_sides=.true.)
+        call run('order', do_order, folder, [1, 2, 3, 4, 5, 6, 8, 20])
+        call run('measured', do_measured, folder, [1, 2, 3, 4, 5, 6, 20], far_sides=.true.)
+        call run('exact', do_exact, folder, [1, 2, 3, 4, 5, 6, 7, 20], far_sides=.true.)
         call run('path', do_path, folder, [1, 2, 8, 10, 12, 13], far_sides=.true.)
         call run('upper_rows', do_upper_rows, folder, [1, 2, 3, 10, 12, 13], far_sides=.true.)
         call run('route', do_route, folder, [1, 2, 3, 8, 10, 12, 13], far_sides=.true.)
-        call run('compare', do_compare, folder, [1, 2, 4, 5, 6, 7])
-        call run('write_costs', do_write_costs, folder, [1, 2, 3, 4, 5, 6, 17])
-        call run('read_costs', do_read_costs, folder, [1, 3, 4, 9, 11])
+        call run('compare', do_compare, folder, [1, 2, 4, 5, 6, 7, 20])
+        call run('write_costs', do_write_costs, folder, [1, 2, 3, 4, 5, 6, 17, 20])
+        call run('read_costs', do_read_costs, folder, [1, 3, 4, 9, 11, 20])
         call run('write_links', do_write_links, folder, [1, 2, 3, 10, 12, 13, 17], far_sides=.true.)
         call run('read_links', do_read_links, folder, [1, 3, 9, 10, 11, 12, 13], far_sides=.true.)
         call run('write_batch', do_write_batch, folder, [1, 2, 3, 10, 12, 13, 17])
         call run('choice', do_choice, folder, [1, 9, 10, 11, 12, 13, 14, 15])
-        call run('consensus', do_consensus, folder, [1, 2, 3, 4, 5, 6, 7, 16], far_sides=.true.)
-        call run('exact_grafted', do_exact_grafted, folder, [1, 2, 3, 4, 5, 6, 7], far_sides=.true.)
-        call run('convert_costs', do_convert_costs, folder, [1, 3, 4, 9, 11, 17])
+        call run('consensus', do_consensus, folder, [1, 2, 3, 4, 5, 6, 7, 16, 20], far_sides=.true.)
+        call run('exact_grafted', do_exact_grafted, folder, [1, 2, 3, 4, 5, 6, 7, 20], far_sides=.true.)
+        call run('convert_costs', do_convert_costs, folder, [1, 3, 4, 9, 11, 17, 20])
         call run('convert_links', do_convert_links, folder, [1, 3, 9, 10, 11, 12, 13, 17])
         call run('write_newick', do_write_newick, folder, [1, 2, 3, 10, 12, 13], far_sides=.true.)
         call run('read_newick', do_read_newick, folder, [1, 3, 12, 13, 18, 22], far_sides=.true.)
-        call run('replay', do_replay, folder, [1, 2, 3, 4, 5, 6, 7, 8], far_sides=.true.)
-        call run('report', do_report, folder, [1, 3, 4, 9, 11, 15, 19], far_sides=.true.)
+        call run('replay', do_replay, folder, [1, 2, 3, 4, 5, 6, 7, 8, 20], far_sides=.true.)
+        call run('report', do_report, folder, [1, 3, 4, 9, 11, 15, 19, 20], far_sides=.true.)
     end subroutine
 
     ! With a far side that is a default integer, where it can be one.
@@ -829,6 +829,9 @@ contains
         call hold('the version', kemotuiki_version == version .and. joined == version)
         call texts()
         call places_by_rows()
+        call images_that_cost_nothing()
+        call stored_nothing()
+        call own_link_of_nothing()
         call another_shape()
         call teams()
         call stored_in_a_corner()
@@ -876,7 +879,9 @@ contains
         call say(kemotuiki_outside_profile, 0, [5, 0, 0, 0], 'outside the Newick profile: byte 5')
         call say(kemotuiki_too_many_sides, 0, [0, 0, 0, 0], 'more than 1,024 far sides in one report')
         call say(kemotuiki_too_many_sides, 500, [0, 0, 0, 0], 'table 500: more than 1,024 far sides in one report')
-        call say(20, 0, [0, 0, 0, 0], 'no such refusal: number 20')
+        call say(kemotuiki_zero_off_diagonal, 0, [1, 2, 0, 0], 'zero off the diagonal: row and column 1 2')
+        call say(kemotuiki_zero_off_diagonal, 500, [63, 64, 0, 0], 'table 500: zero off the diagonal: row and column 63 64')
+        call say(21, 0, [0, 0, 0, 0], 'no such refusal: number 21')
         call say(kemotuiki_siblings_out_of_order, 0, [10, 0, 0, 0], 'siblings out of order: byte 10')
         call say(23, 0, [0, 0, 0, 0], 'no such refusal: number 23')
     end subroutine
@@ -937,6 +942,89 @@ contains
         logical :: refused_at
         refused_at = r%number == kemotuiki_entry_too_large .and. all([r%table, r%a, r%b, r%c, r%d] == [table, row, column, 0, 0])
     end function
+
+    pure function zero_at(r, table, row, column)
+        class(kemotuiki_answer), intent(in) :: r
+        integer, intent(in) :: table, row, column
+        logical :: zero_at
+        zero_at = r%number == kemotuiki_zero_off_diagonal .and. all([r%table, r%a, r%b, r%c, r%d] == [table, row, column, 0, 0])
+    end function
+
+    ! Of two pairs of images that cost nothing, the one in row 1 comes before the one in row 2, though it stands behind it in memory. It
+    ! comes before a far side, images or events that are not there, and before room for bytes; and before the images without a wiring.
+    subroutine images_that_cost_nothing()
+        integer :: t(6, 6), out(6), costs(9)
+        integer(int64) :: fars(9)
+        integer(int8) :: bytes(0)
+        t = star(6)
+        t(1, 6) = 0
+        t(6, 1) = 0
+        t(2, 3) = 0
+        t(3, 2) = 0
+        t(4, 5) = 9
+        t(5, 4) = 9
+        call hold('index of nothing', zero_at(kemotuiki_index(t, 0), 0, 1, 6))
+        call hold('order of nothing', zero_at(kemotuiki_order(t, 1, 7, out), 0, 1, 6))
+        call hold('measured of nothing', zero_at(kemotuiki_measured(t, fars, costs), 0, 1, 6))
+        call hold('exact of nothing', zero_at(kemotuiki_exact(t, fars, costs), 0, 1, 6))
+        call hold('exact_grafted of nothing', zero_at(kemotuiki_exact_grafted(t, fars, costs), 0, 1, 6))
+        call hold('write_costs of nothing', zero_at(kemotuiki_write_costs(kemotuiki_old_form, t, bytes), 0, 1, 6))
+        call hold('write_costs of nothing, new form', zero_at(kemotuiki_write_costs(kemotuiki_new_form, t, bytes), 0, 1, 6))
+        call hold('compare with nothing, first table', zero_at(kemotuiki_compare(t, star(6)), 1, 1, 6))
+        call hold('compare with nothing, second table', zero_at(kemotuiki_compare(star(6), t), 2, 1, 6))
+        call hold('consensus with nothing, third table', zero_at(kemotuiki_consensus(stars_and(t), fars, costs), 3, 1, 6))
+        call hold('replay of nothing', zero_at(kemotuiki_replay(t, [0], fars, costs), 0, 1, 6))
+    end subroutine
+
+    ! Document 01's B in both stored forms, byte by byte, alone and behind a star.
+    subroutine stored_nothing()
+        integer, parameter :: room = kemotuiki_report_sides
+        integer(int8), parameter :: old(9) = [6_int8, spread(0_int8, 1, 8)], new(11) = [-2_int8, 12_int8, spread(0_int8, 1, 9)]
+        integer(int64) :: fars(room), sums(room)
+        integer :: trees(room), t(3, 3)
+        integer(int8) :: out(11)
+        type(kemotuiki_report_answer) :: r
+        t = -1
+        fars = -1
+        out = -1
+        call hold('read_costs of nothing', zero_at(kemotuiki_read_costs(old, 0, t), 0, 1, 2) .and. all(t == -1))
+        call hold('read_costs of nothing, new form', zero_at(kemotuiki_read_costs(new, 0, t), 0, 1, 2) .and. all(t == -1))
+        call hold('convert_costs of nothing', zero_at(kemotuiki_convert_costs(kemotuiki_new_form, old, out), 0, 1, 2))
+        call hold('convert_costs of nothing, to old', zero_at(kemotuiki_convert_costs(kemotuiki_old_form, new, out), 0, 1, 2))
+        call hold('nothing converted', all(out == -1_int8))
+        r = kemotuiki_report(new, fars, trees, sums)
+        call hold('a report of nothing', zero_at(r, 1, 1, 2) .and. all(figures(r) == 0))
+        r = kemotuiki_report([stored(kemotuiki_new_form, star(3)), old], fars, trees, sums)
+        call hold('a report with nothing in its second table', zero_at(r, 2, 1, 2) .and. all(fars == -1) &
+                  .and. all(figures(r) == [3, 1, 1, 0, 0, 0, 0, 0, 11]))
+        r = kemotuiki_report([stored(kemotuiki_old_form, star(4)), old], fars, trees, sums)
+        call hold('three images that cost nothing behind four', r%text() == 'table 2: zero off the diagonal: row and column 1 2')
+    end subroutine
+
+    ! Document 01's D, in which image 1 stands between the others: its own link costs 0 and stays.
+    subroutine own_link_of_nothing()
+        integer, parameter :: d(3, 3) = reshape([0, 1, 1, 1, 0, 2, 1, 2, 0], [3, 3])
+        integer(int64) :: fars(3)
+        integer :: costs(3), back(3, 3)
+        integer(int8) :: bytes(16)
+        type(kemotuiki_index_answer) :: i
+        type(kemotuiki_rows_answer) :: r
+        type(kemotuiki_bytes_answer) :: w
+        type(kemotuiki_costs_answer) :: c
+        i = kemotuiki_index(d, 6)
+        call hold('the index of image 1 between others', i%accepted() .and. i%signed_index == 0)
+        r = kemotuiki_measured(d, fars, costs)
+        call hold('image 1 between others, measured', r%rows == 3 .and. all(fars == [2, 4, 6]) .and. all(costs == [2, 2, 0]))
+        costs = -1
+        r = kemotuiki_exact(d, fars, costs)
+        call hold('image 1 between others, read exactly', r%rows == 3 .and. all(fars == [2, 4, 6]) .and. all(costs == [2, 2, 0]))
+        costs = -1
+        r = kemotuiki_consensus(spread(d, 3, 2), fars, costs)
+        call hold('image 1 between others, twice', r%rows == 3 .and. all(costs == [2, 2, 0]))
+        w = kemotuiki_write_costs(kemotuiki_new_form, d, bytes)
+        c = kemotuiki_read_costs(bytes, 0, back)
+        call hold('image 1 between others, stored', w%used == 11 .and. c%accepted() .and. all(back == d))
+    end subroutine
 
     ! 9 by 4 entries are as many as 6 by 6, and still no table of 6 images.
     subroutine another_shape()

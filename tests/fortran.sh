@@ -44,8 +44,8 @@ sed -n 's/^Kemotuiki[A-Za-z]* kemotuiki_\([a-z_]*\)(.*/\1/p' include/kemotuiki.h
 diff "$work/exported" "$work/run" || { echo "fortran: DIFFERENT, the calls of the header and those that were run"; status=1; }
 
 if $RUN "$work/fortran" --by-hand "$(cat VERSION)"; then
-    echo "fortran: the version, the texts, tables by rows and of another shape, Newick texts, replays, term reports, sections," \
-        "as expected"
+    echo "fortran: the version, the texts, tables by rows, with zeros and of another shape, Newick texts, replays, term reports," \
+        "sections, as expected"
 else
     status=1
 fi

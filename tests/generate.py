@@ -56,34 +56,34 @@ EVERY_SIGN = (3, 4, 5, 9, 17, 33, 64)
 # slice by the bits of its elements, a lent output with a star; the refusal
 # numbers it can give.
 CALLS = {
-    "index": (law.index, "n 32 n", (1, 2, 4, 5, 6, 12)),
-    "order": (law.order, "n 32 n n 32*", (1, 2, 3, 4, 5, 6, 8)),
-    "measured": (law.measured, "n 32 64* 32*", (1, 2, 3, 4, 5, 6)),
-    "exact": (law.exact, "n 32 64* 32*", (1, 2, 3, 4, 5, 6, 7)),
+    "index": (law.index, "n 32 n", (1, 2, 4, 5, 6, 12, 20)),
+    "order": (law.order, "n 32 n n 32*", (1, 2, 3, 4, 5, 6, 8, 20)),
+    "measured": (law.measured, "n 32 64* 32*", (1, 2, 3, 4, 5, 6, 20)),
+    "exact": (law.exact, "n 32 64* 32*", (1, 2, 3, 4, 5, 6, 7, 20)),
     "path": (law.path, "n n 64 32 n n", (1, 2, 8, 10, 12, 13)),
     "upper_rows": (law.upper_rows, "n n 64 32 32*", (1, 2, 3, 10, 12, 13)),
     "route": (law.route, "n n 64 32 n 32*", (1, 2, 3, 8, 10, 12, 13)),
-    "compare": (law.compare, "n 32 32", (1, 2, 4, 5, 6, 7)),
-    "write_costs": (law.write_costs, "n n 32 8*", (1, 2, 3, 4, 5, 6, 17)),
-    "read_costs": (law.read_costs, "8 n 32*", (1, 3, 4, 9, 11)),
+    "compare": (law.compare, "n 32 32", (1, 2, 4, 5, 6, 7, 20)),
+    "write_costs": (law.write_costs, "n n 32 8*", (1, 2, 3, 4, 5, 6, 17, 20)),
+    "read_costs": (law.read_costs, "8 n 32*", (1, 3, 4, 9, 11, 20)),
     "write_links": (law.write_links, "n n n 64 32 8*", (1, 2, 3, 10, 12, 13, 17)),
     "read_links": (law.read_links, "8 n 64* 32*", (1, 3, 9, 10, 11, 12, 13)),
     "write_batch": (law.write_batch, "n 32 32 64 32 8*", (1, 2, 3, 10, 12, 13, 17)),
     "choice": (law.choice, "8 8", (1, 9, 10, 11, 12, 13, 14, 15)),
-    "first_two": (law.first_two, "8 n 32* 32*", (1, 3, 4, 9, 11)),
+    "first_two": (law.first_two, "8 n 32* 32*", (1, 3, 4, 9, 11, 20)),
     "first_links": (law.first_links, "8 n 64* 32*", (1, 3, 9, 10, 11, 12, 13)),
-    "two_costs": (law.two_costs, "8 32* 32*", (1, 3, 4, 9, 11)),
+    "two_costs": (law.two_costs, "8 32* 32*", (1, 3, 4, 9, 11, 20)),
     "two_fields": (law.two_fields, "8 n n n", (3, 9)),
     "refusal_text": (law.refusal_text, "n n n n n n 8*", (3,)),
-    "consensus": (law.consensus, "n n 32 64* 32*", (1, 2, 3, 4, 5, 6, 7, 16)),
-    "listing": (law.listing, "8", (1, 4, 7, 9, 11)),
-    "exact_grafted": (law.exact_grafted, "n 32 64* 32*", (1, 2, 3, 4, 5, 6, 7)),
-    "convert_costs": (law.convert_costs, "n 8 8*", (1, 3, 4, 9, 11, 17)),
+    "consensus": (law.consensus, "n n 32 64* 32*", (1, 2, 3, 4, 5, 6, 7, 16, 20)),
+    "listing": (law.listing, "8", (1, 4, 7, 9, 11, 20)),
+    "exact_grafted": (law.exact_grafted, "n 32 64* 32*", (1, 2, 3, 4, 5, 6, 7, 20)),
+    "convert_costs": (law.convert_costs, "n 8 8*", (1, 3, 4, 9, 11, 17, 20)),
     "convert_links": (law.convert_links, "n 8 8*", (1, 3, 9, 10, 11, 12, 13, 17)),
     "write_newick": (law.write_newick, "n n 64 32 8*", (1, 2, 3, 10, 12, 13)),
     "read_newick": (law.read_newick, "8 64* 32*", (1, 3, 12, 13, 18, 22)),
-    "replay": (law.replay, "n 32 8 64* 32*", (1, 2, 3, 4, 5, 6, 7, 8)),
-    "report": (law.report, "8 64* 32* 64*", (1, 3, 4, 9, 11, 15, 19)),
+    "replay": (law.replay, "n 32 8 64* 32*", (1, 2, 3, 4, 5, 6, 7, 8, 20)),
+    "report": (law.report, "8 64* 32* 64*", (1, 3, 4, 9, 11, 15, 19, 20)),
 }
 
 # With so many images each answer of the calls for Newick text is met, but for 18, which is found
@@ -109,6 +109,13 @@ TOLD_A_FORM = ("write_costs", "write_links", "write_batch")
 FIND_A_FORM = ("read_costs", "read_links", "choice", "first_two", "first_links", "two_costs", "listing",
                "convert_costs", "convert_links")
 OF_ONE_FORM = (14, 15, 17)
+
+# Where two images of many cost nothing: the first pair, the last, one between, or two, of which the one
+# in the lower row has the higher column. With so many images each call that gives 20 meets all of these, and
+# every choice of the pairs of three images; with more it meets some, and all calls together meet each.
+ZERO_WORDS = ("first", "last", "between", "lower row")
+EVERY_ZERO = 9
+LARGE_ZEROS = (33, 64)
 
 # The engines of the exact reading, each with the other one, which answers the same.
 OTHER_ENGINE = {"exact": law.exact_grafted, "exact_grafted": law.exact}
@@ -196,12 +203,15 @@ def two_rooms(dice, needed, short):
 
 
 def fault_sets(dice, kinds, alone, together):
-    """Each kind alone some times; then several at once. The kinds stand in the
-    order of the call's checks, so that each but the last comes first about as
-    often; the last stands alone a few times more."""
+    """Each kind alone some times; a zero with each other kind; then several at once. The
+    kinds stand in the order of the call's checks, so that each but the last comes first
+    about as often; the last stands alone a few times more."""
     for kind in kinds + kinds[-1:]:
         for _ in range(alone):
             yield {kind}
+    for kind in kinds:
+        if "zero" in kinds and kind != "zero":
+            yield {kind, "zero"}
     for turn in range(together):
         first = turn % (len(kinds) - 1)
         later = [kind for kind in kinds[first + 1:] if dice.chance(1, 2)]
@@ -262,8 +272,8 @@ def images_of(stored):
 
 
 def sparse_table(dice, n, most):
-    """One entry in four is large and the others are 0, so that the lines stay short."""
-    return table_from(n, [dice.between(0, most) if dice.chance(1, 4) else 0 for _ in pairs(n)])
+    """One entry in four is large and the others are 1, so that the lines stay short."""
+    return table_from(n, [dice.between(1, most) if dice.chance(1, 4) else 1 for _ in pairs(n)])
 
 
 # Cost tables
@@ -273,6 +283,16 @@ def tree(dice, n, most=None, shape=None):
     return tree_table(n, tree_rows(dice, n, shape, most or dice.one_of([1, 3, 20, 20, 300])))
 
 
+def costs_of(n, rows):
+    """The table of these rows, of which some may have been left out: where two images came to cost nothing,
+    one of their own links is longer."""
+    return tree_table(n, law.held_apart(n, rows))
+
+
+def all_ones(n):
+    return table_from(n, [1] * (n * n))
+
+
 def good_table(dice, n):
     kind = dice.below(12)
     if kind < 5:
@@ -280,23 +300,30 @@ def good_table(dice, n):
     if kind < 7:
         return law.noisy(dice, n, tree(dice, n), dice.one_of([1, 1, 2, 8]))
     if kind < 9:
-        return law.random_table(dice, n, dice.one_of([1, 2, 3, 9]))
+        return law.random_table(dice, n, dice.one_of([2, 3, 4, 9]))
     if kind == 9 and n < 7:
         return law.random_table(dice, n, 8000000)
     if kind == 10:
-        return table_from(n, [dice.one_of([0, 8000000]) for _ in pairs(n)])
-    return table_from(n, [dice.one_of([0, 8000000, 7999999, 1000001])] * (n * n))
+        return table_from(n, [dice.one_of([1, 8000000]) for _ in pairs(n)])
+    return table_from(n, [dice.one_of([1, 8000000, 7999999, 1000001])] * (n * n))
 
 
-TABLE_FAULTS = ["n", "length", "entry", "diagonal", "asymmetric"]
+TABLE_FAULTS = ["n", "length", "entry", "diagonal", "asymmetric", "zero"]
+
+
+def damage_pairs(dice, n, t, faults):
+    """The table with entries above the old limits, and with zeros between images, where these are faults."""
+    if "old" in faults:
+        for i, j in dice.mixed(pairs(n))[:dice.between(1, 2)]:
+            t = with_entry(n, t, i, j, dice.one_of(ABOVE_OLD_ENTRY))
+    if "zero" in faults:
+        t = with_zeros(n, t, dice.mixed(pairs(n))[:dice.between(1, 2)])
+    return t
 
 
 def damage_table(dice, n, t, faults):
     """The table with these faults, and the n that goes with it."""
-    t = list(t)
-    if "old" in faults:
-        for i, j in dice.mixed(pairs(n))[:dice.between(1, 2)]:
-            t = with_entry(n, t, i, j, dice.one_of(ABOVE_OLD_ENTRY))
+    t = damage_pairs(dice, n, list(t), faults)
     for _ in range(dice.between(1, 2)):
         i, j = dice.below(n), dice.below(n)
         other = dice.one_of([k for k in range(n) if k != i])
@@ -316,10 +343,42 @@ def damage_table(dice, n, t, faults):
 
 
 def all_small_tables():
-    for x in range(3):
-        for y in range(3):
-            for z in range(3):
+    for x in range(1, 4):
+        for y in range(1, 4):
+            for z in range(1, 4):
                 yield table_from(3, [x, y, z])
+
+
+def with_zeros(n, t, zeros):
+    """The table in which these pairs of images cost nothing."""
+    for i, j in zeros:
+        t = with_entry(n, t, i, j, 0)
+    return t
+
+
+def zeros_at(dice, n, word):
+    """Pairs of many images by one of the words for where zeros stand."""
+    return {"first": [(1, 2)], "last": [(n - 1, n)], "between": [dice.one_of(pairs(n)[1:-1])],
+            "lower row": [(1, dice.one_of([min(5, n), n])), (2, 3)]}[word]
+
+
+def zero_tables(dice):
+    """Tables in which images cost nothing: of three images each choice of pairs, of four and of nine zeros
+    at each place, all of them, and several in one row."""
+    for chosen in range(1, 8):
+        zeros = [pair for bit, pair in enumerate(pairs(3)) if chosen >> bit & 1]
+        yield 3, with_zeros(3, law.random_table(dice, 3, 9), zeros)
+    for n in (4, EVERY_ZERO):
+        for word in ZERO_WORDS:
+            yield n, with_zeros(n, dice.one_of([tree(dice, n, 9), all_ones(n)]), zeros_at(dice, n, word))
+    yield 4, [0] * 16
+    yield 9, with_zeros(9, tree(dice, 9, 3), [(2, 9), (2, 5), (8, 9), (3, 4)])
+
+
+def large_zeros(dice, *places_of):
+    """Tables of many images with zeros, for each n and word that is given."""
+    for n, word in places_of:
+        yield n, with_zeros(n, all_ones(n), zeros_at(dice, n, word))
 
 
 def example_tables():
@@ -327,13 +386,15 @@ def example_tables():
 
 
 def tables(dice, good):
-    """Well-formed tables, then tables without a possible n; with each whether it
-    is well-formed."""
+    """Well-formed tables, among them some in which images cost nothing, then tables
+    without a possible n; with each whether it is well-formed."""
     for n, t in example_tables():
         yield n, t, True
     for t in all_small_tables():
         if dice.chance(1, 2):
             yield 3, t, True
+    for n, t in zero_tables(dice):
+        yield n, t, True
     for _ in range(good):
         n = small_n(dice)
         yield n, good_table(dice, n), True
@@ -371,16 +432,17 @@ def any_far_side(dice, n, t, bad):
 def index_cases(dice):
     for n, t, sound in tables(dice, 60):
         yield n, t, any_far_side(dice, n, t, False) if sound else 2
-    for n, bad_n, bad_t, faults in damaged(dice, TABLE_FAULTS + ["side"], 7, 60):
+    for n, bad_n, bad_t, faults in damaged(dice, TABLE_FAULTS + ["side"], 7, 54):
         yield bad_n, bad_t, any_far_side(dice, n, [0] * (n * n), "side" in faults)
     for n, most in ((33, 2), (33, 20), (64, 1)):
         rows = tree_rows(dice, n, "uneven", most)
         inner = [far for far, _ in rows if is_inner(n, far)]
         t = tree_table(n, rows)
         yield n, t, dice.one_of(inner)
-    yield 64, table_from(64, [1] * 2016), 2 ** 63
+    for n, t in large_zeros(dice, (33, "lower row"), (64, "last")):
+        yield n, t, 2 ** (n - 1)
     for s in (2 ** 33 + 2, 2 ** 32):
-        yield 33, table_from(33, [1] * 528), s
+        yield 33, all_ones(33), s
     yield from signed_index_cases(dice)
 
 
@@ -391,17 +453,18 @@ def two_groups(n, s, inside, across):
 
 def signed_index_cases(dice):
     """An index below 0, 0 and above it, and at its ends, for few images and for many. By
-    two_groups it is 2 across - 2 inside, and 2 across - inside for an own link; an own link
-    stops at minus the limit."""
+    two_groups it is 2 across - 2 inside, and 2 across - inside for an own link; with no zeros
+    the ends are 15,999,998 and -15,999,998, and 15,999,999 and -7,999,998 for an own link."""
     for n in EVERY_SIGN:
         owns = [own_link(n, 1), own_link(n, dice.between(2, n))]
         inners = [2 ** (n - 1) + 2 ** dice.between(1, n - 2), 2 ** n - 4] if n > 3 else []
         for s in owns + inners if n < 10 else owns[1:] + inners[:1]:
-            for inside, across in (3, 1), (2, 1), (1, 1), (0, 0), (2, 3):
-                if n < 10 or (inside * across > 0 and (n < 64 or inside != 2 * across)):
-                    yield n, two_groups(n, s, inside, across), s
+            # Of 64 images one table for each sign is enough.
+            some = [(3, 1), (2, 1), (1, 1), (2, 3)] if n < 64 else [(3, 1), (1, 1)] if is_inner(n, s) else [(2, 3)]
+            for inside, across in some:
+                yield n, two_groups(n, s, inside, across), s
         for s in owns[:1] + inners[:1] if n < 64 else inners[:1]:
-            for inside, across in (8000000, 0), (0, 8000000):
+            for inside, across in (8000000, 1), (1, 8000000):
                 yield n, two_groups(n, s, inside, across), s
         # Where all entries are 4 the index is 0; one that is 5 inside or 3 across makes it -1.
         for s in inners[:1]:
@@ -441,20 +504,22 @@ def order_cases(dice):
     for n, t, sound in tables(dice, 60):
         first, last = two_images(dice, n, False) if sound else (1, 2)
         yield n, t, first, last, places(dice, room(dice, n, False) if sound else 4)
-    kinds = ["n", "length", "room", "entry", "diagonal", "asymmetric", "image"]
-    for n, bad_n, bad_t, faults in damaged(dice, kinds, 7, 60):
+    kinds = ["n", "length", "room", "entry", "diagonal", "asymmetric", "zero", "image"]
+    for n, bad_n, bad_t, faults in damaged(dice, kinds, 7, 56):
         first, last = two_images(dice, n, "image" in faults)
         yield bad_n, bad_t, first, last, places(dice, room(dice, n, "room" in faults))
     for n, most, first, last in ((33, 3, 1, 33), (33, 20, 17, 2), (64, 1, 64, 1)):
         yield n, tree(dice, n, most, "uneven"), first, last, places(dice, n + 1)
+    for n, t in large_zeros(dice, (33, "between"), (64, "lower row")):
+        yield n, t, n, 1, places(dice, n)
 
 
 def reading_cases(dice, exactly):
     for n, t, sound in tables(dice, 60):
         room1, room2 = two_rooms(dice, 2 * n - 3, False) if sound else (3, 3)
         yield n, t, far_places(dice, room1), places(dice, room2)
-    kinds = ["n", "length", "room", "entry", "diagonal", "asymmetric"]
-    for n, bad_n, bad_t, faults in damaged(dice, kinds, 7, 60):
+    kinds = ["n", "length", "room", "entry", "diagonal", "asymmetric", "zero"]
+    for n, bad_n, bad_t, faults in damaged(dice, kinds, 7, 54):
         room1, room2 = two_rooms(dice, 2 * n - 3, "room" in faults)
         yield bad_n, bad_t, far_places(dice, room1), places(dice, room2)
     # Room for the rows of a star, but not the 2n-3 places that are asked.
@@ -474,6 +539,9 @@ def reading_cases(dice, exactly):
     for n, most, shape in ((33, 1, "caterpillar"), (33, 30, "uneven"),
                            (64, 1, "caterpillar" if exactly else "uneven")):
         yield n, tree(dice, n, most, shape), far_places(dice, 2 * n - 3), places(dice, 2 * n)
+    zeros = ((33, "first"), (64, "last")) if exactly else ((33, "last"), (64, "first"))
+    for n, t in large_zeros(dice, *zeros):
+        yield n, t, far_places(dice, 2 * n - 3), places(dice, 2 * n - 3)
     # The last pair of images a little too far apart.
     n = 64
     t = tree(dice, n, 1, "uneven")
@@ -534,13 +602,13 @@ def compare_cases(dice):
                 yield n, t, t2
     for n in [small_n(dice) for _ in range(50)] + [9] * 6:
         one, two = related_rows(dice, n)
-        yield n, tree_table(n, even_rows(one)), tree_table(n, even_rows(two))
+        yield n, costs_of(n, even_rows(one)), costs_of(n, even_rows(two))
     for _ in range(20):
         n = small_n(dice)
         yield n, good_table(dice, n), good_table(dice, n)
     for n in BAD_N:
         yield n, [], [1]
-    for faults in fault_sets(dice, TABLE_FAULTS + ["wiring"], 8, 60):
+    for faults in fault_sets(dice, TABLE_FAULTS + ["wiring"], 8, 54):
         n = damaged_n(dice)
         t = [tree(dice, n), tree(dice, n)]
         bad_n = n
@@ -553,7 +621,7 @@ def compare_cases(dice):
         yield bad_n, t[0], t[1]
     # Each fault in the first table with each in the second.
     n, crooked = law.example("F")
-    kinds = ["length", "entry", "diagonal", "asymmetric", "wiring"]
+    kinds = ["length", "entry", "diagonal", "asymmetric", "zero", "wiring"]
     for fault in kinds:
         for fault2 in kinds:
             yield (n, damage_table(dice, n, crooked, {fault})[1],
@@ -561,10 +629,19 @@ def compare_cases(dice):
     for n, most in ((33, 3), (64, 1)):
         one = tree_rows(dice, n, "uneven", most)
         two = fewer_inner(dice, n, one) if n == 64 else tree_rows(dice, n, "caterpillar", 1)
-        yield n, tree_table(n, even_rows(one)), tree_table(n, even_rows(two))
+        yield n, costs_of(n, even_rows(one)), costs_of(n, even_rows(two))
     for n in (3, 4, 9, 33, 64):
-        for one, two in disagreeing(dice, n):
-            yield n, tree_table(n, one), tree_table(n, two)
+        found = list(disagreeing(dice, n))
+        for one, two in found if n < 64 else found[:2] + found[3:5]:
+            yield n, costs_of(n, one), costs_of(n, two)
+    # Images that cost nothing, in the first table, in the second, and in both.
+    for n, t in zero_tables(dice):
+        good, worse = tree(dice, n), with_zeros(n, t, [(1, 2)])
+        yield (n, *dice.one_of([(t, good), (good, t), (t, worse)]))
+        if n == 3:
+            yield n, good, t
+    for n, t in large_zeros(dice, (33, "last"), (33, "lower row"), (64, "between")):
+        yield n, all_ones(n), t
 
 
 def write_costs_cases(dice):
@@ -573,7 +650,7 @@ def write_costs_cases(dice):
         form = law.form_named(number)
         needed = room(dice, costs_length(form, n), False) if sound else 9
         yield number, n, fitted(t, form), byte_places(dice, needed)
-    for n, bad_n, bad_t, faults in damaged(dice, TABLE_FAULTS + ["old", "room"], 7, 66):
+    for n, bad_n, bad_t, faults in damaged(dice, TABLE_FAULTS + ["old", "room"], 7, 56):
         number = 0 if "old" in faults else dice.one_of(FORM_NUMBERS)
         form = law.form_named(number)
         bad_t = bad_t if "old" in faults else fitted(bad_t, form)
@@ -589,15 +666,19 @@ def write_costs_cases(dice):
     for n in (3, 4, 9):
         for entry in (1000000, 1000001, 8000000, 8000001):
             i, j = dice.one_of([(1, 2), (n - 1, n), dice.one_of(pairs(n))])
-            t = with_entry(n, [0] * (n * n), i, j, entry)
+            t = with_entry(n, all_ones(n), i, j, entry)
             for number in (0, dice.one_of([1, 2, 2 ** 32, 2 ** 64 - 1])):
                 needed = costs_length(law.form_named(number), n)
                 yield number, n, t, byte_places(dice, dice.one_of([needed, needed, needed - 1, 0]))
-    # Many images: above the old limits in the first, the last and a later entry, with little room.
+    # Many images: above the old limits in the first and the last entry, and with a zero behind, with little room.
     for n in (9, 33, 64):
-        for i, j in ((1, 2), (n - 1, n), dice.one_of(pairs(n))):
-            t = with_entry(n, [0] * (n * n), i, j, 1000001)
+        for i, j in ((1, 2), (n - 1, n)):
+            t = with_entry(n, all_ones(n), i, j, 1000001)
             yield 0, n, with_entry(n, t, n - 1, n, 8000000) if (i, j) != (n - 1, n) else t, byte_places(dice, 20)
+        yield 0, n, with_entry(n, with_zeros(n, all_ones(n), [(1, n), (2, 3)]), 1, 2, 1000001), byte_places(dice, 20)
+    for n, t in large_zeros(dice, (33, "last"), (33, "between"), (64, "last")):
+        yield dice.one_of(FORM_NUMBERS), n, t, byte_places(dice, 20)
+    # Each earlier fault in a table of zeros.
     for form, number in ((OLD, 0), (NEW, 1)):
         yield number, 33, law.random_table(dice, 33, form.most_entry), byte_places(dice, costs_length(form, 33))
         for row, column, entry in ((33, 32, 8000001), (33, 33, 1), (32, 33, 5)):
@@ -607,17 +688,15 @@ def write_costs_cases(dice):
     # 64 images: the old form has 5,041 bytes and one fill bit, the new one 5,798 bytes and two.
     n = 64
     assert costs_length(OLD, n) == 5041 and costs_length(NEW, n) == 5798
-    last = table_from(n, [1000000] + [0] * 2014 + [1000000])
+    last = table_from(n, [1000000] + [1] * 2014 + [1000000])
     yield 0, n, last, [9] * 5041
     yield 2, n, last, [9] * 5797
-    yield 1, n, law.random_table(dice, n, 8000000), [9] * 5802
-    plain = table_from(n, [0] * 2016)
+    yield 1, n, sparse_table(dice, n, 8000000), [9] * 5802
     for row, column, entry in ((64, 63, 8000001), (64, 64, 1), (63, 64, 5)):
-        t = list(plain)
+        t = [0] * n * n
         t[(row - 1) * n + column - 1] = entry
-        for number in (0, 1):
-            yield number, n, t, [9] * 40
-    yield 1, n, plain[:-1], [9] * 40
+        yield dice.below(2), n, t, [9] * 40
+    yield 1, n, [0] * (n * n - 1), [9] * 40
 
 
 # Link tables
@@ -710,10 +789,17 @@ def subsets_of_four():
             yield fars
 
 
+def bare_links(dice, n, shape="uneven"):
+    """A link table whose own links all cost nothing, as it may have: its rules are not those of a cost table."""
+    return [(far, 1 if is_inner(n, far) else 0) for far in law.tree_far_sides(dice, n, shape)]
+
+
 def links(dice, good):
     """Link tables of all sizes, with their n."""
     for name in sorted(law.EXAMPLES):
         yield law.EXAMPLES[name][0], law.MEASURED[name]
+    for n, shape in ((4, "star"), (5, "caterpillar"), (9, "uneven")):
+        yield n, bare_links(dice, n, shape)
     for _ in range(good):
         n = small_n(dice)
         yield n, good_links(dice, n)
@@ -942,6 +1028,10 @@ def batch_cases(dice):
         several = [sound_table(dice, small_n(dice), form) for _ in range(dice.one_of([1, 2, 2, 3, 4]))]
         needed = room(dice, batch_length(form, several), False)
         yield (number,) + joined(several) + (byte_places(dice, needed),)
+    for number in (0, 1):
+        several = [(n, len(rows)) + sides_and_costs(rows) for n, rows in
+                   ((n, bare_links(dice, n)) for n in (3, 5, 4))]
+        yield (number,) + joined(several) + (byte_places(dice, batch_length(law.form_named(number), several)),)
     for number, sizes in ((0, (64, 3, 33)), (1, (3, 64, 9))):
         form = law.form_named(number)
         several = [sound_table(dice, n, form) for n in sizes]
@@ -1125,15 +1215,12 @@ def at_cost_limits(dice, case, sizes=(3, 4, 9, 33)):
         for form, limits in ((OLD, (1000000, 1000001)), (NEW, (1000000, 1000001, 8000000, 8000001))):
             for entry in limits:
                 i, j = dice.one_of([(1, 2), (n - 1, n), dice.one_of(pairs(n))])
-                yield case(n, stored_costs(n, with_entry(n, [0] * (n * n), i, j, entry), form))
+                yield case(n, stored_costs(n, with_entry(n, all_ones(n), i, j, entry), form))
 
 
 def damaged_stored_costs(dice, n, t, faults, form):
     """Stored bytes of a cost table with the faults that bytes can have."""
-    t = fitted(t, form)
-    if "old" in faults:
-        for i, j in dice.mixed(pairs(n))[:dice.between(1, 2)]:
-            t = with_entry(n, t, i, j, dice.one_of(ABOVE_OLD_ENTRY))
+    t = damage_pairs(dice, n, fitted(t, form), faults)
     if "entry" in faults:
         for _ in range(dice.between(1, 2)):
             i, j = sorted(dice.mixed(range(n))[:2])
@@ -1163,9 +1250,11 @@ def read_costs_cases(dice):
     for _ in range(40):
         n = small_n(dice)
         yield around(dice, costs_in(n, good_table(dice, n), any_form(dice)), set()) + output(n, False)
-    kinds = ["position", "header", "n", "room", "body", "fill", "entry"]
+    for n, t in zero_tables(dice):
+        yield around(dice, costs_in(n, t, any_form(dice)), set()) + output(n, False)
+    kinds = ["position", "header", "n", "room", "body", "fill", "entry", "zero"]
     for form in (OLD, NEW):
-        for faults in fault_sets(dice, kinds, 5, 42):
+        for faults in fault_sets(dice, kinds, 5, 35):
             n = damaged_n(dice)
             stored = damaged_stored_costs(dice, n, good_table(dice, n), faults, form)
             yield around(dice, stored, faults) + output(n, "room" in faults)
@@ -1178,24 +1267,26 @@ def read_costs_cases(dice):
         yield first + second, position, [9] * 16
     for position in HUGE:
         yield first, position, [9] * 16
-    # 33 images in each form: accepted, too little room, each fault, and two at once.
-    for form in (OLD, NEW):
+    # 33 images in each form: accepted, too little room, each fault, and two at once; where the last entry is
+    # too large, all others are 0.
+    for form, word in ((OLD, "last"), (NEW, "lower row")):
         top = form.most_entry
         stored = costs_in(33, sparse_table(dice, 33, top), form)
         too_large = stored_costs(33, table_from(33, [0] * 527 + [top + 1]), form)
+        for n, t in large_zeros(dice, (33, word)):
+            yield stored_costs(n, t, form), 0, [8] * 1089
         yield stored, 0, [8] * 1090
         yield stored, 0, [8] * 1088
         yield stored[:-1], 0, [8] * 1089
         yield stored[:-1] + [stored[-1] + 1], 0, [8] * 1089
         yield too_large, 0, [8] * 1089
         yield too_large[:-1] + [too_large[-1] + 1], 0, [8] * 1089
-        yield too_large[:-1], 0, [8] * 1089
     # 64 images: too little room, which is looked at before the bytes behind the header.
     for form in (OLD, NEW):
         start = stored_costs(64, [1] * 4096, form)[:40]
         yield start, 0, places(dice, 64)
     # All of the 5,041 or 5,798 bytes: accepted, with just enough room and with more, alone and
-    # between other bytes; then faults of the last place.
+    # between other bytes; then faults of the last place, among zeros.
     yield costs_in(64, sparse_table(dice, 64, 1000000), OLD), 0, [8] * 4096
     yield [7] + costs_in(64, sparse_table(dice, 64, 8000000), NEW) + [6, 0], 8, [8] * 4097
     upper = [1000000] + [0] * 2014
@@ -1203,11 +1294,12 @@ def read_costs_cases(dice):
     new = stored_costs(64, table_from(64, upper + [8000000]), NEW)
     assert len(stored) == 5041 and len(new) == 5798
     yield stored[:-1], 0, [8] * 4096
-    yield new[:-1] + [new[-1] + 1], 0, [8] * 4096
     yield stored_costs(64, table_from(64, upper + [8000001]), NEW), 0, [8] * 4096
     yield [130] + stored[1:], 0, [8] * 50
     yield new[:1] + [new[1] + 4] + new[2:], 0, [8] * 50
     yield [7] + stored, 8 * 5042, [8] * 50
+    for n, t in large_zeros(dice, (64, "last")):
+        yield stored_costs(n, t), 0, [8] * 4096
 
 
 def choice_cases(dice):
@@ -1236,6 +1328,8 @@ def choice_cases(dice):
     for n in (33, 64):
         rows = tree_rows(dice, n, "uneven", 9, even=False)
         yield stored(n, fewer_inner(dice, n, rows)), stored(n, rows)
+    for n in (3, 4, 9):
+        yield stored(n, bare_links(dice, n, "star")), stored(n, bare_links(dice, n))
     # Each form beside each: the first includes the other, the second does, both do, neither does.
     for n in (5, 9, 33):
         rows = tree_rows(dice, n, "caterpillar", 9, even=False)
@@ -1341,17 +1435,22 @@ def first_two_cases(dice):
         n2 = few_images(dice)
         yield (costs_in(n, t, any_form(dice)) + costs_in(n2, good_table(dice, n2), any_form(dice)), 0,
                output(n, False), output(n2, False))
+    for n, t in zero_tables(dice):
+        good, bad = costs_in(n, tree(dice, n), any_form(dice)), stored_costs(n, t, any_form(dice))
+        yield bad + good, 0, output(n, False), output(n, dice.chance(1, 4))
+        if n == 3:
+            yield good + bad, 0, output(n, False), output(n, False)
     # The first is damaged, so that the reader stays and the second take is of it too.
-    kinds = ["position", "header", "n", "room", "body", "fill", "entry"]
+    kinds = ["position", "header", "n", "room", "body", "fill", "entry", "zero"]
     for form in (OLD, NEW):
-        for faults in fault_sets(dice, kinds, 4, 15):
+        for faults in fault_sets(dice, kinds, 4, 14):
             n = few_images(dice)
             stored = damaged_stored_costs(dice, n, good_table(dice, n), faults, form)
             yield (placed(dice, tables_in_front(dice), stored, faults)
                    + (output(n, "room" in faults), output(n, dice.chance(1, 2))))
     # The second is damaged, behind an accepted one.
     for form in (OLD, NEW):
-        for faults in fault_sets(dice, kinds[1:], 5, 15):
+        for faults in fault_sets(dice, kinds[1:], 4, 12):
             n, n2 = few_images(dice), few_images(dice)
             stored = costs_in(n, good_table(dice, n), any_form(dice))
             stored += damaged_stored_costs(dice, n2, good_table(dice, n2), faults, form)
@@ -1367,19 +1466,21 @@ def first_two_cases(dice):
         stored = other_kind + costs_in(n, law.random_table(dice, n, 9), any_form(dice)) + one
         for more in (-1, 0, 1):
             yield stored, 88, places(dice, n * n + more), places(dice, n * n + more)
-    for n, n2 in ((9, 33), (33, 9), (33, 3)):
+    for n, n2 in ((9, 33), (33, 9)):
         stored = one + costs_in(n, good_table(dice, n), NEW)
         stored += costs_in(n2, good_table(dice, n2), any_form(dice))
         yield stored + [6, 0], 72, places(dice, n * n + 1), places(dice, n2 * n2)
-    # Too little room and then too few bytes, for 33 images; the second of 33 one byte short.
+    # Too little room and then too few bytes, for 33 images; the second of 33 one byte short, and with a zero.
     yield [66, 0], 0, [8] * 1088, [9] * 1089
-    stored = stored_costs(33, table_from(33, [0] * 527 + [8000000]), NEW)
+    stored = stored_costs(33, table_from(33, [1] * 527 + [8000000]), NEW)
     yield stored + stored[:-1], 0, [8] * 1089, [9] * 1089
-    # 64 images: before and behind another table; two of 64, one of them in the new form.
+    for n, t in large_zeros(dice, (33, "between")):
+        yield one + stored_costs(n, t), 72, [8] * 1089, [9] * 9
+    # 64 images behind another table, and with a zero before another one.
     stored = stored_costs(64, tree(dice, 64, 1, "star"), NEW)
     yield one + stored, 0, places(dice, 9), [8] * 4096
-    last = table_from(64, [0] * 2015 + [1000000])
-    yield stored_costs(64, last, NEW) + stored_costs(64, last), 0, [8] * 4096, [9] * 4096
+    for n, t in large_zeros(dice, (64, "lower row")):
+        yield stored_costs(n, t) + one, 0, [8] * 4096, [9] * 40
 
 
 def first_links_cases(dice):
@@ -1441,7 +1542,7 @@ def two_damaged(dice, faults, faults2):
 def two_costs_cases(dice):
     one, other_kind, new = law.STORED_A_COSTS, law.STORED_A_LINKS, law.STORED_A_COSTS_NEW
     for stored in ([], one, one + one, one * 3, one + other_kind, other_kind + one, new, one + new, new + one,
-                   new + new, new * 3, [254], [255, 255]):
+                   new + new, new * 3, [254], [255, 255], one[:-1], new[:-1], one[:1]):
         yield stored, places(dice, 9), places(dice, 9)
     for stored in short_headers():
         yield dice.one_of([one, new]) + stored, places(dice, 9), places(dice, 9)
@@ -1457,8 +1558,13 @@ def two_costs_cases(dice):
         for more in (-1, 0, 2):
             for more2 in (-1, 0, 2):
                 yield stored, places(dice, n * n + more), places(dice, n2 * n2 + more2)
+    for n, t in zero_tables(dice):
+        good, bad = costs_in(n, tree(dice, n), any_form(dice)), stored_costs(n, t, any_form(dice))
+        yield dice.one_of([bad + good, good + bad, bad + bad]), places(dice, n * n), places(dice, n * n)
+        if n == 3:
+            yield good + bad, places(dice, n * n), places(dice, n * n)
     # Each fault in the first table with each in the second.
-    kinds = ["header", "n", "room", "body", "fill", "entry"]
+    kinds = ["header", "n", "room", "body", "fill", "entry", "zero"]
     for fault in kinds:
         for fault2 in kinds:
             yield two_damaged(dice, {fault}, {fault2})
@@ -1475,12 +1581,11 @@ def two_costs_cases(dice):
     n = 17
     stored = costs_in(n, tree(dice, n, 3, "uneven"), NEW)
     yield one + stored, places(dice, 10), places(dice, n * n)
-    # 64 images: in the second, one byte short or with its last entry spoilt; in both.
-    last = [0] * 2015 + [1000000]
+    # 33 and 64 images: in the second, with a zero; 64 in both.
+    last = [1] * 2015 + [1000000]
     stored = stored_costs(64, table_from(64, last), NEW)
-    too_large = stored_costs(64, table_from(64, last[:-1] + [8000001]), NEW)
-    yield one + stored[:-1], [8] * 9, [9] * 4096
-    yield one + too_large, [8] * 9, [9] * 4096
+    for n, t in large_zeros(dice, (33, "first"), (64, "last")):
+        yield one + stored_costs(n, t), [8] * 9, [9] * (n * n)
     yield stored_costs(64, table_from(64, last)) + stored + [1], [8] * 4096, [9] * 4096
 
 
@@ -1525,7 +1630,7 @@ def refusal_text_cases(dice):
     """Every number with a table and without one, in just enough room and in more; numbers that
     no refusal has; the longest text; and too little room."""
     enough = law.TEXT_BYTES
-    unknown = [64, 99, 2 ** 32 + 7, 2 ** 63, 2 ** 64 - 1]
+    unknown = [99, 2 ** 32 + 7, 2 ** 64 - 1]
 
     def bytes_of_text(length):
         """One digit a place, since there are many lines of these."""
@@ -1545,9 +1650,11 @@ def refusal_text_cases(dice):
     for number in (12, 17):
         for a, b in ((1, 0), (125, 0), (0, 0), (0, 3), (1, 2), (63, 64), (2 ** 64 - 1, 0), (2 ** 64 - 1, 1)):
             yield number, dice.one_of([0, 0, 2]), a, b, 0, 0, bytes_of_text(enough)
-    # The numbers beside 18 and 22, and each of the two with the place of a byte alone.
+    # The numbers beside 18 and 22, and each of the two with the place of a byte alone; the pairs of 20.
     for number in (19, 20, 21, 22, 23):
         yield from texts_of(number)
+    for table, a, b in ((0, 1, 2), (2, 63, 64), (500, 1, 64), (0, 2, 3)):
+        yield 20, table, a, b, 0, 0, bytes_of_text(enough)
     for number in (18, 22):
         for a in (1, 5, 1432, 2 ** 64 - 1):
             yield number, 0, a, 0, 0, 0, bytes_of_text(enough)
@@ -1561,7 +1668,7 @@ TEAMS = ["all", "but one", "some", "none", "any", "same", "stars"]
 def team(dice, n, number, kind, most=20):
     """The trees of so many tables: with the same far sides, one of which one tree may lack,
     with some of them, with own links alone in common, or whatever trees come; one tree so
-    many times; stars, whose own links may cost nothing."""
+    many times; stars, of whose own links one may cost nothing."""
     one = tree_rows(dice, n, "uneven", most)
     inner = [far for far, _ in one if is_inner(n, far)]
     if kind == "same":
@@ -1587,7 +1694,7 @@ def team(dice, n, number, kind, most=20):
 
 
 def team_tables(n, trees):
-    return [tree_table(n, rows) for rows in trees]
+    return [costs_of(n, rows) for rows in trees]
 
 
 def one_slice(tables_of_team):
@@ -1620,7 +1727,7 @@ def damaged_team(dice, faults):
     for which in {dice.below(number), dice.below(number)} if dice.chance(1, 2) else {number - 1}:
         if "wiring" in faults:
             tables_of_team[which] = crooked(dice, n)
-        some = faults & {"entry", "diagonal", "asymmetric"}
+        some = faults & {"entry", "diagonal", "asymmetric", "zero"}
         tables_of_team[which] = damage_table(dice, n, tables_of_team[which], some_of(dice, some))[1]
     entries = one_slice(tables_of_team)
     if "length" in faults:
@@ -1645,7 +1752,8 @@ def team_of_examples(dice):
 
 def teams_of_trees(dice):
     """Trees that share all far sides, some or none; one row that one tree lacks, wherever it
-    stands; all costs lowered to 0 by one table after another; entries of 8,000,000."""
+    stands; all costs lowered to 1 by one table after another, or to 0 by stars in each of which
+    another image stands at the switch; entries of 8,000,000."""
     for kind in TEAMS:
         for number in (1, 2, 3, 5, 16):
             for n in (small_n(dice), dice.one_of([4, 5, 6])):
@@ -1657,11 +1765,12 @@ def teams_of_trees(dice):
         for place in range(number):
             yield n, team_tables(n, [fewer if k == place else rows for k in range(number)])
     for n in (3, 4):
-        far_away = [table_from(n, [8000000 if image in pair else 0 for pair in pairs(n)])
+        far_away = [table_from(n, [8000000 if image in pair else 1 for pair in pairs(n)])
                     for image in range(1, n + 1)]
         yield n, far_away[:1]
         yield n, far_away[:2]
         yield n, far_away
+        yield n, [star(n, [int(i != image) for i in range(n)]) for image in range(n)]
         yield n, [table_from(n, [8000000] * (n * n)), table_from(n, [7999999] * (n * n))]
         yield n, [table_from(n, [1000001] * (n * n)), table_from(n, [8000000] * (n * n))]
     for kind in ("all", "but one", "some", "any"):
@@ -1673,7 +1782,7 @@ def refused_tables(dice):
     """Each fault of a table with each in a later one, next to it and behind others; and one
     fault in each of sixteen."""
     n, good = law.example("E")
-    kinds = ["entry", "diagonal", "asymmetric", "wiring"]
+    kinds = ["entry", "diagonal", "asymmetric", "zero", "wiring"]
 
     def spoilt(fault):
         t = crooked(dice, n) if fault == "wiring" else good
@@ -1686,6 +1795,13 @@ def refused_tables(dice):
         for place in (2, 9, 15):
             yield n, [good] * place + [spoilt(fault)] + [good] * (15 - place)
     yield n, [law.example("F")[1]] * 16
+    for n, t in zero_tables(dice):
+        team_of_three = [tree(dice, n, 3), tree(dice, n, 3), t]
+        yield n, dice.mixed(team_of_three)
+        if n == 3:
+            yield n, [t] * dice.one_of([1, 1, 2])
+    for n, t in large_zeros(dice, (33, "first"), (64, "between")):
+        yield n, [t]
 
 
 def no_teams(dice):
@@ -1709,11 +1825,9 @@ def large_teams(dice):
     """Thirty-three and sixty-four images, sixteen tables of them with small entries."""
     yield 33, team_tables(33, team(dice, 33, 1, "same", 3))
     yield 33, team_tables(33, team(dice, 33, 5, "some", 1))
-    tables_of_team = team_tables(33, team(dice, 33, 3, "some", 1)) * 6
-    yield 33, tables_of_team[:15] + [crooked(dice, 33)]
+    yield 33, team_tables(33, team(dice, 33, 5, "some", 1)) + [crooked(dice, 33)]
     yield 64, team_tables(64, team(dice, 64, 1, "same", 1))
     yield 64, team_tables(64, team(dice, 64, 2, "but one", 1))
-    yield 64, team_tables(64, team(dice, 64, 3, "some", 1))
     # Own links and some of four inner far sides, one inside another, image 64 in two of them.
     own = [own_link(64, image) for image in list(range(2, 65)) + [1]]
     sides = [2 ** 63 + 2 ** 62, 2 ** 63 + 2 ** 62 + 2 ** 40, 6, 2 ** 33 + 2 ** 32 + 2 ** 31]
@@ -1736,8 +1850,8 @@ def consensus_cases(dice):
             yield (n, len(tables_of_team), one_slice(tables_of_team), *outputs(n))
     for bad_n, number, entries, n in no_teams(dice):
         yield (bad_n, number, entries, *outputs(n, dice.chance(1, 3)))
-    kinds = ["n", "number", "length", "room", "entry", "diagonal", "asymmetric", "wiring"]
-    for faults in fault_sets(dice, kinds, 6, 84):
+    kinds = ["n", "number", "length", "room", "entry", "diagonal", "asymmetric", "zero", "wiring"]
+    for faults in fault_sets(dice, kinds, 6, 72):
         bad_n, number, entries, n = damaged_team(dice, faults)
         yield (bad_n, number, entries, *outputs(n, "room" in faults))
     # Room for the rows that are shared, but not the 2n-3 places that are asked; just enough; more.
@@ -1756,11 +1870,12 @@ def star(n, own):
 
 def far_ends(dice):
     """Stars in which some images are the farthest, also with image 1 on the switch itself; stars
-    of equal links, and of links without a cost; trees with so small costs that images tie."""
+    of equal links, and of links without a cost, which are refused; trees with so small costs
+    that images tie."""
     for n in (4, 5, 9):
         for farthest in ({2}, {3}, {n - 1}, {n}, {2, n}, {3, n}, {n - 1, n}, set()):
-            for own in (0, dice.between(1, 9)):
-                yield n, star(n, [own] + [7 if i in farthest else dice.below(7) for i in range(2, n + 1)])
+            for own in (0, dice.between(1, 9)) if n < 9 else (dice.one_of([0, 5]),):
+                yield n, star(n, [own] + [7 if i in farthest else dice.between(1, 6) for i in range(2, n + 1)])
     for n in (3, 4, 9, 33):
         yield n, star(n, [1] * n)
         yield n, [0] * (n * n)
@@ -1773,7 +1888,8 @@ def listing_cases(dice):
         return stored + [dice.below(256) for _ in range(dice.one_of([0, 0, 0, 1, 3]))]
 
     yield [],
-    for source in (example_tables(), ((3, t) for t in all_small_tables()), far_ends(dice)):
+    for source in (example_tables(), ((3, t) for t in all_small_tables()), far_ends(dice), zero_tables(dice),
+                   large_zeros(dice, (33, "last"), (33, "lower row"), (64, "first"))):
         for n, t in source:
             yield followed(stored_costs(n, t, any_form(dice))),
     for n, t in example_tables():
@@ -1785,19 +1901,19 @@ def listing_cases(dice):
         if entry < 8000000:
             yield stored_costs(4, table_from(4, [entry] * 6), OLD),
     for n, i in ((3, 1), (9, 2), (33, 33)):
-        own = [0] * n
-        own[i - 1] = 8000000
+        own = [1] * n
+        own[i - 1] = 7999999
         yield stored_costs(n, star(n, own), NEW),
     for stored in short_headers():
         yield stored,
     yield stored_costs(33, tree(dice, 33, 3000, "caterpillar")),
-    yield stored_costs(64, star(64, [4000000] + [dice.below(4000001) for _ in range(63)]), NEW),
+    yield stored_costs(64, star(64, [4000000] + [dice.between(1, 4000000) for _ in range(63)]), NEW),
     for n, form in ((33, NEW), (64, OLD), (64, NEW)):
         yield stored_costs(n, crooked(dice, n), form),
         yield stored_costs(n, tree(dice, n), form)[:-1],
-    kinds = ["header", "n", "body", "fill", "entry", "wiring"]
+    kinds = ["header", "n", "body", "fill", "entry", "zero", "wiring"]
     for form in (OLD, NEW):
-        for faults in fault_sets(dice, kinds, 6, 25):
+        for faults in fault_sets(dice, kinds, 6, 18):
             n = damaged_n(dice)
             t = crooked(dice, n) if "wiring" in faults else tree(dice, n)
             stored = damaged_stored_costs(dice, n, t, faults, form)
@@ -1838,30 +1954,38 @@ def in_halves(n):
     return table_from(n, [(i - 1 ^ j - 1).bit_length() for i, j in pairs(n)])
 
 
-def at_one_place(dice, n, few):
-    """The table of a tree over few images, with all others at the place of one of these."""
+def one_away(dice, n, few):
+    """The table of a tree over few images, with all others one away from the place of one of these, at which an
+    own link of 0 then ends at a switch."""
     t = tree(dice, few, 9, "uneven")
-    at = dice.mixed(list(range(few)) + [dice.below(few) for _ in range(n - few)])
-    return table_from(n, [t[at[i - 1] * few + at[j - 1]] for i, j in pairs(n)])
+    stands = dice.mixed([(place, 0) for place in range(few)] + [(dice.below(few), 1) for _ in range(n - few)])
+    return table_from(n, [t[at * few + at2] + away + away2 for (at, away), (at2, away2) in
+                          ((stands[i - 1], stands[j - 1]) for i, j in pairs(n))])
+
+
+def bare_star(dice, n):
+    """A star of small costs in which one image stands at the switch itself."""
+    bare = dice.below(n)
+    return star(n, [0 if i == bare else dice.between(1, 2) for i in range(n)])
 
 
 def bare_tree(dice, n, most, shape=None):
-    """The table of a tree in which half of the own links cost nothing."""
+    """The table of a tree in which many own links cost nothing, one at most at each switch."""
     return tree_table(n, law.bare_rows(dice, n, tree_rows(dice, n, shape or law.random_shape(dice), most)))
 
 
 def grafted_trees(dice):
-    """Own links and entries of 0, ties, halves, entries of 8,000,000; few images and many."""
+    """Own links of 0, ties, halves, entries of 8,000,000; few images and many."""
     for n in (3, 3, 3, 4, 4, 5, 5, 6, 7, 8, 9, 9):
         yield n, bare_tree(dice, n, dice.one_of([1, 3, 30]))
     for n, few in ((4, 3), (5, 3), (6, 4), (9, 4), (9, 7), (33, 6)):
-        yield n, at_one_place(dice, n, few)
+        yield n, one_away(dice, n, few)
     for n in (3, 4, 5, 9):
         yield n, on_a_line(dice.mixed(range(0, 3 * n, 3)))
         yield n, in_halves(n)
-        yield n, star(n, [dice.below(3) for _ in range(n)])
-        yield n, table_from(n, [8000000 if 1 in pair else 0 for pair in pairs(n)])
-        yield n, table_from(n, [8000000 if n in pair else 0 for pair in pairs(n)])
+        yield n, bare_star(dice, n)
+        yield n, table_from(n, [8000000 if 1 in pair else 1 for pair in pairs(n)])
+        yield n, table_from(n, [8000000 if n in pair else 1 for pair in pairs(n)])
         yield n, on_a_line([8000000 // i for i in range(1, n)] + [0])
     yield 9, [0] * 81
     yield 33, in_halves(33)
@@ -1869,7 +1993,7 @@ def grafted_trees(dice):
     yield 33, tree(dice, 33, 1, "caterpillar")
     yield 64, bare_tree(dice, 64, 2, "caterpillar")
     yield 64, bare_tree(dice, 64, 9, "uneven")
-    yield 64, at_one_place(dice, 64, 20)
+    yield from large_zeros(dice, (33, "between"), (64, "between"))
 
 
 def refused_at_tests(dice):
@@ -1880,7 +2004,7 @@ def refused_at_tests(dice):
         seen = set()
         for _ in range(700):
             t = bare_tree(dice, n, dice.one_of([1, 2, 6]))
-            t = with_entry(n, t, *dice.one_of(pairs(n)), dice.below(12))
+            t = with_entry(n, t, *dice.one_of(pairs(n)), dice.between(1, 12))
             found = failing_test(n, t)
             if found and found[0] in (2, n - 1) and found not in seen:
                 seen.add(found)
@@ -1904,8 +2028,8 @@ def grafted_cases(dice):
     for source in (grafted_trees, refused_at_tests):
         for n, t in source(dice):
             yield (n, t, *outputs(n))
-    kinds = ["n", "length", "room", "entry", "diagonal", "asymmetric", "wiring"]
-    for faults in fault_sets(dice, kinds, 4, 30):
+    kinds = ["n", "length", "room", "entry", "diagonal", "asymmetric", "zero", "wiring"]
+    for faults in fault_sets(dice, kinds, 4, 28):
         n = damaged_n(dice)
         t = crooked(dice, n) if "wiring" in faults else tree(dice, n)
         yield (*damage_table(dice, n, t, faults), *outputs(n, "room" in faults))
@@ -1943,7 +2067,8 @@ def conversion_cases(dice, convert, some_stored, damaged_stored, kinds, limits):
                 yield number, followed(stored), out(number, stored)
     # Just enough room, one byte less and one more.
     for form in (OLD, NEW):
-        for stored in some_stored(form)[:2] + some_stored(form)[-2:]:
+        accepted = [stored for stored in some_stored(form) if convert(1, stored, [0] * LONGEST_BYTES)[0] == 0]
+        for stored in accepted[:2] + accepted[-2:]:
             for number in (0, 1):
                 for more in (-1, 0, 1):
                     yield number, stored, byte_places(dice, needed_bytes(convert, number, stored) + more)
@@ -1951,7 +2076,8 @@ def conversion_cases(dice, convert, some_stored, damaged_stored, kinds, limits):
         for number in (0, 1):
             yield number, stored, out(number, stored) if n < 10 else byte_places(dice, 20)
     for form in (OLD, NEW):
-        for faults in fault_sets(dice, [kind for kind in kinds if kind != "old" or form == NEW], 5, 42):
+        together = 36 if "zero" in kinds else 42
+        for faults in fault_sets(dice, [kind for kind in kinds if kind != "old" or form == NEW], 5, together):
             number = 0 if "old" in faults else dice.one_of(FORM_NUMBERS)
             stored = damaged_stored(damaged_n(dice), faults, form)
             stored = stored if faults & {"header", "body"} else followed(stored)
@@ -1967,13 +2093,13 @@ def convert_costs_cases(dice):
     def damaged_stored(n, faults, form):
         return damaged_stored_costs(dice, n, good_table(dice, n), faults, form)
 
-    kinds = ["header", "n", "body", "fill", "entry", "old", "room"]
+    kinds = ["header", "n", "body", "fill", "entry", "zero", "old", "room"]
     limits = list(at_cost_limits(dice, lambda n, stored: (n, stored)))
     yield from conversion_cases(dice, law.convert_costs, some_stored, damaged_stored, kinds, limits)
     # Entries above the old limits: the first of several counts.
     for n in (3, 4, 9, 33):
         for high in (1, 2, 3):
-            upper = [dice.below(10) for _ in pairs(n)]
+            upper = [dice.between(1, 9) for _ in pairs(n)]
             for place in dice.mixed(range(len(upper)))[:high]:
                 upper[place] = dice.one_of(ABOVE_OLD_ENTRY)
             stored = stored_costs(n, table_from(n, upper), NEW)
@@ -1983,15 +2109,20 @@ def convert_costs_cases(dice):
     for form, number in ((OLD, 1), (NEW, 0), (NEW, 1)):
         stored = costs_in(33, sparse_table(dice, 33, 1000000), form)
         yield number, stored, [9] * costs_length(law.form_named(number), 33)
-    # 64 images: each way, the whole room and one byte less, and the last entry above the old limits.
+    for n, t in zero_tables(dice):
+        yield dice.one_of([0, 1]), stored_costs(n, t, any_form(dice)), byte_places(dice, costs_length(NEW, n))
+    for n, t in large_zeros(dice, (33, "last"), (33, "between")):
+        yield dice.one_of([0, 1]), stored_costs(n, t, any_form(dice)), byte_places(dice, 20)
+    # 64 images: each way, the whole room and little; a fill bit that is a one; the last entry above the old limits,
+    # behind a zero too, and above all limits among zeros.
     t = sparse_table(dice, 64, 1000000)
     yield 1, stored_costs(64, t), [9] * 5800
     yield 0, stored_costs(64, t, NEW) + [3], [9] * 5041
-    t = table_from(64, [0] * 2015 + [1000000])
-    yield 0, stored_costs(64, t, NEW), [9] * 5040
-    yield 1, stored_costs(64, t), [9] * 50
-    for entry in (1000001, 8000000, 8000001):
-        yield 0, stored_costs(64, table_from(64, [0] * 2015 + [entry]), NEW), [9] * 50
+    last = stored_costs(64, table_from(64, [1] * 2015 + [1000000]))
+    yield 1, last, [9] * 50
+    yield 1, last[:-1] + [last[-1] + 1], [9] * 50
+    for upper in ([1] * 2015 + [1000001], [1] * 2014 + [0, 8000000], [0] * 2015 + [8000001]):
+        yield 0, stored_costs(64, table_from(64, upper), NEW), [9] * 50
 
 
 def convert_links_cases(dice):
@@ -2423,44 +2554,45 @@ def four_and_five_images(dice):
 
 
 def leaving_trees(dice):
-    """Trees of every shape, with own links and entries of 0, ties, halves, images on a line and at one
-    place, and with entries of 8,000,000."""
+    """Trees of every shape, with own links of 0, ties, halves, images on a line and one away from others, and
+    with entries of 8,000,000."""
     for n in (4, 5, 6, 7, 8, 9):
         for shape in ("star", "caterpillar", "uneven"):
             yield n, tree(dice, n, dice.one_of([1, 3, 20, 300]), shape)
             yield n, bare_tree(dice, n, dice.one_of([1, 3, 30]), shape)
         yield n, mixed_halves(dice, n)
         yield n, on_a_line(dice.mixed(range(0, 3 * n, 3)))
-        yield n, at_one_place(dice, n, dice.between(3, n - 1))
+        yield n, one_away(dice, n, dice.between(3, n - 1))
     for n in (4, 5, 9):
-        yield n, [0] * (n * n)
         yield n, table_from(n, [8000000] * (n * n))
         for image in (1, n):
-            yield n, table_from(n, [8000000 if image in pair else 0 for pair in pairs(n)])
+            yield n, table_from(n, [8000000 if image in pair else 1 for pair in pairs(n)])
         yield n, on_a_line([0] + dice.mixed([8000000 // i for i in range(1, n)]))
 
 
 def many_leaving(dice, n):
     """Events over many images, each over a tree of another shape; entries of one digit or two. Where n - 1
     leaves first, image n stays to the end."""
-    yield star(n, [dice.below(3) for _ in range(n)]), []
-    yield bare_tree(dice, n, 2, "caterpillar"), [1]
-    yield bare_tree(dice, n, 1, "uneven"), [n]
+    yield bare_star(dice, n), []
+    if n < 64:
+        yield bare_tree(dice, n, 2, "caterpillar"), [1]
+        yield bare_tree(dice, n, 1, "uneven"), [n]
     yield mixed_halves(dice, n), [n - 1] + leaving(dice, n - 2, n - 4)
     yield bare_tree(dice, n, 1, "caterpillar"), [1] * (n - 3)
-    yield at_one_place(dice, n, 8), list(range(n, 3, -1)) + [4]
+    yield one_away(dice, n, 8), list(range(n, 3, -1)) + [4]
     yield tree(dice, n, 1, "uneven"), leaving(dice, n, n - 3) + [2]
     yield star(n, [1] * n), with_unknown(dice, n, UNKNOWN[0], "first")
     yield mixed_halves(dice, n), with_unknown(dice, n, UNKNOWN[2], "between")
     yield bare_tree(dice, n, 1, "uneven"), with_unknown(dice, n, UNKNOWN[1], "last")
-    yield star(n, [0] * n), leaving(dice, n, n - 3) + [3] + [dice.below(256) for _ in range(300)]
+    yield bare_star(dice, n), leaving(dice, n, n - 3) + [3] + [dice.below(256) for _ in range(300)]
 
 
 def bad_start(n, number):
-    """A table that gets this refusal, in its last row if it is one of an entry."""
-    t = [0] * (n * n)
+    """A table that gets this refusal, in its last row if it is one of an entry. Where it comes before 20, all
+    else is 0."""
+    t = [0] * (n * n) if number not in (7, 20) else all_ones(n)
     for row, column, entry in {4: [(n, n - 1, 8000001)], 5: [(n, n, 1)], 6: [(n - 1, n, 1)],
-                               7: [(n - 1, n, 1), (n, n - 1, 1)]}.get(number, []):
+                               20: [(n - 1, n, 0), (n, n - 1, 0)], 7: [(n - 1, n, 3), (n, n - 1, 3)]}.get(number, []):
         t[(row - 1) * n + column - 1] = entry
     return t[:n] if number == 2 else t
 
@@ -2489,6 +2621,8 @@ def replay_cases(dice):
     for t in all_small_tables():
         if dice.chance(1, 2):
             yield (3, t, dice.one_of([[], bad_events(dice, 3)]), *plain(3))
+    for n, t in zero_tables(dice):
+        yield (n, t, dice.one_of([good_events, bad_events])(dice, n), *plain(n))
     for n in [small_n(dice) for _ in range(8)]:
         yield (n, good_table(dice, n), good_events(dice, n), *plain(n))
     for n in BAD_N + [1, 2]:
@@ -2497,18 +2631,18 @@ def replay_cases(dice):
         events = dice.one_of([good_events, all_but_three, bad_events])(dice, n)
         yield n, t, events, places(dice, room(dice, 2 * n - 3, False)), places(dice, room(dice, 2 * n - 3, False))
     # Two images 8,000,000 from the others: when one of them has left, and when all others but one have,
-    # the link between them is joined with an own link, and the cost is the largest.
+    # the link between them is joined with an own link, and the cost is the largest, 15,999,999.
     for n in (4, 5, 9):
         for events in ([n], [n - 1], [1] * (n - 3)):
-            yield (n, two_groups(n, 2 ** (n - 1) + 2 ** (n - 2), 0, 8000000), events, *plain(n))
+            yield (n, two_groups(n, 2 ** (n - 1) + 2 ** (n - 2), 1, 8000000), events, *plain(n))
     # Unknown images at each place; with three images 8 comes before 1.
     for n, found in ((3, ("first", "last")), (4, ("first", "last")), (9, ("first", "between", "last"))):
         for unknown in UNKNOWN:
             for place in found:
                 yield (n, bare_tree(dice, n, 9), with_unknown(dice, n, unknown, place), *plain(n))
     # Faults of the start with each other, and with events that are refused where the start is not.
-    kinds = ["n", "length", "room", "entry", "diagonal", "asymmetric", "wiring", "event"]
-    for faults in fault_sets(dice, kinds, 4, 49):
+    kinds = ["n", "length", "room", "entry", "diagonal", "asymmetric", "zero", "wiring", "event"]
+    for faults in fault_sets(dice, kinds, 4, 42):
         n = damaged_n(dice)
         t = crooked(dice, n) if "wiring" in faults else tree(dice, n)
         events = (bad_events if "event" in faults else good_events)(dice, n)
@@ -2525,7 +2659,7 @@ def replay_cases(dice):
         for t, events in many_leaving(dice, n):
             yield (n, t, events, *plain(n, dice.below(5), dice.below(5)))
     for n in EVERY_REPLAY:
-        for number in (2, 3, 4, 5, 6, 7):
+        for number in (2, 3, 4, 5, 6, 20, 7):
             few = 6 - 2 * n if number == 3 and n > 3 else -1
             rest = plain(n, few, few) if number in (2, 3) else plain(n)
             yield (n, bad_start(n, number), dice.one_of([[1] * (n - 3), [0], [255] * MANY_EVENTS]), *rest)
@@ -2589,18 +2723,18 @@ def trees_reported(dice):
     for n in (3, 4, 5, 9):
         for one, two in disagreeing(dice, n):
             forms = [any_form(dice) for _ in range(3)]
-            yield [once(n, tree_table(n, even_rows(rows)), form) for rows, form in zip((one, two, one), forms)]
+            yield [once(n, costs_of(n, even_rows(rows)), form) for rows, form in zip((one, two, one), forms)]
     for _ in range(30):
         n = small_n(dice)
         stream = any_tables(dice, n, dice.between(1, 6))
         yield [(dice.one_of([1, 1, 1, 2, 7, 40]), stored) for _, stored in stream]
-    # An entry and a doubled cost at the limit of each form.
+    # Entries at the limit of each form, and the largest doubled cost that a table without zeros has.
     for form in (OLD, NEW):
-        t = table_from(4, [0, form.most_entry, form.most_entry, form.most_entry, form.most_entry, 0])
+        t = table_from(4, [1, form.most_entry, form.most_entry, form.most_entry, form.most_entry, 1])
         yield [once(4, t, form), once(*law.example("E")), once(4, t, form)]
 
 
-REPORT_FAULTS = ["n", "body", "fill", "entry", "images"]
+REPORT_FAULTS = ["n", "body", "fill", "entry", "zero", "images"]
 
 
 def bad_table(dice, n, faults, form):
@@ -2622,7 +2756,7 @@ def refused_reports(dice):
                 rest = any_tables(dice, n, behind) if fault != "body" else []
                 faults = {fault, "wiring"} if dice.chance(1, 3) else {fault}
                 yield front + [bad_table(dice, n, faults, form)] + rest
-    for faults in fault_sets(dice, REPORT_FAULTS + ["wiring"], 0, 40):
+    for faults in fault_sets(dice, REPORT_FAULTS + ["wiring"], 0, 36):
         n, form = damaged_n(dice), any_form(dice)
         front = any_tables(dice, n, dice.between(0, 3))
         rest = any_tables(dice, n, dice.below(2)) if "body" not in faults else []
@@ -2632,6 +2766,19 @@ def refused_reports(dice):
             if fault != "body":
                 front = any_tables(dice, 5, 1)
                 yield front + [bad_table(dice, 5, {some}, any_form(dice)) for some in (fault, fault2)]
+
+
+def zeros_reported(dice):
+    """Images that cost nothing: in the first table, a middle one and the last, in each form; with many images."""
+    for n, t in zero_tables(dice):
+        place = dice.below(3)
+        stream = any_tables(dice, n, 2)
+        yield stream[:place] + [(1, stored_costs(n, t, any_form(dice)))] + stream[place:]
+    for n in LARGE_ZEROS:
+        for form, other in ((OLD, NEW), (NEW, OLD)):
+            for word in ZERO_WORDS:
+                for _, t in large_zeros(dice, (n, word)):
+                    yield [once(n, star(n, [1] * n), other), once(n, t, form)]
 
 
 def last_entry_bad(n, form):
@@ -2660,7 +2807,7 @@ def large_reports(dice):
     rows = tree_rows(dice, 33, "uneven", 3)
     less = fewer_inner(dice, 33, even_rows(rows))
     other = tree(dice, 33, 2, "caterpillar")
-    yield [once(33, t) for t in (tree_table(33, rows), tree_table(33, less), other)]
+    yield [once(33, t) for t in (tree_table(33, rows), costs_of(33, less), other)]
     yield [once(64, tree(dice, 64, 1, "uneven")), once(64, tree(dice, 64, 1, "caterpillar"))]
 
 
@@ -2693,7 +2840,8 @@ def long_reports(dice):
     for behind in ([], [(1, [0])], [(1, [255])], [(1, a)], [(1, e)], [(1, a[:-1])], [(30, [171])]):
         yield [(500, a)] + behind
     too_much = stored_costs(3, last_entry_bad(3, OLD))
-    for last in (d, e, a[:-1], [7], a[:-1] + [33], [4] * 9, too_much):
+    nothing, also_n = stored_costs(*law.example("B")), stored_costs(4, [0] * 16, NEW)
+    for last in (d, e, a[:-1], [7], a[:-1] + [33], [4] * 9, too_much, nothing, also_n):
         yield [(499, a), (1, last)]
     yield [(501, d)]
     yield [(498, a), (3, d)]
@@ -2703,9 +2851,9 @@ def long_reports(dice):
     yield [(125, e + f + g + e), (1, e)]
     yield [(250, e + g)]
     yield [(249, e + f), (1, e), (1, g), (7, f)]
-    most = table_from(4, [0, 8000000, 8000000, 8000000, 8000000, 0])
+    most = table_from(4, [1, 8000000, 8000000, 8000000, 8000000, 1])
     yield [(500, stored_costs(4, most, NEW))]
-    one, two = [tree_table(6, even_rows(rows)) for rows in list(disagreeing(dice, 6))[3]]
+    one, two = [costs_of(6, even_rows(rows)) for rows in list(disagreeing(dice, 6))[3]]
     yield [(250, stored_costs(6, one) + stored_costs(6, two))]
     yield [(499, stored_costs(6, one)), (2, stored_costs(6, two))]
 
@@ -2727,7 +2875,6 @@ def many_sides(dice):
     four, five, other, six = [bringing(sides) for sides in (fresh[:4], fresh[:5], fresh[4:5], fresh)]
     plain = once(n, star(n, [1] * n))
     full = front + [once(n, four)]
-    yield full
     yield full + [once(n, law.bent(n, other), NEW), plain, front[0], once(n, four, NEW), once(n, law.bent(n, six))]
     yield full + [once(n, other, NEW)]
     yield full + [once(n, law.bent(n, other)), once(n, other)]
@@ -2735,6 +2882,7 @@ def many_sides(dice):
     yield full + [once(n, other), once(n, other, NEW), (1, [255])]
     yield full + [(1, stored_costs(n, other)[:-1] + [1]), plain]
     yield full + [once(14, star(14, [1] * 14))]
+    yield full + [once(n, with_zeros(n, other, [(3, 4)])), once(n, other)]
     yield front + [once(n, five)]
     yield front + [once(n, five, NEW), once(n, four), (1, [9])]
     yield front + [once(n, other), once(n, four)]
@@ -2742,7 +2890,7 @@ def many_sides(dice):
 
 
 def report_cases(dice):
-    for streams in (examples_reported, trees_reported, refused_reports, large_reports):
+    for streams in (examples_reported, trees_reported, refused_reports, zeros_reported, large_reports):
         for stream in streams(dice):
             yield (stream, *any_lent(dice))
     for stream, slices in slices_reported(dice):
@@ -2942,8 +3090,6 @@ def replay_met(n, t, events, answer):
     rows = law.exact_rows(n, tuple(t))
     inner = sum(is_inner(n, far) for far, _ in rows)
     met = {"star" if inner == 0 else "all switches of three links" if inner == n - 3 else "other shape"}
-    if any(t[(i - 1) * n + j - 1] == 0 for i, j in pairs(n)):
-        met.add("images at one place")
     if any(cost == 0 for _, cost in rows):
         met.add("own links of 0")
     if not events:
@@ -2967,8 +3113,8 @@ def replay_met(n, t, events, answer):
 def check_replays(replays):
     """Each n has what the replays are to meet; with three images no image leaves."""
     for n in EVERY_REPLAY:
-        met = {(n, 0, False), (n, 1, True), (n, 8, True)} | {(n, number, False) for number in (2, 3, 4, 5, 6, 7)}
-        words = {"star", "images at one place", "own links of 0", "no events", "many events",
+        met = {(n, 0, False), (n, 1, True), (n, 8, True)} | {(n, number, False) for number in (2, 3, 4, 5, 6, 7, 20)}
+        words = {"star", "own links of 0", "no events", "many events",
                  (8, "0"), (8, "n + 1"), (8, "255"), (8, "first"), (8, "others behind"), (8, "none behind"),
                  (1, "others behind"), (1, "none behind")}
         if n > 3:
@@ -3038,18 +3184,66 @@ def tables_met(stored):
 def check_reports(reports):
     """Each refusal is met in the first, a middle and the last table, where it can be, and in both forms; with each
     n; each slice too short; and what the tables are to be."""
-    met = {(number, n) for n in EVERY_REPORT for number in (0, 1, 4, 9, 11, 15)}
-    met |= {(number, place) for number in (1, 4, 11, 15, 19) for place in ("first", "middle", "last")}
+    met = {(number, n) for n in EVERY_REPORT for number in (0, 1, 4, 9, 11, 15, 20)}
+    met |= {(number, place) for number in (1, 4, 11, 15, 19, 20) for place in ("first", "middle", "last")}
     met |= {(9, "first"), (9, "last"), (15, "with 7"), (15, "wired")}
-    met |= {(number, "1,024 far sides") for number in (0, 11, 15, 19)}
+    met |= {(number, "1,024 far sides") for number in (0, 11, 15, 19, 20)}
     met |= {(3, (short & 1 > 0, short & 2 > 0, short & 4 > 0)) for short in range(1, 8)}
     met |= {"7 first", "7 last", "7 between", "7 alone", "both forms", "no far sides", "the same", "one without",
             "none in common", "some in common", "more places", "500 tables", "bytes behind 500 tables"}
     met -= {(15, "first"), (19, "first")}
     assert met <= set(reports), met - set(reports)
-    for number in (1, 4, 9, 11, 15):
+    for number in (1, 4, 9, 11, 15, 20):
         for new in (False, True):
             assert reports.get((number, "form", new), 0) >= FEWEST_IN_EACH_FORM, (number, new)
+
+
+def stored_zeros(stored):
+    """n and the pairs of images that cost nothing, of the stored table at the front of these bytes."""
+    form, (n,) = law.header_of(stored, 1)
+    bits, width = law.bits_of_bytes(stored[:costs_length(form, n)])[len(form.mark) + 7:], form.entry_bits
+    return n, [pair for place, pair in enumerate(pairs(n)) if "1" not in bits[place * width:(place + 1) * width]]
+
+
+def refused_zeros(name, arguments, answer):
+    """The same of the table that gets 20 from a call."""
+    if name == "report":
+        return stored_zeros(written_out(arguments[0])[answer[-1]:])
+    if name in ("read_costs", "first_two"):
+        return stored_zeros(arguments[0][arguments[1] // 8:])
+    if name == "two_costs":
+        form, (n,) = law.header_of(arguments[0], 1)
+        return stored_zeros(arguments[0][costs_length(form, n) if answer[1] == 2 else 0:])
+    if name in ("listing", "convert_costs"):
+        return stored_zeros(arguments[name == "convert_costs"])
+    n = arguments[name == "write_costs"]
+    if name == "consensus":
+        return n, law.zeros_in(n, arguments[2][(answer[1] - 1) * n * n:answer[1] * n * n])
+    return n, law.zeros_in(n, arguments[answer[1] if name == "compare" else 2 if name == "write_costs" else 1])
+
+
+def zero_word(n, zeros):
+    """Where zeros stand, the lowest pair first: of three images these pairs, of more a word."""
+    if n == 3:
+        return tuple(zeros)
+    if len(zeros) > 1:
+        return "lower row" if any(column < zeros[0][1] for _, column in zeros) else "several"
+    return {(1, 2): "first", (n - 1, n): "last"}.get(zeros[0], "between")
+
+
+def check_zeros(zeros):
+    """Each call that gives 20 meets each choice of pairs of three images, each word of nine, and some of more,
+    of which all calls together meet each."""
+    calls = [name for name in CALLS if 20 in CALLS[name][2]]
+    for name in calls:
+        met = {(name, EVERY_ZERO, word) for word in ZERO_WORDS}
+        met |= {(name, 3, tuple(pair for bit, pair in enumerate(pairs(3)) if chosen >> bit & 1)) for chosen in range(1, 8)}
+        assert met <= zeros, met - zeros
+        for n in LARGE_ZEROS:
+            assert any((name, n, word) in zeros for word in ZERO_WORDS), (name, n)
+    for n in LARGE_ZEROS:
+        for word in ZERO_WORDS:
+            assert any((name, n, word) in zeros for name in calls), (n, word)
 
 
 def listing_answer(texts):
@@ -3081,7 +3275,7 @@ def form_met(name, arguments, answer):
 
 def make():
     """All files by name, and what was made of each call."""
-    files, report, answers, signs, tests, sizes, replays, reports = {}, [], [], set(), set(), set(), {}, {}
+    files, report, answers, signs, tests, sizes, zeros, replays, reports = {}, [], [], set(), set(), set(), set(), {}, {}
     for seed, name in enumerate(CALLS, 1):
         inputs, seen, refusals, behind, by_table, by_form = [], set(), {}, {}, set(), {}
         answers.append(name)
@@ -3120,6 +3314,9 @@ def make():
             if name == "report":
                 for met in report_met(arguments[0], arguments[1:], answer):
                     reports[met] = reports.get(met, 0) + 1
+            if answer[0] == 20:
+                found = refused_zeros(name, arguments, answer)
+                zeros.add((name, found[0], zero_word(*found)))
             if name in OVER_SEVERAL_TABLES and answer[0] != 0:
                 by_table.add(answer[:2])
         for number in CALLS[name][2]:
@@ -3141,6 +3338,7 @@ def make():
         met = [("write_newick", number, n) for number in ((0, 3, 12, 13) if n > 3 else (0, 3, 12))]
         met += [("read_newick", number, n) for number in (0, 3, 12, 13, 22)]
         assert sizes >= set(met), (n, set(met) - sizes)
+    check_zeros(zeros)
     check_replays(replays)
     check_reports(reports)
     assert max(map(len, files.values())) <= LARGEST_FILE, {f: len(t) for f, t in files.items()}
@@ -3177,8 +3375,8 @@ def listing_inputs():
     yield "short", law.STORED_A_COSTS[:-1]
     yield "fill", law.STORED_A_COSTS[:-1] + [0x21]
     yield "two_images", [4, 0, 0, 32]
-    # Stars: all images tie, of 4 and of 64, and cost nothing; the farthest are 3, 5 and 6 of 9; image
-    # n alone is. Then trees with inner links and ties.
+    # Stars: all images tie, of 4 and of 64; all cost nothing, which is refused; the farthest are 3, 5 and
+    # 6 of 9, with image 7 at the switch; image n alone is, with image 1 there. Then trees with inner links and ties.
     yield "star", stored_costs(*law.example("G"))
     yield "star64", stored_costs(64, star(64, [1] * 64))
     yield "zeros", stored_costs(*law.example("B"))
@@ -3206,17 +3404,18 @@ def term_inputs():
     yield "mixed_forms", [byte for _, stored in any_tables(dice, 9, 12) for byte in stored]
     yield "sixty_four", written_out([once(64, tree(dice, 64, 900000, "uneven"), NEW)])
     # What ends it: bytes that are no table, a table that ends early, another n, an entry above the limit with
-    # a table behind it, a fill bit, and a header with a bad n.
+    # a table behind it, a fill bit, a header with a bad n, and two pairs of images that cost nothing.
     yield "no_table", [255]
     yield "short_table", e + g + e[:-1]
     yield "other_images", e + f + stored_costs(*law.example("A")) + e
     yield "damaged", e + stored_costs(4, last_entry_bad(4, OLD)) + e
     yield "fill", g + e[:-1] + [e[-1] + 1]
     yield "two_images", f + [4, 0, 0, 32]
+    yield "zeros", e + f + g + stored_costs(4, with_zeros(4, all_ones(4), [(1, 4), (2, 3)]), NEW) + e
     # 500 tables are read, and the bytes behind them are not looked at.
     yield "five_hundred", stored_costs(*law.example("A")) * 500 + [255]
     # 1,024 far sides, and a table that brings one more.
-    yield "many_sides", written_out(list(many_sides(dice))[2])
+    yield "many_sides", written_out(list(many_sides(dice))[1])
 
 
 def check(files):

@@ -1,8 +1,8 @@
 #!/usr/bin/env python3
 """Every public call of document 01, and of document 02 the links that a team shares,
 the far end of the listing, the second engine of the exact reading, the larger costs
-with the new stored forms, trees as Newick text, images that leave, and the term report,
-written from their definitions.
+with the new stored forms, trees as Newick text, images that leave, the term report, and
+that two images may not cost nothing, written from their definitions.
 
 Nothing here is taken from the crates: the words, the orders of checks and the
 numbers are the documents', and where they leave a point open, the decision noted
@@ -27,7 +27,7 @@ runs the settled examples of document 01, checks of demands 2 and 3 on tables dr
 from a fixed seed, and what document 02 says of the links that a team shares, of the
 far end, of the second engine, which answers as the first on every table tried, of the
 two stored forms and the conversions between them, of Newick text, of images that
-leave, and of the term report.
+leave, of the term report, and of tables in which two images cost nothing.
 """
 
 import functools
@@ -118,7 +118,7 @@ def check_room(out, places):
 
 
 def check_entries(n, t):
-    """4, then 5, then 6."""
+    """4, then 5, then 6, then 20."""
     images = range(1, n + 1)
     for row in images:
         for column in images:
@@ -131,6 +131,14 @@ def check_entries(n, t):
         for column in range(row + 1, n + 1):
             if t[(row - 1) * n + column - 1] != t[(column - 1) * n + row - 1]:
                 refuse(6, row, column)
+    check_no_zeros(n, t)
+
+
+def check_no_zeros(n, t):
+    """20 at the lowest pair of two images, the lowest row first, that cost nothing."""
+    for i, j in pairs(n):
+        if t[(i - 1) * n + j - 1] == 0:
+            refuse(20, i, j)
 
 
 def check_wiring(n, t):
@@ -610,6 +618,7 @@ def cost_table_in(stored, room):
         if entry > form.most_entry:
             refuse(4, i, j)
         t[(i - 1) * n + j - 1] = t[(j - 1) * n + i - 1] = entry
+    check_no_zeros(n, t)
     return n, t, used
 
 
@@ -924,7 +933,7 @@ def route(n, count, fars, costs, i, out):
 
 
 def inner_far_sides(n, t):
-    """Of a table that is read exactly, with the checks 2, 4, 5, 6, 7."""
+    """Of a table that is read exactly, with the checks 2, 4, 5, 6, 20, 7."""
     check_length(n, t)
     check_entries(n, t)
     check_wiring(n, t)
@@ -942,7 +951,7 @@ def compare(n, first, second):
 
 def tree_of(n, t):
     """The doubled cost of each far side of a table that is read exactly, with the checks
-    4, 5, 6, 7."""
+    4, 5, 6, 20, 7."""
     check_entries(n, t)
     check_wiring(n, t)
     return dict(exact_rows(n, tuple(t)))
@@ -1116,6 +1125,7 @@ SAYINGS = {
     17: ("number above the old limits", "row and column", "ab"),
     18: ("outside the Newick profile", "byte", "a"),
     19: ("more than 1,024 far sides in one report", None, ""),
+    20: ("zero off the diagonal", "row and column", "ab"),
     22: ("siblings out of order", "byte", "a"),
 }
 TEXT_BYTES = 192
@@ -1473,9 +1483,9 @@ def tree_far_sides(dice, n, shape):
 
 
 def tree_rows(dice, n, shape="uneven", most=40, even=True):
-    """Rows of a link table of this shape. With `even`, every path cost is even,
-    so that half of it is an entry: a mark on each switch, and the cost of a link
-    is odd exactly where the marks of its two ends differ; images are unmarked."""
+    """Rows of a link table of this shape. With `even`, every path cost is even and
+    above 0, so that half of it is an entry: a mark on each switch, and the cost of a
+    link is odd exactly where the marks of its two ends differ; images are unmarked."""
     fars = tree_far_sides(dice, n, shape)
     # A row's far end: an image, or the switch below it. The last row joins image
     # 1 to the switch of all the others.
@@ -1490,26 +1500,45 @@ def tree_rows(dice, n, shape="uneven", most=40, even=True):
             if cost % 2 != mark[far] ^ above:
                 cost += 1
         rows.append((far, cost))
-    return rows
+    return held_apart(n, rows) if even else rows
+
+
+def held_apart(n, rows):
+    """The rows in which no two images cost nothing: of the own links of 0 that end at one switch
+    the first stays, and each other one gets 2. The last row, image 1's own link, ends at the
+    switch of the rows whose upper row it is."""
+    apart, bare = [], set()
+    for (far, cost), upper in zip(rows, upper_rows_of([far for far, _ in rows])):
+        switch = upper or len(rows)
+        if cost == 0 and not is_inner(n, far):
+            cost = 2 if switch in bare else 0
+            bare.add(switch)
+        apart.append((far, cost))
+    return apart
 
 
 def bare_rows(dice, n, rows):
-    """The rows with some own links of cost 0, where their cost is even."""
-    return [(far, 0) if not is_inner(n, far) and cost % 2 == 0 and dice.chance(1, 2) else (far, cost)
-            for far, cost in rows]
+    """The rows with some own links of cost 0, where their cost is even, and one at most at each switch."""
+    return held_apart(n, [(far, 0) if not is_inner(n, far) and cost % 2 == 0 and dice.chance(1, 2) else (far, cost)
+                          for far, cost in rows])
 
 
 def noisy(dice, n, t, most):
-    """The table with every entry moved by at most `most`, still well-formed."""
+    """The table with every entry moved by at most `most`, still one that a call takes."""
     moved = []
     for i, j in pairs(n):
         entry = t[(i - 1) * n + j - 1] + dice.between(0, 2 * most) - most
-        moved.append(min(max(entry, 0), MOST_ENTRY))
+        moved.append(min(max(entry, 1), MOST_ENTRY))
     return table_from(n, moved)
 
 
 def random_table(dice, n, most):
-    return table_from(n, [dice.between(0, most) for _ in pairs(n)])
+    return table_from(n, [dice.between(1, most) for _ in pairs(n)])
+
+
+def zeros_in(n, t):
+    """The pairs of two images that cost nothing, in stored order."""
+    return [(i, j) for i, j in pairs(n) if t[(i - 1) * n + j - 1] == 0]
 
 
 def random_shape(dice):
@@ -1566,7 +1595,9 @@ MEASURED = {
           (120, 32), (122, 12), (126, 8)],
 }
 
-NOT_EXACT = {"C": (7, 1, 1, 2, 3), "F": (7, 1, 2, 3, 4)}
+# The rows of B are a link table as before, but no table is read as it: two images may not cost nothing.
+NOT_MEASURED = {"B": (20, 1, 2, 0, 0)}
+NOT_EXACT = {"B": (20, 1, 2, 0, 0), "C": (7, 1, 1, 2, 3), "F": (7, 1, 2, 3, 4)}
 
 STORED_A_COSTS = [0x06, 0x00, 0x00, 0x20, 0x00, 0x02, 0x00, 0x00, 0x20]
 STORED_A_LINKS = [0x06, 0x0D, 0x00, 0x00, 0x0C, 0x00, 0x00, 0x1C, 0x00, 0x00, 0x20]
@@ -1642,7 +1673,7 @@ def closed_sum(n, t, order_found):
 def test_settled_examples():
     for name in EXAMPLES:
         n, t = example(name)
-        assert read_rows(measured, n, t) == MEASURED[name], name
+        assert read_rows(measured, n, t) == NOT_MEASURED.get(name, MEASURED[name]), name
         assert read_rows(exact, n, t) == NOT_EXACT.get(name, MEASURED[name]), name
         assert read_rows(exact_grafted, n, t) == NOT_EXACT.get(name, MEASURED[name]), name
         assert rows_by_definition(n, t) == MEASURED[name], name
@@ -1665,12 +1696,27 @@ def test_settled_examples():
     assert index(4, g, 12) == (0, 0)
 
 
+# How far an index goes, of an own link and of an inner division. The bounds of document 02, twice the limit
+# and minus that, stay true; without zeros none is reached.
+OWN_ENDS = 2 - MOST_ENTRY, 2 * MOST_ENTRY - 1
+INNER_ENDS = 2 - 2 * MOST_ENTRY, 2 * MOST_ENTRY - 2
+
+
 def test_ends_of_the_index():
+    """The ends are reached, and over all tables of ones and 8,000,000s with three and four images, where each
+    value is as small or as large as it can be, no index goes beyond them."""
     most = MOST_ENTRY
-    assert index(3, table_from(3, [most, most, 0]), 6) == (0, 2 * most)
-    assert index(3, table_from(3, [0, 0, most]), 6) == (0, -most)
-    assert index(4, table_from(4, [0, most, most, most, most, 0]), 12) == (0, 2 * most)
-    assert index(4, table_from(4, [most, 0, 0, 0, 0, most]), 12) == (0, -2 * most)
+    assert index(3, table_from(3, [1, 1, most]), 6) == (0, OWN_ENDS[0]) == (0, -7999998)
+    assert index(3, table_from(3, [most, most, 1]), 6) == (0, OWN_ENDS[1]) == (0, 15999999)
+    assert index(4, table_from(4, [most, 1, 1, 1, 1, most]), 12) == (0, INNER_ENDS[0]) == (0, -15999998)
+    assert index(4, table_from(4, [1, most, most, most, most, 1]), 12) == (0, INNER_ENDS[1]) == (0, 15999998)
+    for n in (3, 4):
+        found = {own: [index(n, table_from(n, upper), far)[1]
+                       for upper in itertools.product((1, most), repeat=len(pairs(n)))
+                       for far in range(2, 2 ** n, 2) if is_inner(n, far) != own]
+                 for own in (True, False)}
+        assert (min(found[True]), max(found[True])) == OWN_ENDS
+        assert n == 3 or (min(found[False]), max(found[False])) == INNER_ENDS
 
 
 def test_settled_limits():
@@ -1707,7 +1753,7 @@ def test_settled_limits():
             form = form_named(number)
             assert write_costs(number, n, t, []) == (4, 1, 2, 0, 0)
             for entry in (form.most_entry, form.most_entry + 1):
-                stored = stored_costs(n, table_from(n, [entry] + [0] * (n * n)), form)
+                stored = stored_costs(n, table_from(n, [entry] + [1] * (n * n)), form)
                 good = entry == form.most_entry
                 refused = (4, 1, 2, 0, 0)
                 assert read_costs(stored, 0, [0] * (n * n)) == ((0, n, len(stored)) if good else refused)
@@ -1791,7 +1837,7 @@ def test_far_end(dice):
 
 
 def tables_to_try(dice, n, count):
-    """Tree tables, noisy ones, random ones, and ones of zeros and 8,000,000s."""
+    """Tree tables, noisy ones, random ones, and ones of ones and 8,000,000s."""
     for turn in range(count):
         kind = turn % 6
         rows = tree_rows(dice, n, random_shape(dice), dice.one_of([2, 6, 40]))
@@ -1804,7 +1850,7 @@ def tables_to_try(dice, n, count):
         elif kind == 4:
             yield random_table(dice, n, MOST_ENTRY)
         else:
-            yield table_from(n, [dice.one_of([0, MOST_ENTRY]) for _ in pairs(n)])
+            yield table_from(n, [dice.one_of([1, MOST_ENTRY]) for _ in pairs(n)])
 
 
 def test_readings_agree_with_definitions(dice):
@@ -1818,8 +1864,8 @@ def test_readings_agree_with_definitions(dice):
             least = index_by_definition(n, d, far)
             assert index_of(n, d, far) == least
             assert index(n, t, far) == (0, least)
-            assert -2 * MOST_ENTRY <= least <= 2 * MOST_ENTRY
-            assert is_inner(n, far) or least >= -MOST_ENTRY
+            lowest, highest = INNER_ENDS if is_inner(n, far) else OWN_ENDS
+            assert lowest <= least <= highest
             fours = itertools.product(range(1, n + 1), repeat=4)
             failing = sorted(tuple(sorted(four)) for four in fours
                              if not four_point_holds(d, *four))
@@ -1828,27 +1874,33 @@ def test_readings_agree_with_definitions(dice):
 
 
 def test_all_small_tables():
-    """Four images, entries 0 to 2: accepted exactly where the measured reading's
-    path costs are twice the entries."""
+    """Four images, entries 0 to 3: exactly those with a zero get 20, at the first of them, from either
+    reading; others are accepted exactly where the measured reading's path costs are twice the entries."""
     n = 4
-    for upper in itertools.product(range(3), repeat=6):
+    for upper in itertools.product(range(4), repeat=6):
         t = table_from(n, upper)
-        rows = measured_rows(n, tuple(t))
+        zeros = [pair for pair, entry in zip(pairs(n), upper) if entry == 0]
+        if zeros:
+            assert read_rows(measured, n, t) == read_rows(exact, n, t) == (20, *zeros[0], 0, 0)
+            continue
+        rows = read_rows(measured, n, t)
         meets = all(path_of(rows, i, j) == 2 * entry
                     for (i, j), entry in zip(pairs(n), upper))
-        assert meets == (first_failing_four(n, tuple(t)) is None)
+        assert read_rows(exact, n, t) == (rows if meets else (7, *first_failing_four(n, tuple(t))))
 
 
 def test_only_one_table():
     """Four images, costs 0 to 3: a link table with even path costs is the exact
-    reading of the halves."""
+    reading of the halves, if no path costs nothing; if one does, that pair gets 20."""
     n = 4
     for own in itertools.product(range(4), repeat=4):
         for inner in [None] + [(far, cost) for far in (6, 10, 12) for cost in (1, 2, 3)]:
             rows = list(zip((2, 4, 8, 14), own)) + ([inner] if inner else [])
             rows.sort()
             if all(path_of(rows, i, j) % 2 == 0 for i, j in pairs(n)):
-                assert read_rows(exact, n, tree_table(n, rows)) == rows
+                zeros = [(i, j) for i, j in pairs(n) if path_of(rows, i, j) == 0]
+                expected = (20, *zeros[0], 0, 0) if zeros else rows
+                assert read_rows(exact, n, tree_table(n, rows)) == expected
 
 
 def test_demand_2(dice):
@@ -1943,7 +1995,10 @@ def test_consensus_examples():
                 assert shared_rows(n, [t] * number) == MEASURED[name]
     a, b, d = [example(name)[1] for name in "ABD"]
     assert shared_rows(3, [a, d]) == [(2, 1), (4, 1), (6, 0)] == shared_rows(3, [d, a])
-    assert shared_rows(3, [a, b, d]) == MEASURED["B"]
+    assert shared_rows(3, [a, b, d]) == (20, 2, 1, 2, 0, 0)
+    # In each of three tables another image stands between the two others: own links of 0 remain, and are shared.
+    between = [table_from(3, upper) for upper in ([1, 1, 2], [1, 2, 1], [2, 1, 1])]
+    assert shared_rows(3, between) == MEASURED["B"] == shared_rows(3, [a] + between)
     n, e = example("E")
     g = example("G")[1]
     # The inner row 12:4 of E is not in G.
@@ -1975,6 +2030,9 @@ def spoilt(n, t, fault):
     if fault == 6:
         t[-2] += 1
         return t, (6, n - 1, n, 0, 0)
+    if fault == 20:
+        t[-2] = t[-n - 1] = 0
+        return t, (20, n - 1, n, 0, 0)
     t = bent(n, t)
     return t, (7, *first_failing_four(n, tuple(t)))
 
@@ -1984,7 +2042,7 @@ def test_consensus_refusals(dice):
     the refusal is that of its exact reading."""
     for n in (3, 4, 6):
         good = tree_table(n, tree_rows(dice, n, "uneven", 20))
-        for fault, later in itertools.product((4, 5, 6, 7), repeat=2):
+        for fault, later in itertools.product((4, 5, 6, 20, 7), repeat=2):
             t, refused = spoilt(n, good, fault)
             assert read_rows(exact, n, t) == refused
             for place in range(4):
@@ -2002,7 +2060,7 @@ def test_consensus(dice):
             trees = []
             for _ in range(number):
                 kept = [row for row in base if not is_inner(n, row[0]) or dice.chance(5, 6)]
-                trees.append([(far, 2 * cost + 2 * dice.below(5)) for far, cost in kept])
+                trees.append(held_apart(n, [(far, 2 * cost + 2 * dice.below(5)) for far, cost in kept]))
             tables = [tree_table(n, rows) for rows in trees]
             found = shared_rows(n, tables)
             assert [far for far, _ in found] == [
@@ -2114,9 +2172,10 @@ def converted(convert, form, stored):
 
 
 def test_conversions(dice):
-    """Old to new always works and gives the same rows or entries; to its own form a table is
-    left as it is; old to new to old gives the same bytes; new to old works exactly when all
-    numbers fit, and else says the first that does not, before it asks for room."""
+    """Old to new always works where no two images cost nothing, and gives the same rows or entries; to
+    its own form a table is left as it is; old to new to old gives the same bytes; new to old works exactly
+    when all numbers fit, and else says the first that does not, before it asks for room. A zero between
+    two images is said before all that, to either form."""
     for n, shape in itertools.product((3, 4, 5, 8, 9, 33, 64), ("star", "caterpillar", "uneven")):
         t = random_table(dice, n, dice.one_of([9, OLD.most_entry]))
         old = stored_costs(n, t)
@@ -2136,7 +2195,7 @@ def test_conversions(dice):
         # Some numbers above the old limits, the lowest of them with the least that does not fit.
         for high in (0, 1, 3):
             moved = dice.mixed(range(len(pairs(n))))[:high]
-            upper = [OLD.most_entry + 1 + dice.below(7000000) if place in moved else dice.below(OLD.most_entry + 1)
+            upper = [OLD.most_entry + 1 + dice.below(7000000) if place in moved else dice.between(1, OLD.most_entry)
                      for place in range(len(pairs(n)))]
             if moved:
                 upper[min(moved)] = OLD.most_entry + 1
@@ -2147,6 +2206,11 @@ def test_conversions(dice):
             else:
                 assert converted(convert_costs, 1, found) == stored
             assert converted(convert_costs, 1, stored) == stored
+            timed = dice.between(0, len(upper) - 1)
+            upper[timed:] = [0] * (len(upper) - timed)
+            for form, number in itertools.product((OLD, NEW) if not moved else (NEW,), (0, 1)):
+                assert converted(convert_costs, number, stored_costs(n, table_from(n, upper), form)) == (
+                    (20,) + pairs(n)[timed] + (0, 0))
             moved = dice.mixed(range(len(rows)))[:high]
             raised = [OLD.most_cost + 1 + dice.below(14000000) if row in moved else cost
                       for row, cost in enumerate(costs)]
@@ -2175,6 +2239,7 @@ def test_old_limits():
         bad = list(t)
         bad[place] = entry
         assert write_costs(0, n, bad, []) == refused == write_costs(1, n, bad, [])
+    assert write_costs(0, n, table_from(n, [high, 0, 0]), []) == (20, 1, 3, 0, 0)
     fars, low, high = [2, 4, 6], OLD.most_cost, OLD.most_cost + 1
     for costs, refused in (([low, high, MOST_COST], (17, 2, 0, 0, 0)), ([low] * 3, (3, 0, 0, 0, 0)),
                            ([high, 0, MOST_COST + 1], (12, 3, 0, 0, 0))):
@@ -2308,22 +2373,22 @@ def moved_entries(dice, n, t, count):
     t = list(t)
     for _ in range(count):
         i, j = sorted(dice.mixed(range(n))[:2])
-        entry = t[i * n + j] + dice.one_of([1, -1] if t[i * n + j] > 0 else [1])
+        entry = t[i * n + j] + dice.one_of([1, -1] if t[i * n + j] > 1 else [1])
         t[i * n + j] = t[j * n + i] = entry
     return t
 
 
 def test_engines_on_all_small_tables():
-    for n, most in ((3, 4), (4, 2)):
+    for n, most in ((3, 5), (4, 3)):
         agreed = [engines_agree(n, table_from(n, upper))
                   for upper in itertools.product(range(most + 1), repeat=len(pairs(n)))]
         assert any(agreed) and not all(agreed)
 
 
 def test_engines(dice):
-    """The second engine against the first: trees of every shape with own links and entries
-    of 0, the same with one or two entries moved, and tables that are no trees; then trees
-    of many images, and those with one entry moved."""
+    """The second engine against the first: trees of every shape with own links of 0, the same
+    with one or two entries moved, and tables that are no trees; then trees of many images, and
+    those with one entry moved."""
     accepted = refused = 0
     for n in (3, 4, 5, 6, 7, 8, 9):
         tables = list(tables_to_try(dice, n, 60))
@@ -2625,7 +2690,7 @@ def test_replay_start(dice):
                 assert replay(n, t, events, [], []) == (2, 0, 0, 0, 0, 0, 0, 0)
             for t, short, shorter in ((bad, 0, room), (good, room - 1, room), (good, room, room - 1)):
                 assert replay(n, t, events, [0] * short, [0] * shorter) == (3, 0, 0, 0, 0, 0, 0, 0)
-            for fault in (4, 5, 6, 7):
+            for fault in (4, 5, 6, 20, 7):
                 t, refused = spoilt(n, good, fault)
                 assert replayed(n, t, events) == (refused + (0, 0, 0), [])
 
@@ -2700,14 +2765,18 @@ def test_report_examples():
         n, t = example(name)
         stored = stored_costs(n, t)
         inner = [(far, cost) for far, cost in MEASURED[name] if is_inner(n, far)]
-        if name in NOT_EXACT:
+        if name in NOT_MEASURED:
+            number, *pair = NOT_MEASURED[name]
+            assert reported(stored * 2) == ((number, 1, *pair) + (0,) * 9, [])
+        elif name in NOT_EXACT:
             assert reported(stored * 2) == ((0, n, 2, 0, 2, 0, 0, 0, 0, 2 * len(stored)), [])
         else:
             assert reported(stored) == ((0, n, 1, 1, 0, len(inner), 0, 0, 0, len(stored)),
                                         [(far, 1, cost) for far, cost in inner])
             assert reported(stored * 3) == ((0, n, 3, 3, 0, len(inner), 2, 0, 0, 3 * len(stored)),
                                             [(far, 3, 3 * cost) for far, cost in inner])
-    # An n other than the first table's, also of a first or a later table that gets 7; but 9 comes before it.
+    # An n other than the first table's, also of a first or a later table that gets 7; but 9 comes before it,
+    # and so does a zero between two images.
     e, f, a, c = [stored_costs(*example(name)) for name in "EFAC"]
     for first, used, kept in ((e, 16, 1), (f, 16, 0), (a, 9, 1), (c, 9, 0)):
         n = 4 if used == 16 else 3
@@ -2715,6 +2784,9 @@ def test_report_examples():
         for other in (a, c) if n == 4 else (e, f):
             assert reported(first + other)[0] == (15, 2, 0, 0, 0, 0) + figures
             assert reported(first + other[:-1])[0] == (9, 2, 0, 0, 0, 0) + figures
+        for images in (3, 4):
+            zeros = stored_costs(images, table_from(images, [2, 0, 0, 0, 0, 0]))
+            assert reported(first + zeros)[0] == (20, 2, 1, 3, 0, 0) + figures
 
 
 def test_term_text():
@@ -2732,6 +2804,7 @@ def test_term_text():
                                 "12 1 4\n"
                                 "table 2 refused 15 0 0 0 0\n")
     assert term_text([4, 0, 0, 32]).splitlines()[-1] == "table 1 refused 1 2 0 0 0"
+    assert term_text(a + stored_costs(*example("B"))).splitlines()[-1] == "table 2 refused 20 1 2 0 0"
 
 
 def spoilt_stored(n, number, form):
@@ -2739,18 +2812,18 @@ def spoilt_stored(n, number, form):
     bits = form.mark + field(7, {1: 2, 15: n - 1}.get(number, n))
     images = n - 1 if number == 15 else n
     bits += field(form.entry_bits, 2) * (len(pairs(images)) - 1)
-    bits += field(form.entry_bits, form.most_entry + 1 if number == 4 else 2)
+    bits += field(form.entry_bits, {4: form.most_entry + 1, 20: 0}.get(number, 2))
     stored = bytes_of_bits(bits)
     if number == 11:
         stored[-1] += 1
-    return stored[:-1] if number == 9 else stored, {1: (2,), 4: (n - 1, n)}.get(number, ())
+    return stored[:-1] if number == 9 else stored, {1: (2,), 4: (n - 1, n), 20: (n - 1, n)}.get(number, ())
 
 
 def test_report_refusals(dice):
     """A refused table ends the report wherever it stands, and the figures are those of the tables before,
     whatever stands behind; but after table 500 nothing is looked at."""
     for n in (5, 6, 9):
-        for number in (9, 1, 11, 4, 15):
+        for number in (9, 1, 11, 4, 20, 15):
             for form in (OLD, NEW):
                 tables = [(n, tree_table(n, tree_rows(dice, n, random_shape(dice), 9))) for _ in range(5)]
                 tables[dice.below(5)] = n, bent(n, tables[0][1])
@@ -2791,8 +2864,8 @@ def test_report_limits(dice):
     assert answer[:11] == (19, len(trees) + 3, 0, 0, 0, 0, n, len(trees) + 2, len(trees) + 1, 1, MOST_SIDES)
     assert sum(trees for _, trees, _ in entries_again) == sum(trees for _, trees, _ in entries) + n - 3
     assert reported(one_more + stored)[0][:2] == (19, len(trees) + 1)
-    most = stored_costs(4, table_from(4, [0, MOST_ENTRY, MOST_ENTRY, MOST_ENTRY, MOST_ENTRY, 0]), NEW)
-    assert reported(most * 500)[1] == [(12, 500, 500 * MOST_COST)] and 500 * MOST_COST > 2 ** 32
+    most = stored_costs(4, table_from(4, [1, MOST_ENTRY, MOST_ENTRY, MOST_ENTRY, MOST_ENTRY, 1]), NEW)
+    assert reported(most * 500)[1] == [(12, 500, 500 * (MOST_COST - 2))] and 500 * (MOST_COST - 2) > 2 ** 32
 
 
 def stream_to_try(dice, n):
@@ -2841,6 +2914,106 @@ def test_cut_report(dice):
                 assert reported(front + cut) == ((9, end + 1, 0, 0, 0, 0) + answer[1:], entries)
 
 
+def of_table(answer, table):
+    """An answer without the table's number, which must be this one where it is a refusal."""
+    assert answer[0] == 0 or answer[1] == table, (answer, table)
+    return answer[:1] + answer[2:6]
+
+
+def of_text(text):
+    """The refusal that the text of a listing is; (0,) for a listing."""
+    words = text.split()
+    return tuple(map(int, words[1:])) if words[0] == "refused" else (0,)
+
+
+def by_every_table_call(n, t, good):
+    """What each call that takes a cost table says of this one, as the number and the places. Where a call takes
+    several, it stands in front of a good one and behind it, and its own number must be said."""
+    fars, costs = [0] * 2 * n, [0] * 2 * n
+    answers = [index(n, t, 2), order(n, t, n, 1, [0] * n), replay(n, t, [], fars, costs)[:5]]
+    answers += [reading_call(n, t, fars, costs) for reading_call in (measured, exact, exact_grafted)]
+    answers += [write_costs(form, n, t, [0] * 6000) for form in FORM_NUMBERS]
+    for table, both in ((1, (t, good)), (2, (good, t))):
+        answers.append(of_table(compare(n, *both), table))
+        answers.append(of_table(consensus(n, 3, sum(both, []) + good, fars, costs), table))
+    return answers
+
+
+def by_every_stored_call(n, t, good, form):
+    """The same of the calls and programs that read a stored one, which this is in this form."""
+    stored, before, out = stored_costs(n, t, form), stored_costs(n, good), [0] * (n * n)
+    answers = [read_costs(stored, 0, out), read_costs(before + stored, 8 * len(before), out)]
+    answers += [convert_costs(number, stored, [0] * 6000) for number in FORM_NUMBERS]
+    answers += [of_text(program(stored)) for program in (listing, listing_last_n, newick_line)]
+    answers += [of_table(two_costs(stored + before, out, out), 1), of_table(two_costs(before + stored, out, out), 2)]
+    answers += [first_two(stored, 0, out, out)[:5], first_two(before + stored, 0, out, out)[4:9]]
+    places = [0] * MOST_SIDES
+    answers += [of_table(report(stored + before, places, places, places), 1),
+                of_table(report(before + stored, places, places, places), 2)]
+    return answers
+
+
+def says_of_zeros(n, t, good):
+    """Exactly where two images cost nothing does each call give 20, at the first such pair."""
+    refused = [(20, i, j, 0, 0) for i, j in zeros_in(n, t)[:1]]
+    answers = by_every_table_call(n, t, good)
+    for form in (OLD, NEW):
+        answers += by_every_stored_call(n, t, good, form)
+    for answer in answers:
+        assert answer == refused[0] if refused else answer[0] != 20, (n, t, answer)
+    return answers
+
+
+def test_zeros(dice):
+    """Every table of three images with entries to 2; tables of more images with zeros first, last, between, and
+    several, of which the lowest row counts, and in it the lowest column. B is refused by every call, D by none:
+    its own link of 0 stays."""
+    good = {n: tree_table(n, tree_rows(dice, n, "uneven")) for n in (3, 4, 5, 9, 33)}
+    for upper in itertools.product(range(3), repeat=3):
+        says_of_zeros(3, table_from(3, upper), good[3])
+    assert set(says_of_zeros(*example("B"), good[3])) == {(20, 1, 2, 0, 0)}
+    assert {answer[0] for answer in says_of_zeros(*example("D"), good[3])} == {0}
+    for n in (4, 5, 9, 33):
+        middle = dice.one_of(pairs(n)[1:-1])
+        for zeros in ([(1, 2)], [(n - 1, n)], [middle], [(1, n), (2, 3)], [(1, 4), (2, 3), (n - 1, n)], [(2, 3), (2, 4)]):
+            t = good[n]
+            for i, j in zeros:
+                t = table_from(n, [0 if pair == (i, j) else t[(pair[0] - 1) * n + pair[1] - 1] for pair in pairs(n)])
+            assert zeros_in(n, t) == zeros
+            assert set(says_of_zeros(n, t, good[n])) == {(20, *zeros[0], 0, 0)}
+
+
+def test_zeros_among_faults():
+    """20 stands behind 4, 5 and 6, and before 7, 8, 12 and 17, and before a writer's room; in what is stored behind
+    9, 11 and 4. Room that is asked before the entries comes before it too."""
+    n, room = 4, 5
+    t = table_from(n, [1000001, 0, 9, 0, 1, 1])
+    refused, short = (20, 1, 3, 0, 0), (3, 0, 0, 0, 0)
+    assert first_failing_four(n, tuple(t)) is not None
+    assert order(n, t, 1, 1, [0] * n) == order(n, t, 0, 5, [0] * n) == refused and order(n, t, 1, 2, [0] * 3) == short
+    assert index(n, t, 0) == index(n, t, 3) == index(n, t, 16) == refused
+    assert write_costs(0, n, t, []) == write_costs(1, n, t, []) == refused
+    for reading_call in (measured, exact, exact_grafted):
+        assert reading_call(n, t, [0] * room, [0] * room) == refused
+        assert reading_call(n, t, [0] * (room - 1), [0] * room) == short
+    assert replay(n, t, [0], [0] * room, [0] * room)[:5] == refused and replay(n, t, [], [], [])[:5] == short
+    for place, entry, earlier in ((15, 1, (5, 4, 0, 0, 0)), (14, 2, (6, 3, 4, 0, 0)), (14, 8000001, (4, 4, 3, 0, 0)),
+                                  (2, 1, (6, 1, 3, 0, 0))):
+        bad = list(t)
+        bad[place] = entry
+        assert set(by_every_table_call(n, bad, example("E")[1])) == {earlier}
+    new = stored_costs(n, t, NEW)
+    assert convert_costs(0, new, []) == refused == of_text(newick_line(new))
+    n = 5
+    for form in (OLD, NEW):
+        upper = [7, 0, 9, 0, form.most_entry, 0, 5, 5, 5]
+        stored, too_large = [stored_costs(n, table_from(n, upper + [last]), form) for last in (0, form.most_entry + 1)]
+        for found, answer in ((stored, refused), (too_large, (4, 4, 5, 0, 0)), (stored[:-1], (9, 0, 0, 0, 0)),
+                              (stored[:-1] + [1], (11, 0, 0, 0, 0))):
+            assert read_costs(found, 0, [0] * 25) == answer and read_costs(found, 0, [0] * 24) == short
+            assert convert_costs(0, found, []) == convert_costs(1, found, []) == of_text(listing(found)) == answer
+
+
 def self_test():
     dice = Dice(1)
     tests = [
@@ -2860,7 +3033,7 @@ def self_test():
         (test_replay_examples, ()), (test_replay_start, (dice,)), (test_replay, (dice,)),
         (test_report_examples, ()), (test_term_text, ()), (test_report_refusals, (dice,)),
         (test_report_limits, (dice,)),
-        (test_report, (dice,)), (test_cut_report, (dice,)),
+        (test_report, (dice,)), (test_cut_report, (dice,)), (test_zeros, (dice,)), (test_zeros_among_faults, ()),
     ]
     for test, arguments in tests:
         test(*arguments)

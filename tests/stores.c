@@ -138,6 +138,10 @@ static int writes_wrong(size_t form, size_t n) {
     wrong |= is_wrong("write_links refused", n, r, KEMOTUIKI_NO_ROOM, 0);
     begin(), r = kemotuiki_write_batch(form, ns, TABLES, counts, TABLES, fars, all, costs, all, lent, of_batch - 1);
     wrong |= is_wrong("write_batch refused", n, r, KEMOTUIKI_NO_ROOM, 0);
+    /* the last two images cost nothing */
+    t[n * n - 2] = t[n * n - n - 1] = 0;
+    begin(), r = kemotuiki_write_costs(form, n, t, n * n, lent, ROOM);
+    wrong |= is_wrong("write_costs refused", n, r, KEMOTUIKI_ZERO_OFF_DIAGONAL, 0);
     costs[all - 1] = 2 * KEMOTUIKI_ENTRY_LIMIT + 1;
     begin(), r = kemotuiki_write_batch(form, ns, TABLES, counts, TABLES, fars, all, costs, all, lent, ROOM);
     wrong |= is_wrong("write_batch refused", n, r, KEMOTUIKI_BAD_ROW, 0);
