@@ -8,7 +8,7 @@ use Rattle.ground.specs.Buffers.{front}
 use Rattle.ground.specs.Outcomes.{Outcome}
 use Rattle.ground.specs.Refusals.{ifPassed, refusal, refuseIf}
 use Rattle.ground.specs.declared.Check.{Check}
-use Rattle.stored_links.specs.Form.{linkUsed}
+use Rattle.link_forms.specs.Form.{linkUsed}
 use Rattle.joined_tables.specs.Bytes.{batchBytes}
 use Rattle.joined_tables.specs.Tables.{Table, leftOverChecks, nextChecks, tables}
 use Rattle.batch.specs.declared.Batched.{Batched}

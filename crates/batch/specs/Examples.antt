@@ -6,9 +6,9 @@ use Rattle.ground.specs.First.{first}
 use Rattle.ground.specs.Refusals.{refusal}
 use Rattle.bits.specs.Bits.{bitsOf, part, valueOf}
 use Rattle.bits.specs.Forms.{bytesOf, filled, fieldBits, fieldBytes, packed}
-use Rattle.links.specs.BadRows.{badRow, missing}
+use Rattle.bad_rows.specs.BadRows.{badRow, missing}
 use Rattle.stored_links.specs.Examples.{costsA, farsA, newStoredA, storedA}
-use Rattle.stored_links.specs.Form.{linkBytes, linkFields, newLinks, oldLinks, rowsTo}
+use Rattle.link_forms.specs.Form.{linkBytes, linkFields, newLinks, oldLinks, rowsTo}
 use Rattle.batch.specs.Batch.{batchAnswer, batchFrom}
 use Rattle.joined_tables.specs.Bytes.{batchBytes}
 use Rattle.joined_tables.specs.Tables.{tables}

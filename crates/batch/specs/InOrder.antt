@@ -16,7 +16,7 @@ use Rattle.ground.specs.Steps.{FirstRefused, Step, about, numbersOf, ofTable, _
 use Rattle.ground.specs.declared.Refusal.{Refusal}
 use Rattle.bits.specs.declared.Form.{Form}
 use Rattle.links.specs.InOrder.{count-order, countSteps}
-use Rattle.stored_links.specs.Form.{linkUsed}
+use Rattle.link_forms.specs.Form.{linkUsed}
 use Rattle.link_writer.specs.InOrder.{fit-order, fitSteps}
 use Rattle.batch.specs.Batch.{batchAnswer, batchFrom, batchOutcome}
 use Rattle.joined_tables.specs.Tables.{Table, leftOverChecks, nextChecks, runOutChecks, tables}

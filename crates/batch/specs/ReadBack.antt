@@ -3,7 +3,7 @@ use mathlib.Core.List.{List, [], _∷_}
 use mathlib.Core.Path.{_≡_}
 use Prim.Native.Nat.{ℕ, _*_, _+_, _-_, _≤_}
 use lib.ListN.{drop, length, take}
-use Rattle.stored_links.specs.Form.{linkUsed}
+use Rattle.link_forms.specs.Form.{linkUsed}
 use Rattle.stored_links.specs.Outcomes.{readEither}
 use Rattle.joined_tables.specs.Tables.{Table}
 use Rattle.bits.specs.declared.Form.{Form}

@@ -6,7 +6,7 @@ ghost use mathlib.Core.Path.{_≡_};
 ghost use Prim.Native.Nat.{_≤_};
 ghost use lib.ListN.{drop, length};
 ghost use Rattle.ground.specs.Outcomes.{Left};
-ghost use Rattle.stored_links.specs.Form.{linkForm};
+ghost use Rattle.link_forms.specs.Form.{linkForm};
 ghost use Rattle.joined_tables.specs.Tables.{leftOverChecks, tables};
 ghost use Rattle.batch.specs.Batch.{batchAnswer, batchFrom, batchOutcome, numbered};
 ghost use Rattle.batch.specs.declared.Batched.the-variants.{Bytes};

@@ -7,9 +7,9 @@ use lib.ListN.{take}
 use Rattle.ground.specs.Refusals.{ifPassed, refusal, refuseIf}
 use Rattle.ground.specs.declared.Check.{Check}
 use Rattle.theory.specs.Comparison.{inners}
-use Rattle.stored_links.specs.Form.{linkFormAt}
+use Rattle.link_forms.specs.Form.{linkFormAt}
 use Rattle.stored_links.specs.Reading.{tableChecks}
-use Rattle.stored_links.specs.Said.{countOf, farsOf, imagesOf, usedOf}
+use Rattle.link_forms.specs.Said.{countOf, farsOf, imagesOf, usedOf}
 use Rattle.choice.specs.Inclusion.{includes}
 use Rattle.choice.specs.declared.Chosen.{Chosen}
 use Rattle.choice.specs.declared.Chosen.the-variants.{Refused, Table}

@@ -9,10 +9,10 @@ use Rattle.bits.specs.Bits.{bits, bitsOf, part, valueOf}
 use Rattle.bits.specs.Editions.{editionOf}
 use Rattle.bits.specs.Forms.{bytesOf, filled, fieldBits, fieldBytes, packed}
 use Rattle.bits.specs.Listed.{listed}
-use Rattle.links.specs.BadRows.{badRow, missing}
+use Rattle.bad_rows.specs.BadRows.{badRow, missing}
 use Rattle.stored_links.specs.Examples.{storedA}
-use Rattle.stored_links.specs.Form.{linkBytes, linkFields, newLinks, oldLinks, rowsTo}
-use Rattle.stored_links.specs.Said.{costAt, countOf, farAt, fillOf, imagesOf}
+use Rattle.link_forms.specs.Form.{linkBytes, linkFields, newLinks, oldLinks, rowsTo}
+use Rattle.link_forms.specs.Said.{costAt, countOf, farAt, fillOf, imagesOf}
 use Rattle.choice.specs.Call.{choiceEither, choiceOf, partOf}
 use Rattle.choice.specs.declared.Chosen.the-variants.{Refused, Table}
 

@@ -12,7 +12,7 @@ use Rattle.ground.specs.Refusals.{refusal}
 use Rattle.ground.specs.Steps.{Step, about, _by_}
 use Rattle.bits.specs.declared.Form.{Form}
 use Rattle.stored_links.specs.InOrder.{table-order, storedSteps}
-use Rattle.stored_links.specs.Said.{imagesOf, usedOf}
+use Rattle.link_forms.specs.Said.{imagesOf, usedOf}
 use Rattle.choice.specs.Call.{choiceOf, imagesAgree, inclusion, innersOf}
 use Rattle.choice.specs.Inclusion.{includes}
 use Rattle.choice.specs.declared.Chosen.{Chosen}

@@ -9,7 +9,7 @@ use Rattle.ground.specs.declared.Check.the-variants.{Passed}
 use Rattle.choice.specs.Call.{sidesOf}
 use Rattle.stored_links.specs.Outcomes.{saidIf}
 use Rattle.stored_links.specs.Reading.{tableChecks}
-use Rattle.stored_links.specs.Said.{countOf, imagesOf, usedOf}
+use Rattle.link_forms.specs.Said.{countOf, imagesOf, usedOf}
 use Rattle.stored_links.specs.declared.StoredLinks.{StoredLinks}
 use Rattle.bits.specs.declared.Form.{Form}
 

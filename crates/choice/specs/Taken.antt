@@ -8,7 +8,7 @@ use Rattle.ground.specs.declared.Check.the-variants.{Refused}
 use Rattle.ground.specs.declared.Refusal.{Refusal}
 use Rattle.bits.specs.declared.Form.{Form}
 use Rattle.stored_links.specs.Reading.{tableChecks}
-use Rattle.stored_links.specs.Said.{countOf, imagesOf, usedOf}
+use Rattle.link_forms.specs.Said.{countOf, imagesOf, usedOf}
 use Rattle.stored_links.specs.Stored.{Stored}
 use Rattle.choice.specs.Call.{innersOf}
 

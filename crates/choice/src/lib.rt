@@ -10,7 +10,7 @@ ghost use Rattle.ground.specs.Refusals.{refusal};
 ghost use Rattle.theory.specs.Comparison.{inners};
 ghost use Rattle.choice.specs.Call.{againstSecond, choiceEither, partOf, taken};
 ghost use Rattle.choice.specs.Read.{TableRead};
-ghost use Rattle.stored_links.specs.Form.{linkFormAt};
+ghost use Rattle.link_forms.specs.Form.{linkFormAt};
 
 // What the choice answers: the chosen table's number, 1 or 2, and its count of used bytes, or a refusal with the table's number,
 // 0 with refusals 15 and 14.

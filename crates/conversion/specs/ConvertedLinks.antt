@@ -12,7 +12,7 @@ use Rattle.bits.specs.Bits.{AllBytes}
 use Rattle.bits.specs.Editions.{editionOf}
 use Rattle.bits.specs.declared.Edition.{Edition}
 use Rattle.bits.specs.declared.Edition.the-variants.{New, Old}
-use Rattle.stored_links.specs.Form.{linkBytes, linkForm, linkFormAt}
+use Rattle.link_forms.specs.Form.{linkBytes, linkForm, linkFormAt}
 use Rattle.stored_links.specs.Laws.Enough.{links-said, links-stored, table-begins}
 use Rattle.stored_links.specs.Laws.Told.{either-written, links-marked}
 use Rattle.stored_links.specs.Laws.WriteBack.{read-written}

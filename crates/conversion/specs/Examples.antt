@@ -14,16 +14,16 @@ use Rattle.bits.specs.Editions.{editionOf}
 use Rattle.bits.specs.Forms.{bytesOf, fieldBits, fieldBytes, fieldValue, filled, packed}
 use Rattle.bits.specs.Listed.{listed}
 use Rattle.bits.specs.declared.Edition.the-variants.{New, Old}
-use Rattle.links.specs.BadRows.{badRow, missing}
+use Rattle.bad_rows.specs.BadRows.{badRow, missing}
 use Rattle.cost_forms.specs.Entries.{entriesTo, entryCost, rowEntries, rowStart, tableOf}
 use Rattle.cost_forms.specs.Form.{costBytes, costFields, newCosts}
 use Rattle.cost_forms.specs.Said.{entryOf}
-use Rattle.stored_links.specs.Form.{linkBytes, linkFields, newLinks, rowsTo}
-use Rattle.stored_links.specs.Said.{costAt, countOf, farAt}
+use Rattle.link_forms.specs.Form.{linkBytes, linkFields, newLinks, rowsTo}
+use Rattle.link_forms.specs.Said.{costAt, countOf, farAt}
 use Rattle.stored_costs.specs.Examples as costs
 use Rattle.cost_forms.specs.Said as cost-said
 use Rattle.stored_links.specs.Examples as links
-use Rattle.stored_links.specs.Said as said
+use Rattle.link_forms.specs.Said as said
 use Rattle.conversion.specs.Costs.{costsConverted}
 use Rattle.conversion.specs.Links.{linksConverted}
 

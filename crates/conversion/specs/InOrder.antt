@@ -7,7 +7,7 @@ use Rattle.ground.specs.Steps.{Step}
 use Rattle.theory.specs.Tables.{cost}
 use Rattle.bits.specs.declared.Edition.{Edition}
 use Rattle.cost_forms.specs.Form.{costForm, costFormAt}
-use Rattle.stored_links.specs.Form.{linkForm, linkFormAt}
+use Rattle.link_forms.specs.Form.{linkForm, linkFormAt}
 use Rattle.conversion.specs.Costs.{costChecks, tableSaid}
 use Rattle.conversion.specs.Links.{costsSaid, farsSaid, linkChecks}
 use Rattle.stored_costs.specs.InOrder as costs-read

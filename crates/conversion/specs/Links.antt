@@ -10,9 +10,9 @@ use Rattle.ground.specs.declared.Check.{Check}
 use Rattle.ground.specs.declared.Check.the-variants.{Passed}
 use Rattle.ground.specs.declared.Written.{Written}
 use Rattle.bits.specs.declared.Edition.{Edition}
-use Rattle.stored_links.specs.Form.{linkForm, linkFormAt, linkUsed}
+use Rattle.link_forms.specs.Form.{linkForm, linkFormAt, linkUsed}
 use Rattle.stored_links.specs.Reading.{tableChecks}
-use Rattle.stored_links.specs.Said.{costsOf, countOf, farsOf, imagesOf}
+use Rattle.link_forms.specs.Said.{costsOf, countOf, farsOf, imagesOf}
 use Rattle.link_writer.specs.Writing.{storeChecks, storedIf}
 
 -- the images and the row count of the table that s begins with, in the form that it tells

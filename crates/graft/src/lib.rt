@@ -51,7 +51,7 @@ fn read(n: usize, t: &[u32], fars: &mut [u64], costs: &mut [u32]) -> Written
         (now (costs .entry))) r (now (fars .exit)) (now (costs .exit)) ⌝ }
 {
     let mut o = [0u32; 64];
-    order::write_order(n, t, 0, n - 1, &mut o);
+    ordering::write_order(n, t, 0, n - 1, &mut o);
     if recognition::can_graft_all(n, t, &o) {
         return Written::Places(write_grafted(n, t, &o, fars, costs));
     }

@@ -2,7 +2,7 @@
 use mathlib.Core.List.{List, [], _++_, _∷_}
 use Prim.Native.Nat.{ℕ}
 use lib.ListN.{drop, take}
-use Rattle.stored_links.specs.Form.{linkBytes}
+use Rattle.link_forms.specs.Form.{linkBytes}
 use Rattle.joined_tables.specs.Tables.{Table}
 use Rattle.bits.specs.declared.Form.{Form}
 

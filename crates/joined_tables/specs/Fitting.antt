@@ -4,7 +4,7 @@ use mathlib.Core.Path.{_≡_}
 use Prim.Native.Nat.{ℕ, _-_, _≤_}
 use lib.ListN.{drop, length, take}
 use Rattle.links.specs.Links.{Links}
-use Rattle.stored_links.specs.Form.{linkUsed}
+use Rattle.link_forms.specs.Form.{linkUsed}
 use Rattle.joined_tables.specs.Tables.{Table}
 use Rattle.bits.specs.declared.Form.{Form}
 

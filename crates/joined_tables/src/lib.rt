@@ -5,7 +5,7 @@ ghost use mathlib.Core.Path.{_≡_};
 ghost use Prim.Native.Nat.{_≤_, _<_};
 ghost use lib.ListN.{drop, getD, length, take};
 ghost use Rattle.ground.specs.Buffers.{front};
-ghost use Rattle.stored_links.specs.Form.{linkBytes, linkForm, linkUsed};
+ghost use Rattle.link_forms.specs.Form.{linkBytes, linkForm, linkUsed};
 ghost use Rattle.joined_tables.specs.Tables.{leftOverChecks, nextChecks, runOutChecks, tables};
 ghost use Rattle.joined_tables.specs.Bytes.{batchBytes};
 ghost use Rattle.joined_tables.specs.Fitting.{BatchFits, NextFits};

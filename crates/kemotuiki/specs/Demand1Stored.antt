@@ -10,7 +10,7 @@ use Rattle.ground.specs.Steps.{ofTable}
 use Rattle.theory.specs.Outcomes.{LeftRows}
 use Rattle.bits.specs.Editions.{editionBy}
 use Rattle.cost_forms.specs.Form.{costForm, costFormAt}
-use Rattle.stored_links.specs.Form.{linkForm, linkFormAt}
+use Rattle.link_forms.specs.Form.{linkForm, linkFormAt}
 use Rattle.batch.specs.Batch.{batchOutcome}
 use Rattle.batch.specs.InOrder.{batch-decides, batch-numbers, batch-unaltered, batchSteps}
 use Rattle.batch.specs.Tables.{tables}

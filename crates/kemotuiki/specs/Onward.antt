@@ -17,7 +17,7 @@ use Rattle.links.specs.Laws.LinkChecks.{rows-length}
 use Rattle.links.specs.Links.{Links}
 use Rattle.routes.specs.Orders.{pathChecks, routeChecks, upperChecks}
 use Rattle.routes.specs.Promises.{path-accepted, route-accepted, upper-accepted}
-use Rattle.stored_links.specs.Form.{linkUsed, newLinks}
+use Rattle.link_forms.specs.Form.{linkUsed, newLinks}
 use Rattle.stored_links.specs.Outcomes.{readEither}
 use Rattle.stored_links.specs.Stored.{readInto}
 use Rattle.link_writer.specs.Laws.Accepted.{passed-write}

@@ -42,7 +42,7 @@ ghost use Rattle.numbers.specs.Stored.{ofBytes, ofBatched, ofCosts, ofLinks, of
 ghost use Rattle.kemotuiki.specs.Crossing.{crossed, crossedReport, crossedRows};
 ghost use Rattle.bits.specs.Editions.{editionBy};
 ghost use Rattle.cost_forms.specs.Form.{costForm};
-ghost use Rattle.stored_links.specs.Form.{linkForm};
+ghost use Rattle.link_forms.specs.Form.{linkForm};
 
 // The index of the division with the far side s.
 #[no_mangle]

@@ -6,8 +6,8 @@ use lib.Count.{ones, onesIn}
 use Rattle.ground.specs.First.{first}
 use Rattle.ground.specs.Refusals.{refusal}
 use Rattle.ground.specs.declared.Written.the-variants.{Places, Refused}
-use Rattle.links.specs.BadRows.{badRow, missing}
-use Rattle.stored_links.specs.Form.{newLinks, oldLinks}
+use Rattle.bad_rows.specs.BadRows.{badRow, missing}
+use Rattle.link_forms.specs.Form.{newLinks, oldLinks}
 use Rattle.link_writer.specs.Writing.{writeOutcome}
 
 -- example A's rows with the cost x in the second, into so many bytes

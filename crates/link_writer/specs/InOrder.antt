@@ -12,7 +12,7 @@ use Rattle.ground.specs.Steps.{Step, _by_}
 use Rattle.theory.specs.Tables.{limit}
 use Rattle.bits.specs.declared.Form.{Form}
 use Rattle.links.specs.InOrder.{row-order, rowSteps, size-order, sizeSteps}
-use Rattle.stored_links.specs.Form.{linkUsed}
+use Rattle.link_forms.specs.Form.{linkUsed}
 use Rattle.link_writer.specs.Writing.{fitCheck, fitChecks, large, storeChecks, writeChecks}
 
 -- 17, 3

@@ -19,8 +19,8 @@ use Rattle.link_writer.specs.Laws.Again.{read-again, written-is}
 use Rattle.link_writer.specs.Laws.Fitting.{links-wide}
 use Rattle.link_writer.specs.Writing.{writeChecks, writeOutcome}
 use Rattle.links.specs.Links.{Links}
-use Rattle.stored_links.specs.Form.{linkBytes, linkForm, linkFormAt, linkUsed}
-use Rattle.stored_links.specs.Laws.Form.{length-links}
+use Rattle.link_forms.specs.Form.{linkBytes, linkForm, linkFormAt, linkUsed}
+use Rattle.link_forms.specs.Laws.Form.{length-links}
 use Rattle.stored_links.specs.Laws.Outcomes.{refused-alters-nothing}
 use Rattle.stored_links.specs.Laws.Positions.{table-at}
 use Rattle.stored_links.specs.Laws.ReadAt.{same-bytes}
@@ -28,7 +28,7 @@ use Rattle.stored_links.specs.Laws.Told.{either-rest, either-written, form-limi
 use Rattle.stored_links.specs.Laws.WriteBack.{read-links}
 use Rattle.stored_links.specs.Outcomes.{judgedEither, readEither, readOutcome}
 use Rattle.stored_links.specs.Reading.{readAtChecks}
-use Rattle.stored_links.specs.Said.{costsOf, farsOf}
+use Rattle.link_forms.specs.Said.{costsOf, farsOf}
 use Rattle.stored_links.specs.declared.StoredLinks.the-variants.{Table}
 use Rattle.stored_links.specs.Stored.{TableAt, readInto}
 use Rattle.ground.specs.declared.Written.the-variants as written

@@ -11,8 +11,8 @@ use Rattle.ground.specs.Outcomes.{Outcome, frontIf}
 use Rattle.theory.specs.Tables.{limit}
 use Rattle.links.specs.Checks.{rowChecks, sizeChecks}
 use Rattle.links.specs.FirstChecks.{firstCheck}
-use Rattle.stored_links.specs.Form.{linkBytes, linkUsed}
-use Rattle.stored_links.specs.Sizes.{Small}
+use Rattle.link_forms.specs.Form.{linkBytes, linkUsed}
+use Rattle.link_forms.specs.Sizes.{Small}
 use Rattle.bits.specs.declared.Form.{Form}
 
 -- row k has a cost above twice the limit L

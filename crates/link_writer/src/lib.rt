@@ -16,8 +16,8 @@ ghost use Rattle.links.specs.Checks.{rowChecks, sizeChecks};
 ghost use Rattle.links.specs.Links.{Links};
 ghost use Rattle.bits.specs.Forms.{fieldBits};
 ghost use Rattle.packer.specs.Gathering.{Put, Room};
-ghost use Rattle.stored_links.specs.Form.{linkBytes, linkForm, linkUsed, rowFields, rowWidth, rowsTo};
-ghost use Rattle.stored_links.specs.Sizes.{Small};
+ghost use Rattle.link_forms.specs.Form.{linkBytes, linkForm, linkUsed, rowFields, rowWidth, rowsTo};
+ghost use Rattle.link_forms.specs.Sizes.{Small};
 ghost use Rattle.link_writer.specs.Writing.{RoomFor, fitChecks, large, storeChecks, storeOutcome, writeOutcome};
 
 // One row behind what was put: images n down to 2 are half the far side, and the cost stands behind them.
@@ -69,7 +69,7 @@ pub fn links_used(edition: Edition, n: usize, count: usize) -> usize
     requires { ⌜ Small (linkForm edition) n count ⌝ }
     ensures { λ r. ⌜ r ≡ linkUsed (linkForm edition) n count ⌝ }
 {
-    (stored_links::row_at(stored_links::form_of(edition), n, count) + 7) / 8
+    (link_forms::row_at(link_forms::form_of(edition), n, count) + 7) / 8
 }
 
 // The stored form of a table whose sizes fit, at the front of bytes that have room for it; the answer is the bytes used. Nothing is checked.
@@ -78,7 +78,7 @@ pub fn put_links(edition: Edition, n: usize, fars: &[u64], costs: &[u32], out: &
     ensures { λ r. ⌜ (r ≡ linkUsed (linkForm edition) n (length (now (fars .entry))))
         × (now (out .exit) ≡ front (linkBytes (linkForm edition) n (now (fars .entry)) (now (costs .entry))) (now (out .entry))) ⌝ }
 {
-    put_form(stored_links::form_of(edition), n, fars, costs, out)
+    put_form(link_forms::form_of(edition), n, fars, costs, out)
 }
 
 // The first row with a cost above twice the limit, from 0, else the number of rows.
@@ -106,7 +106,7 @@ fn check_store(form: Form, n: usize, fars: &[u64], costs: &[u32], room: usize) -
     let Check::Passed = fit else {
         return fit;
     };
-    let end = stored_links::row_at(form, n, fars.len());
+    let end = link_forms::row_at(form, n, fars.len());
     ground::refuse_if(room < (end + 7) / 8, 3, 0, 0)
 }
 
@@ -119,7 +119,7 @@ pub fn check_links(edition: Edition, n: usize, fars: &[u64], costs: &[u32], room
     let Check::Passed = rows else {
         return rows;
     };
-    check_store(stored_links::form_of(edition), n, fars, costs, room)
+    check_store(link_forms::form_of(edition), n, fars, costs, room)
 }
 
 // The stored form of a link table that is known to be one, for those who checked it themselves.
@@ -133,7 +133,7 @@ pub fn store_links(
     requires { ⌜ Links limit n (length (now fars)) (now fars) (now costs) ⌝ }
     ensures { λ r. ⌜ Left (storeOutcome (linkForm edition) n (now (fars .entry)) (now (costs .entry)) (now (out .entry))) r (now (out .exit)) ⌝ }
 {
-    match check_store(stored_links::form_of(edition), n, fars, costs, out.len()) {
+    match check_store(link_forms::form_of(edition), n, fars, costs, out.len()) {
         Check::Refused(r) => Written::Refused(r),
         Check::Passed => Written::Places(put_links(edition, n, fars, costs, out)),
     }

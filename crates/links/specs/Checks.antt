@@ -7,7 +7,7 @@ use lib.ListN.{length}
 use Rattle.ground.specs.Refusals.{outside, refusal, refuseIf, _then_}
 use Rattle.ground.specs.declared.Check.{Check}
 use Rattle.theory.specs.Checks.{imagesCheck}
-use Rattle.links.specs.BadRows.{badRow, missing}
+use Rattle.bad_rows.specs.BadRows.{badRow, missing}
 use Rattle.links.specs.FirstChecks.{firstCheck}
 
 -- 1, 10: n is 3 to 64, and the row count N is n to 2 n - 3

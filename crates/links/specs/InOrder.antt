@@ -12,7 +12,7 @@ use Rattle.ground.specs.Refusals.{outside, refusal, refuseIf}
 use Rattle.ground.specs.Steps.{Step, _by_}
 use Rattle.theory.specs.Checks.{imagesCheck}
 use Rattle.theory.specs.Laws.InOrder.{images-order}
-use Rattle.links.specs.BadRows.{badRow, missing}
+use Rattle.bad_rows.specs.BadRows.{badRow, missing}
 use Rattle.links.specs.Checks.{countChecks, lengthChecks, rowChecks, sizeChecks}
 use Rattle.links.specs.FirstChecks.{firstCheck}
 

@@ -1,6 +1,5 @@
 -- What the contracts of `links` cite: the checks of a link table, in their order.
 pub mod FirstChecks
-pub mod BadRows
 pub mod Checks
 pub mod Links
 -- Its checks by their numbers, in order.

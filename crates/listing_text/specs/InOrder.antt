@@ -28,7 +28,7 @@ behind : (c d w : Check) → (c ≡ Passed → (c then d) ≡ w) → (c then d) 
 behind Passed d w h = h refl
 behind (Refused q) d w h = refl
 
--- of the exact reading's checks 7 alone is left, since a stored table is well-formed by its form
+-- of the exact reading's checks 7 alone is left, since a stored table that passes its own is well-formed
 only-wiring : (s : List ℕ) → listingChecks s ≡ (storedChecks s then wiringCheck (cost (tableSaid s) (imagesSaid s)) (imagesSaid s))
 only-wiring s =
     behind (storedChecks s) (treeCheck limit (imagesSaid s) (tableSaid s)) (wiringCheck (cost (tableSaid s) (imagesSaid s)) (imagesSaid s)) (listing-wiring s)

@@ -14,7 +14,7 @@ use Rattle.ground.specs.Steps.{Step, _by_}
 use Rattle.theory.specs.Checks.{imagesCheck}
 use Rattle.theory.specs.Laws.InOrder.{images-order}
 use Rattle.theory.specs.LinkTables.{Row, costs, fars}
-use Rattle.links.specs.BadRows.{badCost}
+use Rattle.bad_rows.specs.BadRows.{badCost}
 use Rattle.newick_text.specs.Trees.{Siblings}
 use Rattle.newick_text.specs.Tables.{names, tableOf}
 use Rattle.newick_text.specs.Bytes.{run}

@@ -11,7 +11,7 @@ use Rattle.theory.specs.Checks.{imagesCheck}
 use Rattle.theory.specs.FarSides.{holds}
 use Rattle.theory.specs.LinkTables.{Row}
 use Rattle.theory.specs.Tables.{limit}
-use Rattle.links.specs.BadRows.{badCost}
+use Rattle.bad_rows.specs.BadRows.{badCost}
 use Rattle.links.specs.FirstChecks.{firstCheck}
 use Rattle.rows.specs.Putting.{rowsFrom}
 use Rattle.newick_text.specs.Reading.{costsCheck}

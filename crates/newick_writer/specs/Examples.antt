@@ -9,7 +9,7 @@ use Rattle.ground.specs.Outcomes.{Outcome}
 use Rattle.ground.specs.Refusals.{refusal}
 use Rattle.ground.specs.declared.Written.{Written}
 use Rattle.ground.specs.declared.Written.the-variants.{Places, Refused}
-use Rattle.links.specs.BadRows.{badRow, missing}
+use Rattle.bad_rows.specs.BadRows.{badRow, missing}
 use Rattle.text.specs.Decimal.{decimal, digits}
 use Rattle.text.specs.Words.{bytesOf}
 use Rattle.newick_text.specs.Examples.{textG}

@@ -14,7 +14,7 @@ use Rattle.ground.specs.declared.Check.the-variants.{Passed}
 use Rattle.theory.specs.FarSides.{inner}
 use Rattle.theory.specs.LinkTables.{rowsOf}
 use Rattle.theory.specs.Tables.{limit}
-use Rattle.links.specs.BadRows.{badRow, badSide, firstCrossed, missing, rowBefore}
+use Rattle.bad_rows.specs.BadRows.{badRow, badSide, firstCrossed, missing, rowBefore}
 use Rattle.links.specs.FirstChecks.{firstCheck}
 use Rattle.links.specs.Laws.FirstChecks.{passed-first}
 use Rattle.links.specs.Laws.LinkChecks.{link-checks}

@@ -1,7 +1,5 @@
 -- What the call answers and leaves behind.
 pub mod Outcome
--- The next image to the left, as the code finds it.
-pub mod Next
 -- What was written then, that a refused call altered nothing, and that no second answer meets the promise.
 pub mod Promises
 -- Its checks by their numbers, in order.

@@ -11,9 +11,9 @@ use Rattle.bits.specs.Kinds.{endCheck, fillCheck, positionCheck}
 use Rattle.bits.specs.Laws.InOrder.{end-order, fill-order, position-order}
 use Rattle.bits.specs.declared.Form.{Form}
 use Rattle.links.specs.InOrder.{count-order, countSteps, row-order, rowSteps}
-use Rattle.stored_links.specs.Form.{linkUsed}
+use Rattle.link_forms.specs.Form.{linkUsed}
 use Rattle.stored_links.specs.Reading.{bodyChecks, headChecks, readAtChecks, readChecks, tableChecks}
-use Rattle.stored_links.specs.Said.{costsOf, countOf, farsOf, fillOf, imagesOf}
+use Rattle.link_forms.specs.Said.{costsOf, countOf, farsOf, fillOf, imagesOf}
 
 -- 9, 1, 10
 abbrev pub headSteps : Form → List ℕ → List Step

@@ -1,8 +1,4 @@
--- The laws, from one row up to what is read and what was written.
-pub mod Sizes
-pub mod Rows
-pub mod RowsAgain
-pub mod Form
+-- What is read, and what was written.
 pub mod Passed
 pub mod Outcomes
 pub mod Positions

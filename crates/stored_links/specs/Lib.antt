@@ -1,7 +1,4 @@
--- What is stored of a link table, and what the readers answer.
-pub mod Form
-pub mod Said
-pub mod Sizes
+-- What the readers ask of a stored link table, and what they answer.
 pub mod Reading
 pub mod Outcomes
 pub mod Stored

@@ -5,9 +5,9 @@ use lib.ListN.{drop, length}
 use Rattle.ground.specs.Outcomes.{frontIf}
 use Rattle.ground.specs.declared.Check.{Check}
 use Rattle.theory.specs.Outcomes.{RowsOutcome}
-use Rattle.stored_links.specs.Form.{linkFormAt}
+use Rattle.link_forms.specs.Form.{linkFormAt}
 use Rattle.stored_links.specs.Reading.{readAtChecks}
-use Rattle.stored_links.specs.Said.{costsOf, countOf, farsOf, imagesOf, usedOf}
+use Rattle.link_forms.specs.Said.{costsOf, countOf, farsOf, imagesOf, usedOf}
 use Rattle.stored_links.specs.declared.StoredLinks.{StoredLinks}
 use Rattle.stored_links.specs.declared.StoredLinks.the-variants.{Table}
 use Rattle.ground.specs.Refusals.{ifPassed}

@@ -7,8 +7,8 @@ use Rattle.ground.specs.declared.Check.{Check}
 use Rattle.bits.specs.Kinds.{endCheck, fillCheck, positionCheck}
 use Rattle.bits.specs.Forms.{bytesFor}
 use Rattle.links.specs.Checks.{countChecks, rowChecks}
-use Rattle.stored_links.specs.Form.{linkUsed}
-use Rattle.stored_links.specs.Said.{costsOf, countOf, farsOf, fillOf, imagesOf}
+use Rattle.link_forms.specs.Form.{linkUsed}
+use Rattle.link_forms.specs.Said.{costsOf, countOf, farsOf, fillOf, imagesOf}
 use Rattle.bits.specs.declared.Form.{Form}
 
 -- 9, 1, 10

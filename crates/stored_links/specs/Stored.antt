@@ -6,8 +6,8 @@ use Prim.Native.Nat.{ℕ, _%_, _*_, _+_, _-_, _/_, _≤_}
 use lib.ListN.{drop, length}
 use Rattle.theory.specs.LinkTables.{LinkTable, rowsOf}
 use Rattle.bits.specs.Forms.{bytesFor}
-use Rattle.stored_links.specs.Form.{linkUsed}
-use Rattle.stored_links.specs.Said.{costsOf, countOf, farsOf, fillOf, imagesOf}
+use Rattle.link_forms.specs.Form.{linkUsed}
+use Rattle.link_forms.specs.Said.{costsOf, countOf, farsOf, fillOf, imagesOf}
 use Rattle.bits.specs.declared.Form.{Form}
 use Rattle.stored_links.specs.declared.StoredLinks.the-variants.{Table}
 use Rattle.ground.specs.Buffers.{front}

@@ -1,110 +1,23 @@
-// The stored link table: its forms, and reading it. The functions below the public calls take the form as an argument. Images and rows are
-// counted from 0.
-use bits::Edition;
+// The stored link table read. The functions below the public calls take the form as an argument. Images and rows are counted from 0.
 use bits::Form;
 use ground::Check;
 use ground::Refusal;
 ghost use mathlib.Core.Path.{_≡_};
-ghost use Prim.Native.Nat.{min, _*_, _+_, _-_, _≤_};
+ghost use Prim.Native.Nat.{_+_, _≤_};
 ghost use lib.ListN.{length, take};
-ghost use Rattle.ground.specs.Buffers.{front};
 ghost use Rattle.ground.specs.declared.Check.the-variants.{Passed};
 ghost use Rattle.theory.specs.Outcomes.{LeftRows};
 ghost use Rattle.links.specs.Checks.{rowChecks};
-ghost use Rattle.bits.specs.Bits.{bits, part, valueOf};
 ghost use Rattle.bits.specs.Forms.{bytesFor};
-ghost use Rattle.stored_links.specs.Form.{linkForm, linkFormAt, rowAt};
-ghost use Rattle.stored_links.specs.Said.{costsOf, countOf, farsOf, imagesOf};
+ghost use Rattle.link_forms.specs.Said.{costsOf, countOf, farsOf, imagesOf};
 ghost use Rattle.stored_links.specs.Outcomes.{judged, judgedEither, readEither, saidIf};
 ghost use Rattle.stored_links.specs.Reading.{bodyChecks, headChecks, readAtChecks, readChecks};
-ghost use Rattle.stored_links.specs.Sizes.{Held, Small, lastRowEnd};
+ghost use Rattle.link_forms.specs.Sizes.{Held, Small};
 
 // What the reader answers: n, the row count and the bytes used by this table alone, or the refusal.
 pub enum StoredLinks {
     Table { n: usize, count: usize, used: usize },
     Refused(Refusal),
-}
-
-// Both forms. In the old one nothing stands in front of n and a doubled cost has 21 bits; in the new one the mark does, and it has 24.
-pub fn form_of(edition: Edition) -> Form
-    ensures { λ r. ⌜ r ≡ linkForm edition ⌝ }
-{
-    match edition {
-        Edition::Old => Form {
-            head: 0,
-            mark: 0,
-            width: 21,
-            limit: theory::OLD_LIMIT,
-        },
-        Edition::New => Form {
-            head: 7,
-            mark: bits::NEW_MARK,
-            width: 24,
-            limit: theory::LIMIT,
-        },
-    }
-}
-
-// The form of the table at the position, which its first seven bits tell.
-fn form_at(bytes: &[u8], position: usize) -> Form
-    ensures { λ r. ⌜ r ≡ linkFormAt (now (bytes .entry)) position ⌝ }
-{
-    form_of(bits::edition_at(bytes, position))
-}
-
-// The bit at which row k begins, which is where k rows end.
-pub fn row_at(form: Form, n: usize, k: usize) -> usize
-    requires { ⌜ Small form n k ⌝ }
-    ensures { λ r. ⌜ r ≡ rowAt form n k ⌝ }
-{
-    form.head + 14 + (n - 1 + form.width) * k
-}
-
-// The number n that the bytes say.
-fn images(form: Form, bytes: &[u8]) -> usize
-    requires { ⌜ (form .head ≤ 7) × (bytesFor (form .head + 14) ≤ length (now bytes)) ⌝ }
-    ensures { λ r. ⌜ r ≡ imagesOf form (now (bytes .entry)) ⌝ }
-{
-    bits::get(bytes, form.head, 7) as usize
-}
-
-// The row count that the bytes say.
-fn row_count(form: Form, bytes: &[u8]) -> usize
-    requires { ⌜ (form .head ≤ 7) × (bytesFor (form .head + 14) ≤ length (now bytes)) ⌝ }
-    ensures { λ r. ⌜ r ≡ countOf form (now (bytes .entry)) ⌝ }
-{
-    bits::get(bytes, form.head + 7, 7) as usize
-}
-
-// The far side of the row that begins at the position: its bits are images n down to 2, so the number is half the far side.
-fn far_at(bytes: &[u8], position: usize, n: usize) -> u64
-    requires { ⌜ (1 ≤ n) × (n ≤ 64) × (position + (n - 1) ≤ 8 * length (now bytes)) × (position ≤ lastRowEnd) ⌝ }
-    ensures { λ r. ⌜ r ≡ 2 * valueOf (part (bits (now (bytes .entry))) position (n - 1)) ⌝ }
-{
-    2 * bits::get(bytes, position, n - 1)
-}
-
-// The doubled cost at the position.
-fn cost_at(bytes: &[u8], position: usize, w: usize) -> u32
-    requires { ⌜ (w ≤ 32) × (position + w ≤ 8 * length (now bytes)) × (position ≤ lastRowEnd) ⌝ }
-    ensures { λ r. ⌜ r ≡ valueOf (part (bits (now (bytes .entry))) position w) ⌝ }
-{
-    bits::get(bytes, position, w) as u32
-}
-
-// The rows that the bytes say, into the front of both slices.
-fn fill(form: Form, n: usize, count: usize, bytes: &[u8], fars: &mut [u64], costs: &mut [u32])
-    requires { ⌜ Held form n count (length (now bytes)) × (count ≤ length (now fars)) × (count ≤ length (now costs)) ⌝ }
-    ensures { λ r. ⌜ (now (fars .exit) ≡ front (farsOf form n count (now (bytes .entry))) (now (fars .entry)))
-        × (now (costs .exit) ≡ front (costsOf form n count (now (bytes .entry))) (now (costs .entry))) ⌝ }
-{
-    let mut k = 0;
-    while k < count {
-        let p = row_at(form, n, k);
-        fars[k] = far_at(bytes, p, n);
-        costs[k] = cost_at(bytes, p + (n - 1), form.width);
-        k += 1;
-    }
 }
 
 // Refusals 9, 1 and 10.
@@ -116,8 +29,8 @@ fn check_head(form: Form, bytes: &[u8]) -> Check
     let Check::Passed = short else {
         return short;
     };
-    let n = images(form, bytes);
-    let count = row_count(form, bytes);
+    let n = link_forms::images(form, bytes);
+    let count = link_forms::row_count(form, bytes);
     links::check_count(n, count)
 }
 
@@ -136,7 +49,7 @@ fn check_said(form: Form, n: usize, count: usize, bytes: &[u8]) -> Check
 {
     let mut fars = [0u64; 128];
     let mut costs = [0u32; 128];
-    fill(form, n, count, bytes, &mut fars, &mut costs);
+    link_forms::fill(form, n, count, bytes, &mut fars, &mut costs);
     check_front(form.limit, n, count, &fars, &costs)
 }
 
@@ -145,7 +58,7 @@ fn check_body(form: Form, n: usize, count: usize, bytes: &[u8]) -> Check
     requires { ⌜ Small form n count ⌝ }
     ensures { λ r. ⌜ r ≡ bodyChecks form n count (now (bytes .entry)) ⌝ }
 {
-    let end = row_at(form, n, count);
+    let end = link_forms::row_at(form, n, count);
     let used = (end + 7) / 8;
     let short = ground::refuse_if(bytes.len() < used, 9, 0, 0);
     let Check::Passed = short else {
@@ -167,12 +80,12 @@ fn check_stored(form: Form, bytes: &[u8], room: usize) -> Check
     let Check::Passed = start else {
         return start;
     };
-    let n = images(form, bytes);
+    let n = link_forms::images(form, bytes);
     let short = ground::refuse_if(room < 2 * n - 3, 3, 0, 0);
     let Check::Passed = short else {
         return short;
     };
-    check_body(form, n, row_count(form, bytes), bytes)
+    check_body(form, n, link_forms::row_count(form, bytes), bytes)
 }
 
 // All checks at a position: the rest of the bytes from there on is looked at as one begins.
@@ -192,12 +105,12 @@ fn said(form: Form, bytes: &[u8]) -> StoredLinks
     requires { ⌜ (bytesFor (form .head + 14) ≤ length (now bytes)) × Small form (imagesOf form (now bytes)) (countOf form (now bytes)) ⌝ }
     ensures { λ r. ⌜ r ≡ saidIf Passed form (now (bytes .entry)) ⌝ }
 {
-    let n = images(form, bytes);
-    let count = row_count(form, bytes);
+    let n = link_forms::images(form, bytes);
+    let count = link_forms::row_count(form, bytes);
     StoredLinks::Table {
         n,
         count,
-        used: (row_at(form, n, count) + 7) / 8,
+        used: (link_forms::row_at(form, n, count) + 7) / 8,
     }
 }
 
@@ -216,7 +129,7 @@ fn judge(form: Form, bytes: &[u8], position: usize, room: usize) -> StoredLinks
 pub fn judge_links(bytes: &[u8], position: usize, room: usize) -> StoredLinks
     ensures { λ r. ⌜ r ≡ judgedEither (now (bytes .entry)) position room ⌝ }
 {
-    judge(form_at(bytes, position), bytes, position, room)
+    judge(link_forms::form_at(bytes, position), bytes, position, room)
 }
 
 // The link table at the position, in either form, into the lent places: everything is judged before the first store.
@@ -224,7 +137,7 @@ pub fn read_links(bytes: &[u8], position: usize, fars: &mut [u64], costs: &mut [
     ensures { λ r. ⌜ LeftRows (readEither (now (bytes .entry)) position (now (fars .entry)) (now (costs .entry))) r (now (fars .exit))
         (now (costs .exit)) ⌝ }
 {
-    let form = form_at(bytes, position);
+    let form = link_forms::form_at(bytes, position);
     match judge(
         form,
         bytes,
@@ -233,7 +146,7 @@ pub fn read_links(bytes: &[u8], position: usize, fars: &mut [u64], costs: &mut [
     ) {
         StoredLinks::Refused(r) => StoredLinks::Refused(r),
         StoredLinks::Table { n, count, used } => {
-            fill(form, n, count, &bytes[position / 8..], fars, costs);
+            link_forms::fill(form, n, count, &bytes[position / 8..], fars, costs);
             StoredLinks::Table { n, count, used }
         }
     }

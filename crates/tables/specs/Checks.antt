@@ -1,4 +1,4 @@
--- The checks of a cost table, by document 01's numbers. Images are counted from 0 inside and from 1 in a refusal.
+-- The checks of a cost table, by the documents' numbers. Images are counted from 0 inside and from 1 in a refusal.
 use mathlib.Core.Bool.{not}
 use mathlib.Core.List.{List}
 use Prim.Native.Nat.{ℕ, _*_, _+_}
@@ -28,14 +28,14 @@ zeroCheck d i = refuseIf (ltb 0 (d i i)) (refusal 5 (i + 1) 0 0 0)
 abbrev pub diagonalCheck : (ℕ → ℕ → ℕ) → ℕ → Check
 diagonalCheck d n = checkAll (zeroCheck d) 0 n
 
--- 6: asymmetric
+-- 6: asymmetric, at the lowest pair
 abbrev pub mirrorCheck : (ℕ → ℕ → ℕ) → ℕ → ℕ → Check
 mirrorCheck d i j = refuseIf (not (eqb (d i j) (d j i))) (refusal 6 (i + 1) (j + 1) 0 0)
 
 abbrev pub symmetryCheck : (ℕ → ℕ → ℕ) → ℕ → Check
 symmetryCheck d n = pairsCheck (mirrorCheck d) n
 
--- 20: two different images cost less than the least, which is 1, so that a zero off the diagonal is refused
+-- 20: a zero off the diagonal, at the lowest pair: two different images that cost less than the least, which is 1
 abbrev pub leastCheck : ℕ → (ℕ → ℕ → ℕ) → ℕ → ℕ → Check
 leastCheck K d i j = refuseIf (ltb (d i j) K) (refusal 20 (i + 1) (j + 1) 0 0)
 

@@ -10,7 +10,7 @@ use Rattle.batch.specs.Laws.Steps.{answer-end, answer-goes, answer-start
 use Rattle.joined_tables.specs.Tables.{tables}
 use borrow.Author.Needs.{needs}
 use Rattle.batch.proofs.check_tables.Statement.{statement}
-use Rattle.stored_links.specs.Form.{linkForm}
+use Rattle.link_forms.specs.Form.{linkForm}
 use Rattle.stored_links.specs.Laws.Told.{form-small}
 use Rattle.batch.proofs.check_tables.Tie as tie
 

@@ -3,7 +3,7 @@ use mathlib.Core.Path.{sym, _∙_}
 use lib.ListN.{length}
 use Rattle.batch.specs.Laws.Answers.{batch-accepted, by-goes, by-stops}
 use borrow.Author.Needs.{needs}
-use Rattle.stored_links.specs.Form.{linkForm}
+use Rattle.link_forms.specs.Form.{linkForm}
 use Rattle.stored_links.specs.Laws.Told.{form-limit}
 use Rattle.batch.proofs.write_batch.Statement.{statement}
 use Rattle.batch.proofs.write_batch.Tie as tie

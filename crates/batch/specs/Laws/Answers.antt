@@ -19,7 +19,7 @@ use Rattle.ground.specs.declared.Check.the-variants.{Passed}
 use Rattle.ground.specs.declared.Refusal.{Refusal}
 use Rattle.ground.specs.Laws.Refusals.{if-accepted}
 use Rattle.theory.specs.Tables.{limit}
-use Rattle.stored_links.specs.Form.{linkBytes, linkUsed}
+use Rattle.link_forms.specs.Form.{linkBytes, linkUsed}
 use Rattle.batch.specs.Batch.{batchAnswer, batchFrom, batchOutcome, frontBy, numbered}
 use Rattle.joined_tables.specs.Bytes.{batchBytes}
 use Rattle.joined_tables.specs.Fitting.{BatchFits}

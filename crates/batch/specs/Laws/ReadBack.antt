@@ -6,7 +6,7 @@ use native.Mathlib.Omega.{arith}
 use lib.ListN.{drop, length, length-append, take}
 use Rattle.ground.specs.Buffers.{front}
 use Rattle.ground.specs.Outcomes.{Outcome}
-use Rattle.stored_links.specs.Form.{linkBytes, linkForm, linkUsed}
+use Rattle.link_forms.specs.Form.{linkBytes, linkForm, linkUsed}
 use Rattle.stored_links.specs.Laws.Told.{either-written, form-limit}
 use Rattle.stored_links.specs.Outcomes.{readEither}
 use Rattle.batch.specs.Batch.{batchAnswer, batchOutcome}

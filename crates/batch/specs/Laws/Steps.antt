@@ -9,7 +9,7 @@ use Rattle.ground.specs.declared.Check.{Check}
 use Rattle.ground.specs.declared.Check.the-variants.{Passed, Refused}
 use Rattle.ground.specs.declared.Refusal.{Refusal}
 use Rattle.ground.specs.Laws.Refusals.{if-goes, if-stops}
-use Rattle.stored_links.specs.Form.{linkUsed}
+use Rattle.link_forms.specs.Form.{linkUsed}
 use Rattle.joined_tables.specs.Laws.Steps.{table-is, tables-end}
 use Rattle.joined_tables.specs.Tables.{Table, leftOverChecks, nextChecks, tables}
 use Rattle.batch.specs.Batch.{batchFrom, numbered}

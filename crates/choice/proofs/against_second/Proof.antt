@@ -8,7 +8,7 @@ use borrow.Author.Needs.{needs}
 use Rattle.ground.specs.declared.Refusal.{Refusal}
 use Rattle.ground.specs.Laws.Refusals.{if-goes, if-stops}
 use Rattle.theory.specs.Comparison.{inners}
-use Rattle.stored_links.specs.Said.{imagesOf}
+use Rattle.link_forms.specs.Said.{imagesOf}
 use Rattle.choice.specs.Call.{sidesOf, taken}
 use Rattle.choice.specs.Laws.Chain.{images-differ, images-same}
 use Rattle.choice.specs.Read.{SidesListed}
@@ -16,7 +16,7 @@ use Rattle.choice.specs.Laws.Read.{read-listed, read-refused}
 use Rattle.choice.specs.declared.Chosen.the-variants as answer
 use Rattle.choice.proofs.against_second.Statement.{statement}
 use Rattle.bits.specs.declared.Form.{Form}
-use Rattle.stored_links.specs.Form.{linkFormAt}
+use Rattle.link_forms.specs.Form.{linkFormAt}
 use Rattle.choice.proofs.against_second.Tie as tie
 
 abbrev begun : tie.After-m → tie.Start

@@ -12,7 +12,7 @@ use Rattle.ground.specs.Laws.Refusals.{if-goes, if-stops}
 use Rattle.choice.specs.declared.Chosen.the-variants as answer
 use Rattle.choice.proofs.choice.Statement.{statement}
 use Rattle.bits.specs.declared.Form.{Form}
-use Rattle.stored_links.specs.Form.{linkFormAt}
+use Rattle.link_forms.specs.Form.{linkFormAt}
 use Rattle.choice.proofs.choice.Tie as tie
 
 abbrev begun : tie.After-n → tie.Start

@@ -8,7 +8,7 @@ use Rattle.choice.specs.Laws.Parts.{first-fits, part-first, part-refused
 use Rattle.choice.specs.declared.Chosen.the-variants.{Table}
 use Rattle.choice.proofs.choose.Statement.{statement}
 use Rattle.bits.specs.declared.Form.{Form}
-use Rattle.stored_links.specs.Form.{linkFormAt}
+use Rattle.link_forms.specs.Form.{linkFormAt}
 use Rattle.choice.proofs.choose.Tie as tie
 
 abbrev begun : tie.After-choice → tie.Start

@@ -4,7 +4,7 @@ use lib.ListN.{replicate}
 use borrow.Author.Needs.{needs}
 use Rattle.choice.specs.Laws.Read.{read-is}
 use Rattle.choice.proofs.read.Statement.{statement}
-use Rattle.stored_links.specs.Form.{linkFormAt}
+use Rattle.link_forms.specs.Form.{linkFormAt}
 use Rattle.choice.proofs.read.Tie as tie
 
 slice-aggregate-read-links : tie.Need-slice-aggregate-read-links

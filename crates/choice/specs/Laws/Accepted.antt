@@ -21,7 +21,7 @@ use Rattle.choice.specs.declared.Chosen.the-variants.{Table}
 use Rattle.choice.specs.declared.Chosen.the-variants as answer
 use Rattle.stored_links.specs.Laws.Passed.{passed-table}
 use Rattle.stored_links.specs.Reading.{tableChecks}
-use Rattle.stored_links.specs.Said.{countOf, imagesOf, usedOf}
+use Rattle.link_forms.specs.Said.{countOf, imagesOf, usedOf}
 use Rattle.bits.specs.declared.Form.{Form}
 use Rattle.choice.specs.Taken.{Begins, ChoiceMade, Includes, Taken, the-first, the-second}
 

@@ -14,10 +14,10 @@ use Rattle.bits.specs.Laws.Editions.{edition-behind}
 use Rattle.bits.specs.declared.Edition.{Edition}
 use Rattle.bits.specs.declared.Edition.the-variants.{New, Old}
 use Rattle.bits.specs.declared.Form.{Form}
-use Rattle.stored_links.specs.Form.{linkForm, linkFormAt, linkUsed}
+use Rattle.link_forms.specs.Form.{linkForm, linkFormAt, linkUsed}
 use Rattle.stored_links.specs.Laws.Behind.{Reaching, checks-behind, fars-behind, images-behind, longest-reaches, used-behind, whole-reaches}
 use Rattle.stored_links.specs.Reading.{bodyChecks, headChecks, tableChecks}
-use Rattle.stored_links.specs.Said.{countOf, imagesOf, usedOf}
+use Rattle.link_forms.specs.Said.{countOf, imagesOf, usedOf}
 use Rattle.choice.specs.Call.{againstSecond, choiceEither, choiceOf, imagesAgree, numbered, sidesOf, taken}
 use Rattle.choice.specs.declared.Chosen.{Chosen}
 

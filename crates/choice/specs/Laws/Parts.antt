@@ -12,10 +12,10 @@ use borrow.Author.Tests.{eq-eqb, ne-eqb}
 use Rattle.ground.specs.declared.Refusal.{Refusal}
 use Rattle.bits.specs.Bits.{AllBytes}
 use Rattle.bits.specs.Editions.{Marked}
-use Rattle.stored_links.specs.Form.{linkBytes, linkFormAt}
+use Rattle.link_forms.specs.Form.{linkBytes, linkFormAt}
 use Rattle.stored_links.specs.Laws.Told.{links-marked}
 use Rattle.stored_links.specs.Laws.WriteBack.{read-written}
-use Rattle.stored_links.specs.Said.{costsOf, countOf, imagesOf, usedOf}
+use Rattle.link_forms.specs.Said.{costsOf, countOf, imagesOf, usedOf}
 use Rattle.choice.specs.Laws.Accepted.{choice-accepted}
 use Rattle.choice.specs.Call.{choiceEither, choiceOf, partOf, sidesOf}
 use Rattle.choice.specs.declared.Chosen.{Chosen}

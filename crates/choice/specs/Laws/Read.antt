@@ -19,7 +19,7 @@ use Rattle.stored_links.specs.Laws.Enough.{table-begins}
 use Rattle.stored_links.specs.Laws.ReadAt.{read-enough}
 use Rattle.stored_links.specs.Outcomes.{readOutcome, rowsIf}
 use Rattle.stored_links.specs.Reading.{tableAtChecks, tableChecks}
-use Rattle.stored_links.specs.Said.{costAt, costsOf, countOf, farAt, farsOf, imagesOf, usedOf}
+use Rattle.link_forms.specs.Said.{costAt, costsOf, countOf, farAt, farsOf, imagesOf, usedOf}
 use Rattle.stored_links.specs.declared.StoredLinks.{StoredLinks}
 use Rattle.stored_links.specs.declared.StoredLinks.the-variants.{Table}
 use Rattle.stored_links.specs.declared.StoredLinks.the-variants as stored

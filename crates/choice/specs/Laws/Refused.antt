@@ -11,7 +11,7 @@ use Rattle.ground.specs.declared.Check.{Check}
 use Rattle.ground.specs.declared.Check.the-variants.{Passed, Refused}
 use Rattle.ground.specs.declared.Refusal.{Refusal}
 use Rattle.stored_links.specs.Reading.{tableChecks}
-use Rattle.stored_links.specs.Said.{imagesOf, usedOf}
+use Rattle.link_forms.specs.Said.{imagesOf, usedOf}
 use Rattle.choice.specs.Laws.Accepted.{not-includes}
 use Rattle.choice.specs.Call.{againstSecond, choiceOf, imagesAgree, innersOf, numbered, sidesOf, taken}
 use Rattle.choice.specs.Inclusion.{includes}

@@ -7,7 +7,7 @@ use lib.ListN.{length, length-replicate, replicate}
 use lib.Seq.{length-take-le}
 use borrow.Author.Needs.{needs}
 use Rattle.ground.specs.declared.Check.the-variants.{Refused}
-use Rattle.stored_links.specs.Form.{linkFormAt}
+use Rattle.link_forms.specs.Form.{linkFormAt}
 use Rattle.stored_links.specs.Reading.{tableChecks}
 use Rattle.stored_links.specs.Laws.Enough.{LinksRead, front-read, front-refused}
 use Rattle.conversion.specs.Laws.Links.{begins-table}

@@ -18,7 +18,7 @@ use Rattle.bits.specs.declared.Edition.{Edition}
 use Rattle.links.specs.Laws.FirstChecks.{passed-first}
 use Rattle.links.specs.Laws.LinkChecks.{link-rows}
 use Rattle.links.specs.Links.{Links}
-use Rattle.stored_links.specs.Form.{linkBytes, linkForm, linkFormAt, linkUsed}
+use Rattle.link_forms.specs.Form.{linkBytes, linkForm, linkFormAt, linkUsed}
 use Rattle.stored_links.specs.Laws.Enough.{LinksStored, links-said}
 use Rattle.stored_links.specs.Laws.Told.{form-limit}
 use Rattle.stored_links.specs.Reading.{tableChecks}

@@ -3,7 +3,7 @@ use mathlib.Core.Path.{ap, refl, _∙_, _≡_}
 use Prim.Native.Nat.{ℕ, _+_, _-_, _≤_}
 use native.Mathlib.Omega.{arith}
 use lib.ListN.{length, length-drop}
-use Rattle.stored_links.specs.Form.{linkForm, linkUsed}
+use Rattle.link_forms.specs.Form.{linkForm, linkUsed}
 use Rattle.stored_links.specs.Laws.Told.{form-small}
 use Rattle.joined_tables.specs.Laws.Next.{next-count, next-length, next-room}
 use borrow.Author.Needs.{needs}

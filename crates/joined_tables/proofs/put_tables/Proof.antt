@@ -5,7 +5,7 @@ use native.Mathlib.Omega.{arith}
 use lib.ListN.{drop, length, length-drop}
 use Rattle.ground.specs.Buffers.{front}
 use Rattle.ground.specs.Laws.Buffers.{rest-part}
-use Rattle.stored_links.specs.Form.{linkForm, linkUsed}
+use Rattle.link_forms.specs.Form.{linkForm, linkUsed}
 use Rattle.bits.specs.declared.Form.{Form}
 use Rattle.joined_tables.specs.Bytes.{batchBytes}
 use Rattle.joined_tables.specs.Fitting.{BatchFits, NextFits}

@@ -7,7 +7,7 @@ use lib.ListN.{drop, getD, length, length-append, take, take-append-drop}
 use lib.Seq.{drop-at, drop-drop, length-take-le, take-at}
 use Rattle.ground.specs.Buffers.{front}
 use Rattle.ground.specs.Laws.Buffers.{rest-part, rest-put}
-use Rattle.stored_links.specs.Form.{linkBytes, linkUsed}
+use Rattle.link_forms.specs.Form.{linkBytes, linkUsed}
 use Rattle.joined_tables.specs.Bytes.{batchBytes}
 use Rattle.joined_tables.specs.Fitting.{NextFits}
 use Rattle.joined_tables.specs.Laws.Next.{length-next}

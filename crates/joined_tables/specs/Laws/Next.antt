@@ -15,8 +15,8 @@ use Rattle.theory.specs.LinkTables.{rowsOf}
 use Rattle.theory.specs.Tables.{limit}
 use Rattle.links.specs.Checks.{countChecks, lengthChecks, rowChecks, sizeChecks}
 use Rattle.links.specs.Laws.LinkChecks.{LinksSized, count-passed, passed-sizes, rows-length}
-use Rattle.stored_links.specs.Form.{linkBytes, linkUsed}
-use Rattle.stored_links.specs.Laws.Form.{length-links}
+use Rattle.link_forms.specs.Form.{linkBytes, linkUsed}
+use Rattle.link_forms.specs.Laws.Form.{length-links}
 use Rattle.link_writer.specs.Laws.Accepted.{passed-write, write-passed}
 use Rattle.link_writer.specs.Writing.{RoomFor, fitChecks, storeChecks}
 use Rattle.joined_tables.specs.Fitting.{NextFits}

@@ -6,7 +6,7 @@ use native.Mathlib.Numerals.{add-one}
 use native.Mathlib.Omega.{arith}
 use lib.ListN.{drop, drop-of-length-le, getD, length, take}
 use lib.Seq.{drop-drop}
-use Rattle.stored_links.specs.Form.{linkBytes, linkUsed}
+use Rattle.link_forms.specs.Form.{linkBytes, linkUsed}
 use Rattle.joined_tables.specs.Bytes.{batchBytes}
 use Rattle.joined_tables.specs.Fitting.{BatchFits, NextFits}
 use Rattle.joined_tables.specs.Tables.{Table, tables}

@@ -3,7 +3,7 @@ use native.Mathlib.Omega.{arith}
 use lib.ListN.{length}
 use Rattle.ground.specs.Laws.First.{first-le}
 use Rattle.ground.specs.Laws.Refusals.{then-goes, then-stops}
-use Rattle.stored_links.specs.Laws.Sizes.{end-le}
+use Rattle.link_forms.specs.Laws.Sizes.{end-le}
 use Rattle.link_writer.specs.Writing.{large}
 use borrow.Author.Needs.{needs}
 use Rattle.link_writer.proofs.check_store.Statement.{statement}

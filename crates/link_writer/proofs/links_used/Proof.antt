@@ -1,7 +1,7 @@
 -- `link_writer::links_used` meets its contract: the numbers are small. Assumes nothing.
 use native.Mathlib.Omega.{arith}
-use Rattle.stored_links.specs.Form.{linkForm}
-use Rattle.stored_links.specs.Laws.Sizes.{end-le}
+use Rattle.link_forms.specs.Form.{linkForm}
+use Rattle.link_forms.specs.Laws.Sizes.{end-le}
 use borrow.Author.Needs.{needs}
 use Rattle.link_writer.proofs.links_used.Statement.{statement}
 use Rattle.link_writer.proofs.links_used.Tie as tie

@@ -6,8 +6,8 @@ use lib.ListN.{getD, length}
 use Rattle.bits.specs.Laws.Numbers.{length-bitsOf}
 use Rattle.packer.specs.Gathering.{Room}
 use Rattle.packer.specs.Laws.Putting.{room-begun, room-then}
-use Rattle.stored_links.specs.Form.{rowWidth}
-use Rattle.stored_links.specs.Laws.Rows.{length-rows}
+use Rattle.link_forms.specs.Form.{rowWidth}
+use Rattle.link_forms.specs.Laws.Rows.{length-rows}
 use Rattle.link_writer.specs.Laws.Putting.{form-put}
 use borrow.Author.Needs.{needs}
 use Rattle.link_writer.proofs.put_form.Statement.{statement}

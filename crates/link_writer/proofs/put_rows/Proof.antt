@@ -7,8 +7,8 @@ use Rattle.bits.specs.Forms.{fieldBits}
 use Rattle.bits.specs.Laws.OneWidth.{field-end}
 use Rattle.packer.specs.Gathering.{Put}
 use Rattle.packer.specs.Laws.Putting.{room-then}
-use Rattle.stored_links.specs.Form.{rowWidth, rowsTo}
-use Rattle.stored_links.specs.Laws.Rows.{length-rows}
+use Rattle.link_forms.specs.Form.{rowWidth, rowsTo}
+use Rattle.link_forms.specs.Laws.Rows.{length-rows}
 use Rattle.link_writer.specs.Laws.Putting.{rows-put-end, rows-put-more, rows-put-none}
 use borrow.Author.Needs.{needs}
 use Rattle.link_writer.proofs.put_rows.Statement.{statement}

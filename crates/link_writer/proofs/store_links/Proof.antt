@@ -2,9 +2,9 @@
 use mathlib.Core.Path.{ap, sym, _∙_, _≡_}
 use Prim.Native.Nat.{_≤_}
 use lib.ListN.{length}
-use Rattle.stored_links.specs.Form.{linkForm, linkUsed}
+use Rattle.link_forms.specs.Form.{linkForm, linkUsed}
 use Rattle.stored_links.specs.Laws.Told.{form-limit, form-small}
-use Rattle.stored_links.specs.Sizes.{Small}
+use Rattle.link_forms.specs.Sizes.{Small}
 use Rattle.theory.specs.Tables.{limit}
 use Rattle.link_writer.specs.Laws.Accepted.{links-small, store-passed}
 use Rattle.link_writer.specs.Writing.{storeChecks}

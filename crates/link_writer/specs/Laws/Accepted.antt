@@ -16,9 +16,9 @@ use Rattle.link_writer.specs.Writing.{fitCheck, storeChecks, writeChecks
 use Rattle.links.specs.Checks.{rowChecks, sizeChecks}
 use Rattle.links.specs.Links.{Links}
 use Rattle.links.specs.Laws.LinkChecks.{link-checks, rows-length}
-use Rattle.stored_links.specs.Form.{linkUsed}
+use Rattle.link_forms.specs.Form.{linkUsed}
 use Rattle.stored_links.specs.Laws.Passed.{room-passed}
-use Rattle.stored_links.specs.Sizes.{Small}
+use Rattle.link_forms.specs.Sizes.{Small}
 use Rattle.bits.specs.declared.Form.{Form}
 
 module _ (form : Form) (n N : ℕ) (l v : List ℕ) (room : ℕ) where

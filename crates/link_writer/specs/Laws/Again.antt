@@ -11,10 +11,10 @@ use Rattle.bits.specs.Editions.{Marked}
 use Rattle.link_writer.specs.Laws.Accepted.{passed-write}
 use Rattle.link_writer.specs.Writing.{writeOutcome}
 use Rattle.links.specs.Links.{Links}
-use Rattle.stored_links.specs.Form.{linkBytes, linkUsed}
+use Rattle.link_forms.specs.Form.{linkBytes, linkUsed}
 use Rattle.stored_links.specs.Laws.ReadAt.{used-bytes}
 use Rattle.stored_links.specs.Laws.WriteBack.{read-links}
-use Rattle.stored_links.specs.Said.{costsOf, farsOf}
+use Rattle.link_forms.specs.Said.{costsOf, farsOf}
 use Rattle.bits.specs.declared.Form.{Form}
 use Rattle.stored_links.specs.Stored.{TableAt}
 

@@ -12,9 +12,9 @@ use Rattle.packer.specs.Laws.Finished.{form-packed}
 use Rattle.packer.specs.Laws.Putting.{put-none, put-then}
 use Rattle.packer.specs.Start.{startBits, started}
 use Rattle.packer.specs.declared.Gathered.{Gathered}
-use Rattle.stored_links.specs.Form.{linkBytes, linkUsed, rowFields, rowsTo}
-use Rattle.stored_links.specs.Laws.Form.{all-bits-links, allRows, frontBits, length-link-bits, link-parts, linkBits}
-use Rattle.stored_links.specs.Laws.Rows.{row-bits, rows-more}
+use Rattle.link_forms.specs.Form.{linkBytes, linkUsed, rowFields, rowsTo}
+use Rattle.link_forms.specs.Laws.Form.{all-bits-links, allRows, frontBits, length-link-bits, link-parts, linkBits}
+use Rattle.link_forms.specs.Laws.Rows.{row-bits, rows-more}
 
 module _ (w n : ℕ) where
   -- a row: the images of the far side, then the cost

@@ -5,7 +5,7 @@ use lib.ListN.{length}
 use borrow.Author.Needs.{needs}
 use Rattle.ground.specs.Laws.First.{first-le}
 use Rattle.ground.specs.Laws.Refusals.{then-goes, then-stops}
-use Rattle.links.specs.BadRows.{badRow, missing}
+use Rattle.bad_rows.specs.BadRows.{badRow, missing}
 use Rattle.links.specs.FirstChecks.{firstCheck}
 use Rattle.links.proofs.check_rows.Statement.{statement}
 use Rattle.links.proofs.check_rows.Tie as tie

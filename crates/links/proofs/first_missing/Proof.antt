@@ -5,7 +5,7 @@ use borrow.Author.Count.{below-more, below-none}
 use borrow.Author.Needs.{needs}
 use Rattle.ground.specs.First.{NoneBelow}
 use Rattle.ground.specs.Laws.First.{first-here, first-none}
-use Rattle.links.specs.BadRows.{missing}
+use Rattle.bad_rows.specs.BadRows.{missing}
 use Rattle.links.proofs.first_missing.Statement.{statement}
 use Rattle.links.proofs.first_missing.Tie as tie
 

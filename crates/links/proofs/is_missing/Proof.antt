@@ -1,7 +1,7 @@
 -- `links::is_missing` meets its contract: the place of a far side that is not there is 0. Assumes nothing.
 use borrow.Author.Needs.{needs}
 use Rattle.theory.specs.FarSides.{own}
-use Rattle.links.specs.BadRows.{missing}
+use Rattle.bad_rows.specs.BadRows.{missing}
 use Rattle.links.specs.Laws.Searches.{place-none}
 use Rattle.links.proofs.is_missing.Statement.{statement}
 use Rattle.links.proofs.is_missing.Tie as tie

@@ -22,7 +22,7 @@ use Rattle.theory.specs.Laws.JoinedRows.{rowsOf-fars}
 use Rattle.theory.specs.Laws.RowCount.{row-count}
 use Rattle.theory.specs.LinkTables.{LinkTable, fars, rowsOf}
 use Rattle.theory.specs.Readings.{drawn}
-use Rattle.links.specs.BadRows.{badRow, missing}
+use Rattle.bad_rows.specs.BadRows.{badRow, missing}
 use Rattle.links.specs.Checks.{countChecks, lengthChecks, rowChecks, sizeChecks}
 use Rattle.links.specs.FirstChecks.{firstCheck}
 use Rattle.links.specs.Laws.FirstChecks.{first-passed, passed-first}

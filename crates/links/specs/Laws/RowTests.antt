@@ -22,7 +22,7 @@ use Rattle.theory.specs.FarSides.{Disjoint, Nested, holds, inner}
 use Rattle.theory.specs.Laws.Contained.{and-within, within-and}
 use Rattle.theory.specs.Laws.Nested.{bit-holds-not, holds-false, holds-true}
 use Rattle.theory.specs.LinkTables.{rowsOf}
-use Rattle.links.specs.BadRows.{badCost, badRow, badSide, crosses, firstCrossed, rowBefore}
+use Rattle.bad_rows.specs.BadRows.{badCost, badRow, badSide, crosses, firstCrossed, rowBefore}
 
 -- ## Nested or disjoint, by what both hold
 

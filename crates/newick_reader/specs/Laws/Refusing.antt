@@ -19,7 +19,7 @@ use Rattle.ground.specs.declared.Check.the-variants.{Passed, Refused}
 use Rattle.ground.specs.declared.Refusal.{Refusal}
 use Rattle.theory.specs.Checks.{imagesCheck}
 use Rattle.theory.specs.LinkTables.{costs, fars}
-use Rattle.links.specs.BadRows.{badCost}
+use Rattle.bad_rows.specs.BadRows.{badCost}
 use Rattle.newick_text.specs.Reading.{costsCheck, namesCheck, orderCheck, treeChecks}
 use Rattle.newick_text.specs.Order.{fall}
 use Rattle.newick_text.specs.Tables.{names, tableOf}

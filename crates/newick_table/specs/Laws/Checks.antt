@@ -18,7 +18,7 @@ use Rattle.theory.specs.FarSides.{holds}
 use Rattle.theory.specs.LinkTables.{Row, costs, fars}
 use Rattle.theory.specs.Tables.{limit}
 use Rattle.tree.specs.LocalRows.{rowsIn}
-use Rattle.links.specs.BadRows.{badCost}
+use Rattle.bad_rows.specs.BadRows.{badCost}
 use Rattle.links.specs.FirstChecks.{firstCheck}
 use Rattle.links.specs.Laws.FirstChecks.{first-passed}
 use Rattle.newick_text.specs.Trees.{Siblings, bracket, image, none}

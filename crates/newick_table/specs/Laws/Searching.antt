@@ -13,7 +13,7 @@ use Rattle.theory.specs.LinkTables.{costs, fars}
 use Rattle.theory.specs.Tables.{limit}
 use Rattle.tree.specs.Laws.LocalRows.{rowsIn-length}
 use Rattle.tree.specs.LocalRows.{rowsIn}
-use Rattle.links.specs.BadRows.{badCost}
+use Rattle.bad_rows.specs.BadRows.{badCost}
 use Rattle.links.specs.FirstChecks.{firstCheck}
 use Rattle.newick_text.specs.Reading.{costsCheck}
 use Rattle.newick_table.specs.Laws.Collecting.{cost-at, far-at}

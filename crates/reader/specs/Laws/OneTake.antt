@@ -25,7 +25,7 @@ use Rattle.positions.specs.Stands.{afterCosts, afterLinks, countedBytes}
 use Rattle.reader.specs.Moves.{costsHere, costsMoved, linksHere, linksMoved, standing}
 use Rattle.reader.specs.declared.Reader.{Reader}
 use Rattle.cost_forms.specs.Form.{costFormAt}
-use Rattle.stored_links.specs.Form.{linkFormAt}
+use Rattle.link_forms.specs.Form.{linkFormAt}
 
 -- ## One take: where the reader is left, and what it answers
 

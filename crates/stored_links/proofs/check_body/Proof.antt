@@ -4,12 +4,12 @@ use Prim.Native.Nat.{_+_, _/_, _≤_}
 use native.Mathlib.Omega.{arith}
 use lib.ListN.{length}
 use Rattle.ground.specs.Laws.Refusals.{then-goes, then-stops}
-use Rattle.stored_links.specs.Said.{fillOf}
+use Rattle.link_forms.specs.Said.{fillOf}
 use Rattle.stored_links.specs.Laws.Passed.{end-passed}
-use Rattle.stored_links.specs.Laws.Sizes.{end-le}
+use Rattle.link_forms.specs.Laws.Sizes.{end-le}
 use borrow.Author.Needs.{needs}
 use Rattle.stored_links.proofs.check_body.Statement.{statement}
-use Rattle.stored_links.specs.Sizes.{lastRowEnd}
+use Rattle.link_forms.specs.Sizes.{lastRowEnd}
 use Rattle.stored_links.proofs.check_body.Tie as tie
 
 end-small : (c : tie.After-row-at) → c .row-at .result ≤ lastRowEnd

@@ -4,7 +4,7 @@ use mathlib.Core.Path.{ap₂, _∙_}
 use Prim.Native.Nat.{ℕ}
 use Rattle.bits.specs.Laws.Listed.{length-listed}
 use Rattle.links.specs.Checks.{rowChecks}
-use Rattle.stored_links.specs.Said.{costAt, farAt}
+use Rattle.link_forms.specs.Said.{costAt, farAt}
 use Rattle.stored_links.specs.Laws.Outcomes.{front-taken}
 use borrow.Author.Needs.{needs}
 use Rattle.stored_links.proofs.check_said.Statement.{statement}

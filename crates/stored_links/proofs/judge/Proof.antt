@@ -5,7 +5,7 @@ use Prim.Native.Nat.{ℕ, _/_}
 use lib.ListN.{drop}
 use Rattle.ground.specs.Laws.Buffers.{rest-part}
 use Rattle.ground.specs.Laws.Refusals.{if-goes, if-stops}
-use Rattle.stored_links.specs.Said.{countOf, imagesOf, usedOf}
+use Rattle.link_forms.specs.Said.{countOf, imagesOf, usedOf}
 use Rattle.stored_links.specs.declared.StoredLinks.the-variants as stored
 use Rattle.stored_links.specs.Laws.Passed.{stored-held}
 use Rattle.stored_links.specs.Laws.Positions.{read-at-passed}

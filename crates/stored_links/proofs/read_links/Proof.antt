@@ -13,7 +13,7 @@ use borrow.Author.Needs.{needs}
 use Rattle.ground.specs.Laws.Outcomes.{front-goes, front-stops}
 use Rattle.stored_links.proofs.read_links.Statement.{statement}
 use Rattle.bits.specs.declared.Form.{Form}
-use Rattle.stored_links.specs.Form.{linkFormAt}
+use Rattle.link_forms.specs.Form.{linkFormAt}
 use Rattle.stored_links.specs.Laws.Told.{told-small}
 use Rattle.stored_links.specs.Stored.{TableAt}
 use Rattle.stored_links.proofs.read_links.Tie as tie

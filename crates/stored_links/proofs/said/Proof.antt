@@ -1,7 +1,7 @@
 -- `stored_links::said` meets its contract: two fields, and the bytes used by so many rows. Assumes nothing.
 use native.Mathlib.Omega.{arith}
-use Rattle.stored_links.specs.Sizes.{Small}
-use Rattle.stored_links.specs.Laws.Sizes.{end-le}
+use Rattle.link_forms.specs.Sizes.{Small}
+use Rattle.link_forms.specs.Laws.Sizes.{end-le}
 use Rattle.stored_links.proofs.said.Statement.{statement}
 use Rattle.stored_links.proofs.said.Tie as tie
 

@@ -17,12 +17,12 @@ use Rattle.bits.specs.Kinds.{endCheck, positionCheck}
 use Rattle.bits.specs.Laws.Behind.{end-behind, first-bytes, part-behind, position-behind}
 use Rattle.bits.specs.Laws.Listed.{listed-same}
 use Rattle.bits.specs.declared.Form.{Form}
-use Rattle.stored_links.specs.Form.{linkUsed, rowAt, rowWidth}
+use Rattle.link_forms.specs.Form.{linkUsed, rowAt, rowWidth}
 use Rattle.stored_links.specs.Laws.Passed.{head-passed}
-use Rattle.stored_links.specs.Laws.Sizes.{row-within}
+use Rattle.link_forms.specs.Laws.Sizes.{row-within}
 use Rattle.stored_links.specs.Outcomes.{readOutcome, rowsIf}
 use Rattle.stored_links.specs.Reading.{bodyChecks, headChecks, readAtChecks, readChecks, tableChecks}
-use Rattle.stored_links.specs.Said.{costAt, costsOf, countOf, farAt, farsOf, fillOf, imagesOf, usedOf}
+use Rattle.link_forms.specs.Said.{costAt, costsOf, countOf, farAt, farsOf, fillOf, imagesOf, usedOf}
 
 -- the bytes s reach as far as reading looks: to the end of the row count, and where n and the row count are ones of a table to the end of the table
 pub record Reaching (form : Form) (s : List ℕ) : Type 0 where

@@ -13,7 +13,7 @@ use Rattle.bits.specs.Laws.Listed.{length-listed}
 use Rattle.bits.specs.declared.Edition.{Edition}
 use Rattle.bits.specs.declared.Form.{Form}
 use Rattle.links.specs.Links.{Links}
-use Rattle.stored_links.specs.Form.{linkBytes, linkForm, linkFormAt}
+use Rattle.link_forms.specs.Form.{linkBytes, linkForm, linkFormAt}
 use Rattle.stored_links.specs.Laws.Outcomes.{front-taken}
 use Rattle.stored_links.specs.Laws.Passed.{head-passed, passed-table, read-passed, room-goes}
 use Rattle.stored_links.specs.Laws.Positions.{enough-room, refused-at, table-at}
@@ -22,7 +22,7 @@ use Rattle.stored_links.specs.Laws.Told.{form-fits, told-links}
 use Rattle.stored_links.specs.Laws.WriteBack.{read-links}
 use Rattle.stored_links.specs.Outcomes.{readEither}
 use Rattle.stored_links.specs.Reading.{readAtChecks, tableChecks}
-use Rattle.stored_links.specs.Said.{costAt, costsOf, countOf, farAt, farsOf, imagesOf}
+use Rattle.link_forms.specs.Said.{costAt, costsOf, countOf, farAt, farsOf, imagesOf}
 use Rattle.stored_links.specs.Stored.{Stored}
 use Rattle.stored_links.specs.declared.StoredLinks.the-variants.{Table}
 use Rattle.stored_links.specs.declared.StoredLinks.the-variants as stored

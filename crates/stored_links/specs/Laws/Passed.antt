@@ -16,10 +16,10 @@ use Rattle.bits.specs.Forms.{bytesFor}
 use Rattle.bits.specs.Laws.Listed.{length-listed}
 use Rattle.links.specs.Checks.{countChecks, rowChecks}
 use Rattle.links.specs.Laws.LinkChecks.{count-passed, row-checks}
-use Rattle.stored_links.specs.Form.{linkUsed}
+use Rattle.link_forms.specs.Form.{linkUsed}
 use Rattle.stored_links.specs.Reading.{bodyChecks, headChecks, readChecks, tableChecks}
-use Rattle.stored_links.specs.Said.{costAt, costsOf, countOf, farAt, farsOf, fillOf, imagesOf}
-use Rattle.stored_links.specs.Sizes.{Held}
+use Rattle.link_forms.specs.Said.{costAt, costsOf, countOf, farAt, farsOf, fillOf, imagesOf}
+use Rattle.link_forms.specs.Sizes.{Held}
 use Rattle.bits.specs.declared.Form.{Form}
 use Rattle.stored_links.specs.Stored.{Stored}
 

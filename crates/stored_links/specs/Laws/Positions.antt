@@ -17,7 +17,7 @@ use Rattle.stored_links.specs.Laws.Outcomes.{table-passed, table-refused
 use Rattle.stored_links.specs.Laws.Passed.{head-passed, read-passed, room-goes}
 use Rattle.stored_links.specs.Outcomes.{judged}
 use Rattle.stored_links.specs.Reading.{readAtChecks, readChecks, tableAtChecks}
-use Rattle.stored_links.specs.Said.{countOf, imagesOf, usedOf}
+use Rattle.link_forms.specs.Said.{countOf, imagesOf, usedOf}
 use Rattle.stored_links.specs.declared.StoredLinks.the-variants.{Table}
 use Rattle.bits.specs.declared.Form.{Form}
 use Rattle.stored_links.specs.Stored.{TableAt}

@@ -11,14 +11,14 @@ use Rattle.bits.specs.Bits.{AllBytes}
 use Rattle.bits.specs.Editions.{Marked}
 use Rattle.bits.specs.Laws.Written.{all-bytes-drop}
 use Rattle.links.specs.Links.{Links}
-use Rattle.stored_links.specs.Form.{linkBytes, linkUsed}
+use Rattle.link_forms.specs.Form.{linkBytes, linkUsed}
 use Rattle.stored_links.specs.Laws.Passed.{passed-read}
 use Rattle.stored_links.specs.Laws.Positions.{enough-room}
 use Rattle.stored_links.specs.Laws.ReadBack.{written-costs, written-fars, written-stored}
 use Rattle.stored_links.specs.Laws.WriteBack.{read-written}
 use Rattle.stored_links.specs.Outcomes.{readOutcome, rowsIf}
 use Rattle.stored_links.specs.Reading.{readChecks, tableAtChecks}
-use Rattle.stored_links.specs.Said.{costsOf, farsOf}
+use Rattle.link_forms.specs.Said.{costsOf, farsOf}
 use Rattle.bits.specs.declared.Form.{Form}
 use Rattle.stored_links.specs.Stored.{Stored, TableAt, readInto}
 

@@ -17,10 +17,10 @@ use Rattle.bits.specs.Laws.Listed.{listed-is}
 use Rattle.links.specs.Links.{Links}
 use Rattle.links.specs.Laws.LinkChecks.{link-rows, rows-length}
 use Rattle.links.specs.Laws.RowTests.{GoodRow}
-use Rattle.stored_links.specs.Form.{linkBytes, linkUsed, rowAt}
-use Rattle.stored_links.specs.Laws.Form.{allRows, bits-links-then, frontBits, length-all-rows, length-front, length-links}
-use Rattle.stored_links.specs.Laws.Rows.{cost-found, far-found}
-use Rattle.stored_links.specs.Said.{costAt, costsOf, countOf, farAt, farsOf, fillOf, imagesOf}
+use Rattle.link_forms.specs.Form.{linkBytes, linkUsed, rowAt}
+use Rattle.link_forms.specs.Laws.Form.{allRows, bits-links-then, frontBits, length-all-rows, length-front, length-links}
+use Rattle.link_forms.specs.Laws.Rows.{cost-found, far-found}
+use Rattle.link_forms.specs.Said.{costAt, costsOf, countOf, farAt, farsOf, fillOf, imagesOf}
 use types.Part.{whole}
 use Rattle.bits.specs.declared.Form.{Form}
 use Rattle.stored_links.specs.Stored.{Stored}

@@ -13,8 +13,8 @@ use Rattle.bits.specs.Laws.Editions.{told-form, told-marked}
 use Rattle.bits.specs.declared.Edition.{Edition}
 use Rattle.bits.specs.declared.Edition.the-variants.{New, Old}
 use Rattle.links.specs.Links.{Links}
-use Rattle.stored_links.specs.Form.{linkBytes, linkForm, linkFormAt, linkUsed, rowAt}
-use Rattle.stored_links.specs.Laws.Form.{allRows, bits-links-then, frontBits}
+use Rattle.link_forms.specs.Form.{linkBytes, linkForm, linkFormAt, linkUsed, rowAt}
+use Rattle.link_forms.specs.Laws.Form.{allRows, bits-links-then, frontBits}
 use Rattle.stored_links.specs.Laws.ReadAt.{read-rest, written-at}
 use Rattle.stored_links.specs.Outcomes.{readEither, readOutcome}
 use Rattle.stored_links.specs.Stored.{readInto}

@@ -15,14 +15,14 @@ use Rattle.bits.specs.Laws.Parts.{part-more}
 use Rattle.bits.specs.Laws.Written.{all-bytes-take, bits-take}
 use Rattle.bits.specs.Laws.Listed.{length-listed, listed-at}
 use Rattle.links.specs.Links.{Links}
-use Rattle.stored_links.specs.Form.{linkBytes, linkUsed, rowAt, rowWidth, rowsTo}
-use Rattle.stored_links.specs.Laws.Form.{all-bits-links, allRows, frontBits, length-link-bits, link-parts, linkBits}
-use Rattle.stored_links.specs.Laws.Rows.{rows-same}
-use Rattle.stored_links.specs.Said.{costAt, costsOf, countOf, farAt, farsOf, fillOf, imagesOf}
+use Rattle.link_forms.specs.Form.{linkBytes, linkUsed, rowAt, rowWidth, rowsTo}
+use Rattle.link_forms.specs.Laws.Form.{all-bits-links, allRows, frontBits, length-link-bits, link-parts, linkBits}
+use Rattle.link_forms.specs.Laws.Rows.{rows-same}
+use Rattle.link_forms.specs.Said.{costAt, costsOf, countOf, farAt, farsOf, fillOf, imagesOf}
 use Rattle.bits.specs.declared.Form.{Form}
 use Rattle.stored_links.specs.Stored.{Stored}
 use Rattle.bits.specs.Laws.OneWidth.{part-again}
-use Rattle.stored_links.specs.Laws.RowsAgain.{rows-again}
+use Rattle.link_forms.specs.Laws.RowsAgain.{rows-again}
 
 -- what was read is a link table
 pub read-links : (form : Form) (n N : ℕ) (s : List ℕ) → Stored form n N s → Links (form .limit) n N (farsOf form n N s) (costsOf form n N s)

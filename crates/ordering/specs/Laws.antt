@@ -1,0 +1,3 @@
+-- The next to the left, and the places written from the end.
+pub mod Next
+pub mod Backward
