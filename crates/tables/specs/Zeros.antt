@@ -1,13 +1,18 @@
--- What 20 says: it names the first two images that cost nothing, a link that nobody timed. Every call that takes a cost table has the check
--- `20 by offDiagonalCheck ..` in its order, so that this is said of each of them. Assumes nothing.
+-- What 20 says: it names the first two images that cost nothing, a link that nobody timed. Assumes nothing.
 use mathlib.Core.Bool.{Bool, false, true}
-use mathlib.Core.Path.{refl, sym, _≡_}
+use mathlib.Core.List.{List}
+use mathlib.Core.Path.{refl, sym, _∙_, _≡_}
 use Prim.Native.Nat.{ℕ, _+_, _<_}
 use native.Mathlib.Omega.{arith}
 use lib.Dec.{ltb}
 use borrow.Author.Tests.{ltb-false, ltb-true}
+use Rattle.ground.specs.Filters.{Each}
+use Rattle.ground.specs.InOrder.{InOrder}
+use Rattle.ground.specs.Laws.InOrder.{refused-by}
 use Rattle.ground.specs.Refusals.{refusal, refuseIf}
 use Rattle.ground.specs.Laws.Refusals.{refuseIf-passed}
+use Rattle.ground.specs.Steps.{Step}
+use Rattle.ground.specs.declared.Check.{Check}
 use Rattle.ground.specs.declared.Check.the-variants.{Passed, Refused}
 use Rattle.ground.specs.declared.Refusal.{Refusal}
 use Rattle.tables.specs.Checks.{leastCheck, offDiagonalCheck}
@@ -45,3 +50,10 @@ zero-named d n r e =
   where
     something : (i j : ℕ) → leastCheck 1 d i j ≡ Passed → 0 < d i j
     something i j e = ltb-false (d i j) 1 (refuseIf-passed (ltb (d i j) 1) _ e)
+
+-- so does each call that has the step `20 by offDiagonalCheck ..` in its order and no other of that number
+pub zero-named-by : (d : ℕ → ℕ → ℕ) (n : ℕ) {l : List Step} {c : Check} {r : Refusal} → InOrder l c
+    → Each l (λ s. s .number ≡ 20 → s .check ≡ offDiagonalCheck d n) → c ≡ Refused r → r .number ≡ 20 → FirstZero d n r
+zero-named-by d n {r = r} o each e k =
+    let s = refused-by o e in
+    zero-named d n r (sym (each (s .0) (s .1) (s .2 ∙ k)) ∙ s .3)

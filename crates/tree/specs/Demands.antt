@@ -3,14 +3,15 @@
 use mathlib.Core.List.{List}
 use mathlib.Core.Logic.{_↔_}
 use mathlib.Core.Path.{refl, subst, _∙_, _≡_}
-use Prim.Native.Nat.{ℕ, _*_, _+_, _≤_}
+use Prim.Native.Nat.{ℕ, _*_, _+_, _<_, _≤_}
+use native.Mathlib.Omega.{arith}
 use lib.ListN.{length}
 use Rattle.ground.specs.declared.Written.{Written}
 use Rattle.ground.specs.declared.Written.the-variants.{Places}
 use Rattle.theory.specs.Demands.{stable}
 use Rattle.theory.specs.FarSides.{FarSide}
 use Rattle.theory.specs.FourPoint.{FourPoint}
-use Rattle.theory.specs.LinkTables.{Row, costOf}
+use Rattle.theory.specs.LinkTables.{Row, costOf, path}
 use Rattle.theory.specs.Outcomes.{LeftRows}
 use Rattle.theory.specs.Readings.{Exact, Near}
 use Rattle.theory.specs.Tables.{cost}
@@ -48,6 +49,13 @@ exactly-when L n t f v r f′ v′ y l = record {
       length (exactRows L n t),
       l .answered ∙ rw (measured-passed L n t (length f) (length v) .1 y, wiring-passed L (cost t n) n (y .table .formed) .1 fp) refl,
     )
+
+-- In the tree that was left no two images stand at one place, since they cost something: of the own links at a switch one at most costs 0.
+pub images-apart : (L n : ℕ) (t f v : List ℕ) (k : ℕ) (f′ v′ : List ℕ) → LeftRows (exactOutcome L n t f v) (Places k) f′ v′
+    → {i j : ℕ} → i < n → j < n → (i ≡ j → ⊥) → 0 < path (rowsLeft k f′ v′) i j
+images-apart L n t f v k f′ v′ l {i} {j} hi hj h =
+    let x = exact-answer L n t f v k f′ v′ l in
+    omega (arith, x .exact .meets .meets {i = i} {j = j} hi hj, x .ready .table .formed .nonzero {i = i} {j = j} hi hj h)
 
 -- ## Demand 3
 

@@ -1,16 +1,17 @@
 -- How a call's checks are found to be in order. Assumes nothing.
 use mathlib.Core.Bool.{Bool, false, true}
-use mathlib.Core.List.{List, List·Memᴰ·head, List·Memᴰ·tail, [], _++_, _∷_}
+use mathlib.Core.List.{List, List·Memᴰ, List·Memᴰ·head, List·Memᴰ·tail, [], _++_, _∷_}
+use mathlib.Core.Logic.{inl, inr, _⊎_}
 use mathlib.Core.Path.{ap, refl, sym, _∙_, _≡_}
 use Prim.Native.Nat.{suc, zero, ℕ, _<_}
 use native.Mathlib.Omega.{arith}
 use lib.Dec.{ltb}
 use Rattle.ground.specs.Filters.{Each}
 use Rattle.ground.specs.Laws.Filters.{each-append, each-cons, each-nil}
-use Rattle.ground.specs.Laws.Steps.{decided-about, decided-join, first-in}
+use Rattle.ground.specs.Laws.Steps.{decided-about, decided-join, first-decided, first-in, passes-decided, passes-or-refuses}
 use Rattle.ground.specs.Lowest.{checkAll}
 use Rattle.ground.specs.Refusals.{_then_, ifPassed, refusal, refuseIf, roomCheck}
-use Rattle.ground.specs.Steps.{FirstRefused, Step, about, decided, _by_}
+use Rattle.ground.specs.Steps.{FirstRefused, Passes, Refuses, Step, about, decided, _by_}
 use Rattle.ground.specs.declared.Check.{Check}
 use Rattle.ground.specs.declared.Check.the-variants.{Passed, Refused}
 use Rattle.ground.specs.declared.Refusal.{Refusal}
@@ -89,3 +90,16 @@ decides-next refused m {l = l} {k = k} {y = y} p q = record {
 -- the number of the first refusal is its step's
 pub first-own : {l : List Step} {s : Step} {r : Refusal} → Each l Own → FirstRefused l s r → (0 < s .number) × (r .number ≡ s .number)
 first-own {l} {s} {r} h f = let o = h s (first-in f) in (o .some, o .alone r (f .refused))
+
+-- what the checks of a call refuse is refused by one of its steps, that of the refusal's number
+pub refused-by : {l : List Step} {c : Check} {r : Refusal} → InOrder l c → c ≡ Refused r
+    → (s : Step) × List·Memᴰ s l × (s .number ≡ r .number) × (s .check ≡ Refused r)
+refused-by {l} {c} {r} o e = go (passes-or-refuses l)
+  where
+    go : Passes l ⊎ Refuses l → (s : Step) × List·Memᴰ s l × (s .number ≡ r .number) × (s .check ≡ Refused r)
+    go (inl p) = absurd (let q = sym e ∙ o .same ∙ passes-decided (λ k. Refused) l Passed p in let z : _≡_ {A = ℕ} 0 1 = cc in omega arith)
+    go (inr p) =
+        let f = p .2 in
+        let q : Refused r ≡ Refused (p .1) = sym e ∙ o .same ∙ first-decided (λ k. Refused) l Passed f in
+        let same : r ≡ p .1 = cc in
+        (p .0, first-in f, sym (ap (λ (x : Refusal). x .number) same ∙ first-own (o .own) f .1), f .refused ∙ ap Refused (sym same))
