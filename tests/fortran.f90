@@ -829,7 +829,6 @@ contains
         call hold('the version', kemotuiki_version == version .and. joined == version)
         call texts()
         call places_by_rows()
-        call images_that_cost_nothing()
         call stored_nothing()
         call own_link_of_nothing()
         call another_shape()
@@ -907,25 +906,43 @@ contains
         end do
     end function
 
-    ! Of two entries too large, the one in row 2 comes before the one in row 4, though it stands behind it in memory.
+    ! Of two entries too large, the one in row 2 comes before the one in row 4, though it stands behind it in memory; so does, of two pairs of
+    ! images that cost nothing, the one in row 1 before the one in row 2.
     subroutine places_by_rows()
-        integer :: t(6, 6), out(6), costs(9)
-        integer(int64) :: fars(9)
-        integer(int8) :: bytes(64)
+        integer :: t(6, 6)
         t = star(6)
         t(2, 5) = kemotuiki_entry_limit + 1
         t(4, 1) = kemotuiki_entry_limit + 1
-        call hold('index by rows', refused_at(kemotuiki_index(t, 2), 0, 2, 5))
-        call hold('order by rows', refused_at(kemotuiki_order(t, 1, 2, out), 0, 2, 5))
-        call hold('measured by rows', refused_at(kemotuiki_measured(t, fars, costs), 0, 2, 5))
-        call hold('exact by rows', refused_at(kemotuiki_exact(t, fars, costs), 0, 2, 5))
-        call hold('exact_grafted by rows', refused_at(kemotuiki_exact_grafted(t, fars, costs), 0, 2, 5))
-        call hold('write_costs by rows', refused_at(kemotuiki_write_costs(kemotuiki_old_form, t, bytes), 0, 2, 5))
-        call hold('write_costs by rows, new form', refused_at(kemotuiki_write_costs(kemotuiki_new_form, t, bytes), 0, 2, 5))
-        call hold('compare by rows, first table', refused_at(kemotuiki_compare(t, star(6)), 1, 2, 5))
-        call hold('compare by rows, second table', refused_at(kemotuiki_compare(star(6), t), 2, 2, 5))
-        call hold('consensus by rows, third table', refused_at(kemotuiki_consensus(stars_and(t), fars, costs), 3, 2, 5))
-        call hold('replay by rows', refused_at(kemotuiki_replay(t, [1, 2], fars, costs), 0, 2, 5))
+        call refused_by_every_call('too large', t, kemotuiki_entry_too_large, 2, 5)
+        t = star(6)
+        t(1, 6) = 0
+        t(6, 1) = 0
+        t(2, 3) = 0
+        t(3, 2) = 0
+        t(4, 5) = 9
+        t(5, 4) = 9
+        call refused_by_every_call('a zero', t, kemotuiki_zero_off_diagonal, 1, 6)
+    end subroutine
+
+    ! Refused by this number at row i and column j, before a far side, images or events that are not there, before the images without a
+    ! wiring, and before room for bytes.
+    subroutine refused_by_every_call(what, t, number, i, j)
+        character(*), intent(in) :: what
+        integer, intent(in) :: t(6, 6), number, i, j
+        integer :: out(6), costs(9)
+        integer(int64) :: fars(9)
+        integer(int8) :: bytes(0)
+        call hold('index, '//what, refused_at(kemotuiki_index(t, 0), number, 0, i, j))
+        call hold('order, '//what, refused_at(kemotuiki_order(t, 1, 7, out), number, 0, i, j))
+        call hold('measured, '//what, refused_at(kemotuiki_measured(t, fars, costs), number, 0, i, j))
+        call hold('exact, '//what, refused_at(kemotuiki_exact(t, fars, costs), number, 0, i, j))
+        call hold('exact_grafted, '//what, refused_at(kemotuiki_exact_grafted(t, fars, costs), number, 0, i, j))
+        call hold('write_costs, '//what, refused_at(kemotuiki_write_costs(kemotuiki_old_form, t, bytes), number, 0, i, j))
+        call hold('write_costs, new form, '//what, refused_at(kemotuiki_write_costs(kemotuiki_new_form, t, bytes), number, 0, i, j))
+        call hold('compare, first table, '//what, refused_at(kemotuiki_compare(t, star(6)), number, 1, i, j))
+        call hold('compare, second table, '//what, refused_at(kemotuiki_compare(star(6), t), number, 2, i, j))
+        call hold('consensus, third table, '//what, refused_at(kemotuiki_consensus(stars_and(t), fars, costs), number, 3, i, j))
+        call hold('replay, '//what, refused_at(kemotuiki_replay(t, [0], fars, costs), number, 0, i, j))
     end subroutine
 
     ! A team of four stars, of which t stands in the third place.
@@ -936,45 +953,19 @@ contains
         tables(:, :, 3) = t
     end function
 
-    pure function refused_at(r, table, row, column)
+    pure function refused_at(r, number, table, row, column)
         class(kemotuiki_answer), intent(in) :: r
-        integer, intent(in) :: table, row, column
+        integer, intent(in) :: number, table, row, column
         logical :: refused_at
-        refused_at = r%number == kemotuiki_entry_too_large .and. all([r%table, r%a, r%b, r%c, r%d] == [table, row, column, 0, 0])
+        refused_at = r%number == number .and. all([r%table, r%a, r%b, r%c, r%d] == [table, row, column, 0, 0])
     end function
 
     pure function zero_at(r, table, row, column)
         class(kemotuiki_answer), intent(in) :: r
         integer, intent(in) :: table, row, column
         logical :: zero_at
-        zero_at = r%number == kemotuiki_zero_off_diagonal .and. all([r%table, r%a, r%b, r%c, r%d] == [table, row, column, 0, 0])
+        zero_at = refused_at(r, kemotuiki_zero_off_diagonal, table, row, column)
     end function
-
-    ! Of two pairs of images that cost nothing, the one in row 1 comes before the one in row 2, though it stands behind it in memory. It
-    ! comes before a far side, images or events that are not there, and before room for bytes; and before the images without a wiring.
-    subroutine images_that_cost_nothing()
-        integer :: t(6, 6), out(6), costs(9)
-        integer(int64) :: fars(9)
-        integer(int8) :: bytes(0)
-        t = star(6)
-        t(1, 6) = 0
-        t(6, 1) = 0
-        t(2, 3) = 0
-        t(3, 2) = 0
-        t(4, 5) = 9
-        t(5, 4) = 9
-        call hold('index of nothing', zero_at(kemotuiki_index(t, 0), 0, 1, 6))
-        call hold('order of nothing', zero_at(kemotuiki_order(t, 1, 7, out), 0, 1, 6))
-        call hold('measured of nothing', zero_at(kemotuiki_measured(t, fars, costs), 0, 1, 6))
-        call hold('exact of nothing', zero_at(kemotuiki_exact(t, fars, costs), 0, 1, 6))
-        call hold('exact_grafted of nothing', zero_at(kemotuiki_exact_grafted(t, fars, costs), 0, 1, 6))
-        call hold('write_costs of nothing', zero_at(kemotuiki_write_costs(kemotuiki_old_form, t, bytes), 0, 1, 6))
-        call hold('write_costs of nothing, new form', zero_at(kemotuiki_write_costs(kemotuiki_new_form, t, bytes), 0, 1, 6))
-        call hold('compare with nothing, first table', zero_at(kemotuiki_compare(t, star(6)), 1, 1, 6))
-        call hold('compare with nothing, second table', zero_at(kemotuiki_compare(star(6), t), 2, 1, 6))
-        call hold('consensus with nothing, third table', zero_at(kemotuiki_consensus(stars_and(t), fars, costs), 3, 1, 6))
-        call hold('replay of nothing', zero_at(kemotuiki_replay(t, [0], fars, costs), 0, 1, 6))
-    end subroutine
 
     ! Document 01's B in both stored forms, byte by byte, alone and behind a star.
     subroutine stored_nothing()
