@@ -6,13 +6,11 @@ use mathlib.Core.Path.{refl, sym, _∙_, _≡_}
 use Prim.Native.Nat.{ℕ, _+_, _<_, _≤_}
 use native.Mathlib.Omega.{arith}
 use lib.ListN.{length}
-use Rattle.ground.specs.Outcomes.{Outcome}
 use Rattle.ground.specs.Refusals.{_then_}
 use Rattle.ground.specs.Laws.Refusals.{then-passed}
 use Rattle.ground.specs.declared.Check.{Check}
 use Rattle.ground.specs.declared.Check.the-variants.{Passed, Refused}
 use Rattle.ground.specs.declared.Refusal.{Refusal}
-use Rattle.ground.specs.declared.Written.{Written}
 use Rattle.ground.specs.declared.Written.the-variants.{Places}
 use Rattle.theory.specs.Checks.{imagesCheck}
 use Rattle.theory.specs.Tables.{cost}
@@ -27,7 +25,7 @@ use Rattle.cost_forms.specs.Entries.{entryCost}
 use Rattle.cost_forms.specs.Form.{costFormAt}
 use Rattle.cost_forms.specs.Said.{entryOf}
 use Rattle.cost_forms.specs.Laws.Tables.{table-cost}
-use Rattle.stored_costs.specs.Reading.{bodyChecks, storedCheck, tableChecks, valuesCheck}
+use Rattle.stored_costs.specs.Reading.{bodyChecks, storedCheck, tableChecks}
 use Rattle.conversion.specs.ConvertedCosts.{to-new-always}
 use Rattle.conversion.specs.Costs.{costsConverted, imagesSaid, tableSaid, usedIn}
 use Rattle.conversion.specs.Laws.Costs.{converted}

@@ -1,7 +1,6 @@
 -- Cost tables within a form's limit: 17 is the answer exactly for the others. Assumes nothing.
-use mathlib.Core.Bool.{false}
 use mathlib.Core.List.{List}
-use mathlib.Core.Path.{ap, sym, _∙_, _≡_}
+use mathlib.Core.Path.{ap, _∙_, _≡_}
 use Prim.Native.Nat.{ℕ, _<_, _≤_}
 use native.Mathlib.Omega.{arith}
 use lib.Dec.{eqb, ltb}

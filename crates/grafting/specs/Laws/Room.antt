@@ -10,7 +10,7 @@ use lib.ListN.{length, length-append}
 use Rattle.ground.specs.Filters.{Each}
 use Rattle.ground.specs.Laws.Sums.{sum-append}
 use Rattle.theory.specs.LinkTables.{Row, allCosts, far}
-use Rattle.theory.specs.Tables.{WellFormed, limit}
+use Rattle.theory.specs.Tables.{limit}
 use Rattle.rows.specs.Laws.PutAll.{costly-append, costly-total, putAll-append, putAll-length, putAll-total}
 use Rattle.rows.specs.Rows.{costly, putAll}
 use Rattle.path_cuts.specs.Cuts.{closed, height, kept, ownCost}

@@ -1,6 +1,6 @@
 -- More images have more entries, and entries that agree say the same: the same checks and the same table. Assumes nothing.
 use mathlib.Core.Path.{refl, _≡_}
-use Prim.Native.Nat.{max, min, suc, zero, ℕ, _%_, _*_, _+_, _-_, _/_, _<_, _≤_}
+use Prim.Native.Nat.{max, min, suc, zero, ℕ, _%_, _*_, _-_, _/_, _<_, _≤_}
 use native.Mathlib.Nat.{div-lt-iff-lt-mul, mod-lt, mul-le-mul-left}
 use native.Mathlib.Omega.{arith}
 use lib.Dec.{eqb}
