@@ -8,6 +8,7 @@ use lib.ListN.{drop, getD, length, length-append, length-drop, length-map, take}
 use lib.Seq.{drop-at, getD-take, take-at}
 use Rattle.ground.specs.Bits.{bit}
 use Rattle.ground.specs.Buffers.{front}
+use Rattle.ground.specs.Filters.{Each}
 use Rattle.ground.specs.Members.{occurs}
 use Rattle.ground.specs.Outcomes.{Left}
 use Rattle.ground.specs.declared.Check.{Check}
@@ -19,11 +20,11 @@ use Rattle.theory.specs.Demands.{Ordered, ordered}
 use Rattle.theory.specs.FarSides.{FarSide}
 use Rattle.theory.specs.Index.{AtLeast}
 use Rattle.theory.specs.LinkTables.{Row, allCosts}
-use Rattle.theory.specs.Order.{closed, grow, order}
+use Rattle.theory.specs.Order.{AnOrder, closed, grow, order}
 use Rattle.theory.specs.OrderRules.{IsNext, OneRun}
 use Rattle.theory.specs.Readings.{Exact}
 use Rattle.theory.specs.Tables.{cost}
-use Rattle.order.specs.Laws.Asked.{asked-passed, passed-asked}
+use Rattle.order.specs.Laws.Asked.{asked-ends, asked-passed, passed-asked}
 use Rattle.order.specs.Laws.Counted.{back-suc, last-suc, occurs-suc}
 use Rattle.order.specs.Outcome.{OrderAsked, counted, images, orderChecks, orderOutcome}
 use Rattle.ground.specs.declared.Written.the-variants as written
@@ -59,6 +60,10 @@ pub record OrderLeft (L n : ℕ) (t : List ℕ) (first last : ℕ) (e₀ e : Lis
   pub runs : (S : ℕ) → FarSide n S → AtLeast (cost t n) n (bit S) 1 → OneRun S (first - 1) (counted n e)
   -- on an accepted table the closed sum is the sum of all doubled costs
   pub sums : (T : List Row) → Exact L (cost t n) n T → closed (cost t n) (counted n e) ≡ allCosts T
+  -- no ring is shorter: on an accepted table the closed sum is the least over all orders of the images
+  pub least : (T : List Row) → Exact L (cost t n) n T → (l : List ℕ) → AnOrder n l → closed (cost t n) (counted n e) ≤ closed (cost t n) l
+  -- and every far side of its tree, an own link of cost 0 as well, is a run of neighbours on the closed ring
+  pub far-runs : (T : List Row) → Exact L (cost t n) n T → Each T (λ r. OneRun (r .0) (first - 1) (counted n e))
 
 module _ (L n : ℕ) (t : List ℕ) (first last : ℕ) (e₀ : List ℕ) where
   front-wrote : OrderAsked L n t first last (length e₀) → (e : List ℕ) → e ≡ front (images n t first last) e₀ → OrderLeft L n t first last e₀ e
@@ -73,13 +78,14 @@ module _ (L n : ℕ) (t : List ℕ) (first last : ℕ) (e₀ : List ℕ) where
     rule = λ a w x l q. all .rule a w x l (sym counted-is ∙ q);
     runs = λ S s p. rw counted-is (all .runs S s p);
     sums = λ T x. rw counted-is (all .sums T x);
+    least = λ T x l a. rw counted-is (all .least T x l a);
+    far-runs = λ T x r m. rw counted-is (all .far-runs T x r m);
   }
     where
       all : Ordered L (cost t n) n (first - 1) (last - 1)
       all =
-          ordered L (cost t n) n (first - 1) (last - 1) (a .table .formed) (omega (arith, a .first-low, a .first-high))
-          (omega (arith, a .last-low, a .last-high))
-          (λ z. a .differ (omega (arith, a .first-low, a .last-low)))
+          let z = asked-ends L n t first last (length e₀) a in
+          ordered L (cost t n) n (first - 1) (last - 1) (a .table .formed) (z .0) (z .1) (z .2)
 
       l : List ℕ
       l = order (cost t n) n (first - 1) (last - 1)
@@ -98,7 +104,7 @@ module _ (L n : ℕ) (t : List ℕ) (first last : ℕ) (e₀ : List ℕ) where
 
       once : (i : ℕ) → 1 ≤ i → i ≤ n → occurs i (images n t first last) ≡ 1
       once zero l h = absurd (omega arith)
-      once (suc i) l h = occurs-suc i (order (cost t n) n (first - 1) (last - 1)) ∙ all .images .once i (omega arith)
+      once (suc i) l h = occurs-suc i (order (cost t n) n (first - 1) (last - 1)) ∙ all .images .all .once i (omega arith)
 
       size : length e ≡ length e₀
       size = rw q (simp (length-append, length-drop) (omega (arith, full, a .space)))

@@ -7,22 +7,24 @@ use Prim.Native.Nat.{suc, zero, ℕ, _*_, _+_, _<_, _≤_}
 use native.Mathlib.Omega.{arith}
 use lib.ListN.{getD, length, length-map}
 use Rattle.ground.specs.Bits.{bit}
+use Rattle.ground.specs.Filters.{Each}
 use Rattle.theory.specs.FarSides.{FarSide, own}
 use Rattle.theory.specs.FourPoint.{FourPoint, failing}
 use Rattle.theory.specs.Index.{AtLeast, clipped}
 use Rattle.theory.specs.Laws.ClosedSum.{closed-sum}
 use Rattle.theory.specs.Laws.OneTree.{measured-tree}
 use Rattle.theory.specs.Laws.OnlyOne.{exact-exists, exact-is}
-use Rattle.theory.specs.Laws.Ring.{one-run}
+use Rattle.theory.specs.Laws.Paths.{meets-four-point}
+use Rattle.theory.specs.Laws.RingRuns.{drawn-run, far-runs}
 use Rattle.theory.specs.Laws.RowCount.{row-count}
-use Rattle.theory.specs.Laws.Runs.{one-run-list}
+use Rattle.theory.specs.Laws.Shortest.{shortest}
 use Rattle.theory.specs.Laws.Sorted.{none-failing}
 use Rattle.theory.specs.Laws.Stable.{cost-near, measured-cost}
 use Rattle.theory.specs.Laws.Under.{measured-under}
 use Rattle.theory.specs.Laws.NextLeft.{next-left}
 use Rattle.theory.specs.Laws.Walk.{order-all}
 use Rattle.theory.specs.LinkTables.{LinkTable, Row, allCosts, costOf, far, fars, path}
-use Rattle.theory.specs.Order.{AllOnce, closed, order}
+use Rattle.theory.specs.Order.{AllOnce, AnOrder, closed, order}
 use Rattle.theory.specs.OrderRules.{IsNext, OneRun}
 use Rattle.theory.specs.Readings.{Exact, Near, measured}
 use Rattle.theory.specs.Tables.{WellFormed}
@@ -122,11 +124,17 @@ pub record Ordered (L : ℕ) (d : ℕ → ℕ → ℕ) (n f last : ℕ) : Type 0
   pub runs : (S : ℕ) → FarSide n S → AtLeast d n (bit S) 1 → OneRun S f (order d n f last)
   -- on an accepted table the closed sum is the sum of all doubled costs
   pub sums : (T : List Row) → Exact L d n T → closed d (order d n f last) ≡ allCosts T
+  -- no ring is shorter: on an accepted table the closed sum is the least over all orders of the images
+  pub least : (T : List Row) → Exact L d n T → (l : List ℕ) → AnOrder n l → closed d (order d n f last) ≤ closed d l
+  -- and every far side of its tree, an own link of cost 0 as well, is a run of neighbours on the closed ring
+  pub far-runs : (T : List Row) → Exact L d n T → Each T (λ r. OneRun (r .0) f (order d n f last))
 
 pub ordered : (L : ℕ) (d : ℕ → ℕ → ℕ) (n f last : ℕ) → WellFormed L d n → f < n → last < n → (f ≡ last → ⊥) → Ordered L d n f last
 ordered L d n f last c hf hl ne = record {
   images = order-all d n f hf last hl ne;
   rule = next-left d n f hf last hl ne;
-  runs = λ S s p. one-run-list S f _ (one-run L d n c f hf S s p last hl ne);
+  runs = drawn-run L d n f last c hf hl ne;
   sums = λ T x. closed-sum L d n T c x f last hf hl ne;
+  least = λ T x. shortest L d n f last hf hl ne c (meets-four-point L n T (x .tree) d (x .meets));
+  far-runs = far-runs L d n f last c hf hl ne;
 }

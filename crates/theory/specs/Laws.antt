@@ -37,6 +37,9 @@ pub mod NextLeft
 pub mod Ring
 pub mod ClosedSum
 pub mod Runs
+pub mod RingRuns
+pub mod TakenOut
+pub mod Shortest
 -- Link tables that are climbed and compared.
 pub mod Contained
 pub mod Routes

@@ -18,3 +18,4 @@ pub mod Outcomes
 -- What is true of them: the laws with their proofs, and on one page the theorems that answer the demands.
 pub mod Laws
 pub mod Demands
+pub mod MeasuredRing

@@ -35,11 +35,15 @@ abbrev pub lastOf : ℕ → List ℕ → ℕ
 lastOf x [] = x
 lastOf x (y ∷ l) = lastOf y l
 
--- l is a list of all n images, each once, with first at the front and last at the end
-pub record AllOnce (n f last : ℕ) (l : List ℕ) : Type 0 where
-  pub size : length l ≡ n
+-- l is an order of the n images: it holds each of them once, and nothing else
+pub record AnOrder (n : ℕ) (l : List ℕ) : Type 0 where
   pub range : Each l (λ i. i < n)
   pub once : (i : ℕ) → i < n → occurs i l ≡ 1
+
+-- l is a list of all n images, each once, with first at the front and last at the end
+pub record AllOnce (n f last : ℕ) (l : List ℕ) : Type 0 where
+  pub all : AnOrder n l
+  pub size : length l ≡ n
   pub front : (t : List ℕ) × (l ≡ f ∷ t)
   pub back : lastOf f l ≡ last
 

@@ -1,7 +1,7 @@
 -- Generic laws of lists: ascending numbers, members, the rows of a table by their places. Assumes nothing.
 use mathlib.Core.Bool.{_||_}
 use mathlib.Core.List.{List, List·Memᴰ, List·Memᴰ·head, List·Memᴰ·tail, [], _++_, _∷_}
-use mathlib.Core.Path.{ap, refl, sym, _≡_}
+use mathlib.Core.Path.{ap, refl, _≡_}
 use Prim.Native.Nat.{suc, zero, ℕ, _<_, _≤_}
 use native.Mathlib.Omega.{arith}
 use lib.Dec.{eqb}
@@ -28,10 +28,6 @@ between-last a k S (x ∷ l) b h p q = (b .0, between-last (suc x) k S l (b .1) 
 pub is-in-append : (x : ℕ) (l m : List ℕ) → isIn x (l ++ m) ≡ (isIn x l || isIn x m)
 is-in-append x [] m = refl
 is-in-append x (y ∷ l) m = let ih = is-in-append x l m in cases (eqb x y) (λ e. rw e refl) (λ e. rw (e, ih) refl)
-
-pub mem-split : {A : Type 0} (x : A) (l : List A) → List·Memᴰ x l → (p : List A) × (q : List A) × (l ≡ p ++ (x ∷ q))
-mem-split {A} x (y ∷ l) (List·Memᴰ·head e) = ([], l, ap (λ (z : A). z ∷ l) (sym e))
-mem-split {A} x (y ∷ l) (List·Memᴰ·tail d) = let r = mem-split x l d in (y ∷ r .0, r .1, ap (λ (z : List A). y ∷ z) (r .2))
 
 pub each-one : {A : Type 0} (P : A → Type 0) (x : A) → P x → Each (x ∷ []) P
 each-one P x p = each-cons P x [] p (each-nil P)

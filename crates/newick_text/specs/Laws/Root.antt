@@ -14,7 +14,7 @@ use Rattle.ground.specs.Counts.{one-if}
 use Rattle.ground.specs.Filters.{Each}
 use Rattle.ground.specs.Members.{isIn}
 use Rattle.ground.specs.Laws.Maps.{map-mem}
-use Rattle.ground.specs.Laws.Members.{isIn-mem, mem-isIn}
+use Rattle.ground.specs.Laws.Members.{isIn-mem, mem-isIn, mem-split}
 use Rattle.theory.specs.FarSides.{FarSide, own}
 use Rattle.theory.specs.LinkTables.{LinkTable, Row, far, fars}
 use Rattle.theory.specs.Routes.{contains}
@@ -22,7 +22,6 @@ use Rattle.theory.specs.Laws.Paths.{row-far}
 use Rattle.theory.specs.Laws.Routes.{full-contains}
 use Rattle.newick_text.specs.Trees.{Siblings, add, bracket, image, none}
 use Rattle.newick_text.specs.LinkTrees.{grown, headOf, imageOf}
-use Rattle.newick_text.specs.Laws.Lists.{mem-split}
 use Rattle.newick_text.specs.Laws.Numbers.{even-pow}
 use Rattle.newick_text.specs.Laws.Parts.{part-all, part-none}
 use Rattle.newick_text.specs.Laws.Stages.{grown-append, stage-all, stage-before}

@@ -3,7 +3,8 @@ use mathlib.Core.Bool.{_||_}
 use mathlib.Core.List.{List}
 use mathlib.Core.Logic.{_↔_}
 use mathlib.Core.Path.{_≡_}
-use Prim.Native.Nat.{ℕ}
+use Prim.Native.Nat.{ℕ, _-_, _<_}
+use native.Mathlib.Omega.{arith}
 use lib.Dec.{eqb, ltb}
 use borrow.Author.Tests.{eqb-false, le-ltb, ltb-false, ne-eqb}
 use Rattle.ground.specs.Refusals.{outside, roomCheck, _then_}
@@ -53,3 +54,8 @@ module _ (L n : ℕ) (t : List ℕ) (first last room : ℕ) where
 
   pub asked : (orderChecks L n t first last room ≡ Passed) ↔ OrderAsked L n t first last room
   asked = (passed-asked, asked-passed)
+
+  -- first and last, counted from 0, are two different images
+  pub asked-ends : OrderAsked L n t first last room → (first - 1 < n) × (last - 1 < n) × (first - 1 ≡ last - 1 → ⊥)
+  asked-ends a =
+      (omega (arith, a .first-low, a .first-high), omega (arith, a .last-low, a .last-high), λ e. a .differ (omega (arith, a .first-low, a .last-low)))

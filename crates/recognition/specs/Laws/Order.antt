@@ -55,12 +55,12 @@ some-place (y ∷ l) x h =
 pub all-once-places : (n last : ℕ) (l : List ℕ) → 0 < n → AllOnce n 0 last l → Places (λ i. getD l i 0) n
 all-once-places n last l h a = record {
   first = ap (λ m. getD m 0 0) (a .front .1);
-  range = λ {i} hi. a .range (getD l i 0) (getD-mem l i (omega (arith, a .size)));
+  range = λ {i} hi. a .all .range (getD l i 0) (getD-mem l i (omega (arith, a .size)));
   once = λ {i} {j} hi hj s.
       let y = getD l j 0 in
-      let o = a .once y (a .range y (getD-mem l j (omega (arith, a .size)))) in
+      let o = a .all .once y (a .all .range y (getD-mem l j (omega (arith, a .size)))) in
       one-place l y i j (omega (arith, o)) (omega (arith, a .size)) (omega (arith, a .size)) s refl;
-  all = λ x hx. let r = some-place l x (omega (arith, a .once x hx)) in (r .0, omega (arith, r .1, a .size), r .2);
+  all = λ x hx. let r = some-place l x (omega (arith, a .all .once x hx)) in (r .0, omega (arith, r .1, a .size), r .2);
 }
 
 -- ## Each image behind the least

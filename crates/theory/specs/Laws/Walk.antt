@@ -104,9 +104,8 @@ module _ (d : ℕ → ℕ → ℕ) (n f : ℕ) (hf : f < n) where
     where
       go : End (λ x l. lastOf x l ≡ last) (grow d n f (n - 2) last []) → AllOnce n f last (order d n f last)
       go e = rw (e .is) (record {
+        all = record { range = range-all (e .head) (e .tail) (e .placed); once = placed-full (e .head) (e .tail) (e .placed) (e .full) };
         size = omega (arith, e .full);
-        range = range-all (e .head) (e .tail) (e .placed);
-        once = placed-full (e .head) (e .tail) (e .placed) (e .full);
         front = (e .head ∷ e .tail, refl);
         back = e .kept;
       })
