@@ -2,7 +2,7 @@
 -- answer meets it. Assumes nothing.
 use mathlib.Core.List.{List, [], _++_, _∷_}
 use mathlib.Core.Path.{ap, refl, sym, _∙_, _≡_}
-use Prim.Native.Nat.{suc, zero, ℕ, _-_, _≤_}
+use Prim.Native.Nat.{suc, zero, ℕ, _*_, _+_, _-_, _≤_}
 use native.Mathlib.Omega.{arith}
 use lib.ListN.{drop, getD, length, length-append, length-drop, length-map, take}
 use lib.Seq.{drop-at, getD-take, take-at}
@@ -18,6 +18,7 @@ use Rattle.ground.specs.declared.Written.{Written}
 use Rattle.ground.specs.declared.Written.the-variants.{Places}
 use Rattle.theory.specs.Demands.{Ordered, ordered}
 use Rattle.theory.specs.FarSides.{FarSide}
+use Rattle.theory.specs.FourPoint.{FourPointWithin}
 use Rattle.theory.specs.Index.{AtLeast}
 use Rattle.theory.specs.LinkTables.{Row, allCosts}
 use Rattle.theory.specs.Order.{AnOrder, closed, grow, order}
@@ -62,7 +63,9 @@ pub record OrderLeft (L n : ℕ) (t : List ℕ) (first last : ℕ) (e₀ e : Lis
   pub sums : (T : List Row) → Exact L (cost t n) n T → closed (cost t n) (counted n e) ≡ allCosts T
   -- no ring is shorter: on an accepted table the closed sum is the least over all orders of the images
   pub least : (T : List Row) → Exact L (cost t n) n T → (l : List ℕ) → AnOrder n l → closed (cost t n) (counted n e) ≤ closed (cost t n) l
-  -- and every far side of its tree, an own link of cost 0 as well, is a run of neighbours on the closed ring
+  -- on any other none is by more than q for each image but three, where no four images fail by more than q
+  pub within : (q : ℕ) → FourPointWithin q (cost t n) n → (l : List ℕ) → AnOrder n l → closed (cost t n) (counted n e) ≤ closed (cost t n) l + (n - 3) * q
+  -- every far side of an accepted table's tree, an own link of cost 0 as well, is a run of neighbours on the closed ring
   pub far-runs : (T : List Row) → Exact L (cost t n) n T → Each T (λ r. OneRun (r .0) (first - 1) (counted n e))
 
 module _ (L n : ℕ) (t : List ℕ) (first last : ℕ) (e₀ : List ℕ) where
@@ -79,6 +82,7 @@ module _ (L n : ℕ) (t : List ℕ) (first last : ℕ) (e₀ : List ℕ) where
     runs = λ S s p. rw counted-is (all .runs S s p);
     sums = λ T x. rw counted-is (all .sums T x);
     least = λ T x l a. rw counted-is (all .least T x l a);
+    within = λ q p l a. rw counted-is (all .within q p l a);
     far-runs = λ T x r m. rw counted-is (all .far-runs T x r m);
   }
     where

@@ -3,13 +3,13 @@
 use mathlib.Core.List.{List, List·Memᴰ, [], _++_, _∷_}
 use mathlib.Core.Logic.{_↔_}
 use mathlib.Core.Path.{_≡_}
-use Prim.Native.Nat.{suc, zero, ℕ, _*_, _+_, _<_, _≤_}
+use Prim.Native.Nat.{suc, zero, ℕ, _*_, _+_, _-_, _<_, _≤_}
 use native.Mathlib.Omega.{arith}
 use lib.ListN.{getD, length, length-map}
 use Rattle.ground.specs.Bits.{bit}
 use Rattle.ground.specs.Filters.{Each}
 use Rattle.theory.specs.FarSides.{FarSide, own}
-use Rattle.theory.specs.FourPoint.{FourPoint, failing}
+use Rattle.theory.specs.FourPoint.{FourPoint, FourPointWithin, failing}
 use Rattle.theory.specs.Index.{AtLeast, clipped}
 use Rattle.theory.specs.Laws.ClosedSum.{closed-sum}
 use Rattle.theory.specs.Laws.OneTree.{measured-tree}
@@ -17,7 +17,7 @@ use Rattle.theory.specs.Laws.OnlyOne.{exact-exists, exact-is}
 use Rattle.theory.specs.Laws.Paths.{meets-four-point}
 use Rattle.theory.specs.Laws.RingRuns.{drawn-run, far-runs}
 use Rattle.theory.specs.Laws.RowCount.{row-count}
-use Rattle.theory.specs.Laws.Shortest.{shortest}
+use Rattle.theory.specs.Laws.NoShorter.{shortest, shortest-within}
 use Rattle.theory.specs.Laws.Sorted.{none-failing}
 use Rattle.theory.specs.Laws.Stable.{cost-near, measured-cost}
 use Rattle.theory.specs.Laws.Under.{measured-under}
@@ -126,7 +126,9 @@ pub record Ordered (L : ℕ) (d : ℕ → ℕ → ℕ) (n f last : ℕ) : Type 0
   pub sums : (T : List Row) → Exact L d n T → closed d (order d n f last) ≡ allCosts T
   -- no ring is shorter: on an accepted table the closed sum is the least over all orders of the images
   pub least : (T : List Row) → Exact L d n T → (l : List ℕ) → AnOrder n l → closed d (order d n f last) ≤ closed d l
-  -- and every far side of its tree, an own link of cost 0 as well, is a run of neighbours on the closed ring
+  -- on any other none is by more than q for each image but three, where no four images fail by more than q
+  pub within : (q : ℕ) → FourPointWithin q d n → (l : List ℕ) → AnOrder n l → closed d (order d n f last) ≤ closed d l + (n - 3) * q
+  -- every far side of an accepted table's tree, an own link of cost 0 as well, is a run of neighbours on the closed ring
   pub far-runs : (T : List Row) → Exact L d n T → Each T (λ r. OneRun (r .0) f (order d n f last))
 
 pub ordered : (L : ℕ) (d : ℕ → ℕ → ℕ) (n f last : ℕ) → WellFormed L d n → f < n → last < n → (f ≡ last → ⊥) → Ordered L d n f last
@@ -136,5 +138,6 @@ ordered L d n f last c hf hl ne = record {
   runs = drawn-run L d n f last c hf hl ne;
   sums = λ T x. closed-sum L d n T c x f last hf hl ne;
   least = λ T x. shortest L d n f last hf hl ne c (meets-four-point L n T (x .tree) d (x .meets));
+  within = λ q. shortest-within L q d n f last hf hl ne c;
   far-runs = far-runs L d n f last c hf hl ne;
 }

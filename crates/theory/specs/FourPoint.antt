@@ -15,6 +15,10 @@ timesLargest x y z = one-if (eqb x (max x (max y z))) + one-if (eqb y (max x (ma
 pub record FourPoint (d : ℕ → ℕ → ℕ) (n : ℕ) : Type 0 where
   pub twice : {i j k l : ℕ} → i < n → j < n → k < n → l < n → 2 ≤ timesLargest (d i j + d k l) (d i k + d j l) (d i l + d j k)
 
+-- none of the three sums is above both others by more than q; where q is 0 that is the same
+pub record FourPointWithin (q : ℕ) (d : ℕ → ℕ → ℕ) (n : ℕ) : Type 0 where
+  pub low : {i j k l : ℕ} → i < n → j < n → k < n → l < n → d i j + d k l ≤ max (d i k + d j l) (d i l + d j k) + q
+
 -- four images
 pub record Four : Type 0 where
   pub first : ℕ

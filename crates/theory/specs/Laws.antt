@@ -40,6 +40,10 @@ pub mod Runs
 pub mod RingRuns
 pub mod TakenOut
 pub mod Shortest
+pub mod NoShorter
+pub mod Line
+pub mod TimedLine
+pub mod Reached
 -- Link tables that are climbed and compared.
 pub mod Contained
 pub mod Routes

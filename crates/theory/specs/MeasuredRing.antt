@@ -2,11 +2,18 @@
 -- an accepted table. Assumes nothing.
 use mathlib.Core.List.{List}
 use mathlib.Core.Path.{_≡_}
-use Prim.Native.Nat.{ℕ, _*_, _+_, _-_, _<_, _≤_}
+use Prim.Native.Nat.{suc, zero, ℕ, _*_, _+_, _-_, _<_, _≤_}
+use native.Mathlib.Omega.{arith}
 use Rattle.ground.specs.Filters.{Each}
+use Rattle.theory.specs.Demands.{ordered}
+use Rattle.theory.specs.FourPoint.{FourPoint}
+use Rattle.theory.specs.Laws.Line.{line-accepted}
 use Rattle.theory.specs.Laws.Paths.{meets-four-point}
+use Rattle.theory.specs.Laws.Reached.{exchanged, exchanged-all, shorter-accepted, shorter-measured}
 use Rattle.theory.specs.Laws.RingRuns.{kept-runs}
-use Rattle.theory.specs.Laws.Shortest.{shortest-accepted, shortest-measured}
+use Rattle.theory.specs.Laws.NoShorter.{closed-near, near-within, shortest-accepted, shortest-within}
+use Rattle.theory.specs.Laws.Stable.{near-sym}
+use Rattle.theory.specs.Laws.TimedLine.{at, near-one, timed, timed-formed, wired, wired-formed}
 use Rattle.theory.specs.LinkTables.{Row}
 use Rattle.theory.specs.Order.{AnOrder, closed, order}
 use Rattle.theory.specs.OrderRules.{OneRun}
@@ -20,13 +27,60 @@ pub record MeasuredRing (D : ℕ) (d e : ℕ → ℕ → ℕ) (n f : ℕ) (ring 
   pub accepted : (l : List ℕ) → AnOrder n l → closed d ring ≤ closed d l + (n - 3) * (4 * D)
   -- every far side of the tree with a doubled cost above 4 D is a run of neighbours on the closed ring
   pub far-runs : Each T (λ r. 4 * D < r .1 → OneRun (r .0) f ring)
+  -- what any one ring costs by the two tables differs by no more than D for each of its n links
+  pub sums : (l : List ℕ) → AnOrder n l → (closed d l ≤ closed e l + n * D) × (closed e l ≤ closed d l + n * D)
 
 pub measured-ring : (L D : ℕ) (d e : ℕ → ℕ → ℕ) (n f last : ℕ) (T : List Row) → WellFormed L d n → WellFormed L e n → Exact L d n T → Near D d e n
     → f < n → last < n → (f ≡ last → ⊥) → MeasuredRing D d e n f (order e n f last) T
 measured-ring L D d e n f last T c c′ x p hf hl ne =
     let four = meets-four-point L n T (x .tree) d (x .meets) in
     record {
-      measured = shortest-measured L D d e n f last hf hl ne c c′ four p;
-      accepted = shortest-accepted L D d e n f last hf hl ne c c′ four p;
+      measured = shortest-within L (4 * D) e n f last hf hl ne c′ (near-within L D d e n four p);
+      accepted = shortest-accepted L D d e n four p f last hf hl ne c;
       far-runs = kept-runs L D d e n f last c′ p hf hl ne T x;
+      sums = λ l a. (closed-near D d e n l p a, closed-near D e d n l (near-sym D d e n p) a);
     }
+
+-- The ring of the accepted table itself, by the other: no ring is shorter by more than 2 n D.
+pub accepted-ring : (L D : ℕ) (d e : ℕ → ℕ → ℕ) (n f last : ℕ) (T : List Row) → WellFormed L d n → Exact L d n T → Near D d e n
+    → f < n → last < n → (f ≡ last → ⊥) → (l : List ℕ) → AnOrder n l → closed e (order d n f last) ≤ closed e l + 2 * (n * D)
+accepted-ring L D d e n f last T c x p hf hl ne l a =
+    let o = ordered L d n f last c hf hl ne in
+    omega (arith, o .least T x l a, closed-near D d e n l p a, closed-near D e d n (order d n f last) (near-sym D d e n p) (o .images .all))
+
+-- No smaller bound holds. Of n images: an accepted table d, a table e no entry of which differs by more than 1, and a ring that is
+-- shorter than the order's by 4 for each image but three, by the one table and by the other.
+pub record Reached (L n : ℕ) : Type 0 where
+  pub d : ℕ → ℕ → ℕ
+  pub e : ℕ → ℕ → ℕ
+  pub formed : WellFormed L d n × WellFormed L e n
+  pub accepted : FourPoint d n
+  pub near : Near 1 d e n
+  pub first : ℕ
+  pub last : ℕ
+  pub images : (first < n) × (last < n) × (first ≡ last → ⊥)
+  pub ring : List ℕ
+  pub all : AnOrder n ring
+  pub by-measured : closed e (order e n first last) ≡ closed e ring + (n - 3) * 4
+  pub by-accepted : closed d (order e n first last) ≡ closed d ring + (n - 3) * 4
+
+-- For every n of document 01, under every limit that leaves room for 2 n: the images stand on a line, two of them at its ends, and the
+-- shorter ring is the order's with its first two images exchanged.
+pub reached : (L n : ℕ) → 3 ≤ n → 2 * n ≤ L → Reached L n
+reached L zero h l = absurd (omega arith)
+reached L (suc zero) h l = absurd (omega arith)
+reached L (suc (suc zero)) h l = absurd (omega arith)
+reached L (suc (suc (suc k))) h l = record {
+  d = wired k;
+  e = timed k;
+  formed = (wired-formed k L l, timed-formed k L l);
+  accepted = line-accepted (at k) (suc (suc (suc k)));
+  near = near-one k;
+  first = suc (suc k);
+  last = 0;
+  images = (omega arith, omega arith, λ t. omega arith);
+  ring = exchanged k;
+  all = exchanged-all k;
+  by-measured = shorter-measured k;
+  by-accepted = shorter-accepted k;
+}

@@ -6,7 +6,7 @@ use native.Mathlib.Omega.{arith}
 use lib.Dec.{eqb, leb}
 use borrow.Author.Tests.{eq-eqb, eqb-false, eqb-true, leb-false, leb-true, ne-eqb}
 use borrow.Table.Steps.{cases}
-use Rattle.theory.specs.FourPoint.{FourPoint, timesLargest}
+use Rattle.theory.specs.FourPoint.{FourPoint, FourPointWithin, timesLargest}
 use Rattle.theory.specs.Tables.{WellFormed}
 
 pub well-formed-less : (L : ℕ) (d : ℕ → ℕ → ℕ) (m n : ℕ) → m ≤ n → WellFormed L d n → WellFormed L d m
@@ -81,3 +81,10 @@ four-point d n same p = record {
       (omega (arith, p .low hi hk hj hl, same k j hk hj))
       (omega (arith, p .low hi hl hj hk, same l j hl hj, same l k hl hk));
 }
+
+-- the condition within 0
+pub four-within : (d : ℕ → ℕ → ℕ) (n : ℕ) → FourPoint d n → FourPointWithin 0 d n
+four-within d n p = record { low = λ hi hj hk hl. omega (arith, four-low p hi hj hk hl) }
+
+pub within-four : (d : ℕ → ℕ → ℕ) (n : ℕ) → ((i j : ℕ) → i < n → j < n → d i j ≡ d j i) → FourPointWithin 0 d n → FourPoint d n
+within-four d n same p = four-point d n same (record { low = λ hi hj hk hl. omega (arith, p .low hi hj hk hl) })

@@ -3,23 +3,19 @@
 use mathlib.Core.List.{List, List·Memᴰ, List·Memᴰ·eq-of-singleton, List·Memᴰ·head, List·Memᴰ·tail, [], append-nil, _++_, _∷_}
 use mathlib.Core.Logic.{inl, inr, _⊎_}
 use mathlib.Core.Path.{ap, refl, sym, _≡_}
-use Prim.Native.Nat.{ℕ, _*_, _+_, _<_, _≤_}
+use Prim.Native.Nat.{ℕ, _+_, _<_, _≤_}
 use native.Mathlib.Omega.{arith}
 use lib.ListN.{length}
 use Rattle.ground.specs.Filters.{Each}
-use Rattle.theory.specs.FourPoint.{FourPoint}
-use Rattle.theory.specs.Laws.FourPoint.{four-low}
+use Rattle.theory.specs.FourPoint.{FourPointWithin}
 use Rattle.theory.specs.Order.{along, closed}
-use Rattle.theory.specs.Readings.{Near}
-use Rattle.theory.specs.Tables.{WellFormed}
 
--- how far an order by the table g may be off in the table d, from f on: where w is next to the left of x by g, taking x out from between
--- f and u, or from between u and v, saves in d what x costs at w's side, less s at most
-pub record Off (g d : ℕ → ℕ → ℕ) (n f s : ℕ) : Type 0 where
+-- an order by the table g, from f on, and what is asked of a table d by which its ring is summed up: the image that g chooses is by d
+-- off the best by p at most, and the four-point condition by q
+pub record Off (g d : ℕ → ℕ → ℕ) (n f p q : ℕ) : Type 0 where
   pub same : {i j : ℕ} → i < n → j < n → d i j ≡ d j i
-  pub one : {x w u : ℕ} → x < n → w < n → u < n → g x w + g f u ≤ g x u + g f w → d x w + d f u ≤ d x u + d f w + s
-  pub two : {x w u v : ℕ} → x < n → w < n → u < n → v < n → g x w + g f u ≤ g x u + g f w → g x w + g f v ≤ g x v + g f w
-      → d u v + d x w + d f x ≤ d u x + d x v + d f w + s
+  pub chosen : {x w u : ℕ} → x < n → w < n → u < n → g x w + g f u ≤ g x u + g f w → d x w + d f u ≤ d x u + d f w + p
+  pub four : FourPointWithin q d n
 
 -- ## A ring may begin anywhere
 
@@ -33,7 +29,7 @@ module _ (d : ℕ → ℕ → ℕ) where
   closed-turn f [] b = ap (λ (l : List ℕ). along d f f l) (sym (append-nil b))
   closed-turn f (y ∷ a) b = omega (arith, along-through y y f a b, along-through f f y b a)
 
-module _ (g d : ℕ → ℕ → ℕ) (n f s : ℕ) (hf : f < n) (o : Off g d n f s) where
+module _ (g d : ℕ → ℕ → ℕ) (n f p q : ℕ) (hf : f < n) (o : Off g d n f p q) where
   -- ## One image is taken out
 
   module _ (x w : ℕ) (hx : x < n) (hw : w < n) where
@@ -41,14 +37,27 @@ module _ (g d : ℕ → ℕ → ℕ) (n f s : ℕ) (hf : f < n) (o : Off g d n f
     abbrev pub Other : ℕ → Type 0
     Other u = (u < n) × (g x w + g f u ≤ g x u + g f w)
 
+    -- from between two others
+    between : (u v : ℕ) → Other u → Other v → d u v + d x w + d f x ≤ d u x + d x v + d f w + (p + q)
+    between u v a b =
+        omega (
+          arith,
+          o .four .low (a .0) (b .0) hf hx,
+          o .chosen hx hw (a .0) (a .1),
+          o .chosen hx hw (b .0) (b .1),
+          o .same (a .0) hf,
+          o .same (a .0) hx,
+          o .same (b .0) hf,
+          o .same (b .0) hx,
+        )
+
     pub taken : (y : ℕ) (a b : List ℕ) → Other y ⊎ ((y ≡ f) × (0 < length (a ++ b))) → Each (a ++ b) Other
-        → along d f y (a ++ b) + d x w + d f x ≤ along d f y (a ++ (x ∷ b)) + d f w + s
-    taken y [] [] (inl t) r = omega (arith, o .one hx hw (t .0) (t .1), o .same (t .0) hf, o .same hx (t .0), o .same hx hf)
+        → along d f y (a ++ b) + d x w + d f x ≤ along d f y (a ++ (x ∷ b)) + d f w + (p + q)
+    taken y [] [] (inl t) r = omega (arith, o .chosen hx hw (t .0) (t .1), o .same (t .0) hf, o .same hx (t .0), o .same hx hf)
     taken y [] [] (inr t) r = absurd (omega (arith, t .1))
-    taken y [] (u ∷ b) (inl t) r =
-        let v = r u (List·Memᴰ·head refl) in omega (arith, o .two hx hw (t .0) (v .0) (t .1) (v .1), o .same (t .0) hx)
+    taken y [] (u ∷ b) (inl t) r = omega (arith, between y u t (r u (List·Memᴰ·head refl)))
     taken y [] (u ∷ b) (inr t) r =
-        let v = r u (List·Memᴰ·head refl) in rw (t .0) (omega (arith, o .one hx hw (v .0) (v .1)))
+        let v = r u (List·Memᴰ·head refl) in rw (t .0) (omega (arith, o .chosen hx hw (v .0) (v .1)))
     taken y (z ∷ a) b t r = omega (arith, taken z a b (inl (r z (List·Memᴰ·head refl))) (λ u m. r u (List·Memᴰ·tail m)))
 
     -- nothing is lost where w alone is left
@@ -63,54 +72,3 @@ module _ (g d : ℕ → ℕ → ℕ) (n f s : ℕ) (hf : f < n) (o : Off g d n f
         omega (arith, ap (d x) q, ap (d f) q, o .same hv hx, o .same hf hx, o .same hf hv)
     alone (v ∷ []) (u ∷ b) m e = absurd (omega arith)
     alone (v ∷ u ∷ a) b m e = absurd (omega arith)
-
--- ## How far off an order is where the entries are
-
-module _ (L D : ℕ) (d e : ℕ → ℕ → ℕ) (n f : ℕ) (hf : f < n) (c : WellFormed L d n) (c′ : WellFormed L e n) (four : FourPoint d n) (p : Near D d e n) where
-  -- by the table that it was made from, no entry of which differs by more than D from one with the condition
-  pub measured-off : Off e e n f (4 * D)
-  measured-off = record {
-    same = λ hi hj. c′ .same hi hj;
-    one = λ hx hw hu l. omega (arith, l);
-    two = λ hx hw hu hv l l′.
-        omega (
-          arith,
-          four-low four hu hv hf hx,
-          p .down hu hv,
-          p .down hf hx,
-          p .up hu hf,
-          p .up hv hx,
-          p .up hu hx,
-          p .up hv hf,
-          c′ .same hu hf,
-          c′ .same hv hx,
-          c′ .same hu hx,
-          c′ .same hv hf,
-          l,
-          l′,
-        );
-  }
-
-  -- and by the one with the condition
-  pub accepted-off : Off e d n f (4 * D)
-  accepted-off = record {
-    same = λ hi hj. c .same hi hj;
-    one = λ hx hw hu l. omega (arith, l, p .up hx hw, p .up hf hu, p .down hx hu, p .down hf hw);
-    two = λ hx hw hu hv l l′.
-        omega (
-          arith,
-          four-low four hu hv hf hx,
-          p .up hx hw,
-          p .up hf hu,
-          p .up hf hv,
-          p .down hx hu,
-          p .down hx hv,
-          p .down hf hw,
-          c .same hu hf,
-          c .same hv hx,
-          c .same hu hx,
-          c .same hv hf,
-          l,
-          l′,
-        );
-  }
