@@ -1,8 +1,8 @@
 -- The settled examples of document 01, A to H, upper triangles in stored order. A row is a far side and its doubled cost. What the count of
--- E against G is set over is document 02's, and so is what is said of B.
+-- E against G is set over is document 02's, and so is what is said of B, and that no ring is shorter than H's.
 use mathlib.Core.List.{List, [], _∷_}
 use Prim.Native.Nat.{ℕ}
-use Rattle.settled.specs.Settled.{Settled, compared, ordered, reads, refused, untimed}
+use Rattle.settled.specs.Settled.{Settled, compared, ordered, reads, refused, shortest, untimed}
 
 abbrev pub triangleE : List ℕ
 triangleE = 2 ∷ 4 ∷ 4 ∷ 4 ∷ 4 ∷ 2 ∷ []
@@ -45,6 +45,9 @@ exampleH =
 abbrev pub orderH : Settled
 orderH = ordered 7 triangleH 1 2 (1 ∷ 3 ∷ 7 ∷ 6 ∷ 5 ∷ 4 ∷ 2 ∷ []) 226
 
+abbrev pub ringH : Settled
+ringH = shortest 7 triangleH (1 ∷ 3 ∷ 7 ∷ 6 ∷ 5 ∷ 4 ∷ 2 ∷ []) 226
+
 abbrev pub settled : List Settled
 settled =
-    exampleA ∷ exampleB ∷ exampleC ∷ exampleD ∷ exampleE ∷ exampleF ∷ exampleG ∷ exampleEG ∷ exampleH ∷ orderH ∷ []
+    exampleA ∷ exampleB ∷ exampleC ∷ exampleD ∷ exampleE ∷ exampleF ∷ exampleG ∷ exampleEG ∷ exampleH ∷ orderH ∷ ringH ∷ []

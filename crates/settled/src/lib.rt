@@ -7,5 +7,5 @@ ghost use Rattle.settled.specs.Examples.{settled};
 pub fn examples() -> usize
     ensures { λ r. ⌜ r ≡ length settled ⌝ }
 {
-    10
+    11
 }
