@@ -32,8 +32,8 @@ module kemotuiki
     private
 
     ! The version, as the file VERSION has it.
-    character(*), parameter, public :: kemotuiki_version = '4.0.0'
-    integer, parameter, public :: kemotuiki_version_major = 4, kemotuiki_version_minor = 0, kemotuiki_version_patch = 0
+    character(*), parameter, public :: kemotuiki_version = '4.0.1'
+    integer, parameter, public :: kemotuiki_version_major = 4, kemotuiki_version_minor = 0, kemotuiki_version_patch = 1
 
     ! Room that is enough for every n: images, rows of a tree, bytes of a stored table in either form, and in the old form alone; the
     ! tables of a team; characters of a Newick text; and bytes of a refusal's text.
@@ -388,7 +388,9 @@ contains
         r = index_int64(t, int(s, int64))
     end function
 
-    ! The order around the tree of t from image first to image last, into out.
+    ! The order around the tree of t from image first to image last, into out. On a table with a wiring no ring through all images is
+    ! shorter than this one, closed by the way back from last to first, whichever first and last are; where every entry is off by at
+    ! most D from such a table, none is shorter by more than 4(n-3)D.
     function kemotuiki_order(t, first, last, out) result(r)
         integer(int32), intent(in), contiguous :: t(:, :)
         integer, intent(in) :: first, last

@@ -37,10 +37,10 @@
 #include <stdint.h>
 
 /* The version, as the file VERSION has it. */
-#define KEMOTUIKI_VERSION "4.0.0"
+#define KEMOTUIKI_VERSION "4.0.1"
 #define KEMOTUIKI_VERSION_MAJOR 4
 #define KEMOTUIKI_VERSION_MINOR 0
-#define KEMOTUIKI_VERSION_PATCH 0
+#define KEMOTUIKI_VERSION_PATCH 1
 
 /*
  * Room that is enough for every n: images, rows of a tree, bytes of a stored table in either form, and in the old form alone; the
@@ -230,7 +230,9 @@ KEMOTUIKI_ASSERT(kemotuiki_report_size, sizeof(KemotuikiReport) == 120);
 KemotuikiIndex kemotuiki_index(size_t n, const uint32_t *t, size_t t_count, uint64_t s);
 
 /*
- * The order around the tree from image first to image last, all images once.
+ * The order around the tree from image first to image last, all images once. On a table with a wiring no ring through all images is
+ * shorter than this one, closed by the way back from last to first, whichever first and last are; where every entry is off by at most D
+ * from such a table, none is shorter by more than 4(n-3)D.
  * Answers n, the images written to out. Room: n places. Refusals 1, 2, 3, 4, 5, 6, 20, 8.
  */
 KemotuikiOrder kemotuiki_order(size_t n, const uint32_t *t, size_t t_count, size_t first, size_t last,

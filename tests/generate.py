@@ -512,6 +512,11 @@ def order_cases(dice):
         yield n, tree(dice, n, most, "uneven"), first, last, places(dice, n + 1)
     for n, t in large_zeros(dice, (33, "between"), (64, "lower row")):
         yield n, t, n, 1, places(dice, n)
+    # A line, and timings of it by which the ring is longer than another by as much as it can be.
+    for n in (3, 4, 9, 33, 64):
+        wired, timed = law.timed_line(n)
+        for t in (wired, timed) if n < 33 else (timed,):
+            yield n, t, n, 1, places(dice, n)
 
 
 def reading_cases(dice, exactly):

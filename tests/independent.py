@@ -27,7 +27,8 @@ runs the settled examples of document 01, checks of demands 2 and 3 on tables dr
 from a fixed seed, and what document 02 says of the links that a team shares, of the
 far end, of the second engine, which answers as the first on every table tried, of the
 two stored forms and the conversions between them, of Newick text, of images that
-leave, of the term report, and of tables in which two images cost nothing.
+leave, of the term report, of tables in which two images cost nothing, and of the
+ring of the order, than which none is shorter.
 """
 
 import functools
@@ -1541,6 +1542,17 @@ def zeros_in(n, t):
     return [(i, j) for i, j in pairs(n) if t[(i - 1) * n + j - 1] == 0]
 
 
+def timed_line(n):
+    """Two tables over n images. In the first, which a wiring gives, images 1 to n-2 stand at the places 1 to
+    n-2 of a line, image n-1 stands at the place 1 and image n at the place n-2; two images cost 2, and 2 for
+    each step between their places. In the second an entry is one more where exactly one of its two images is
+    among the first n-2, and else one less."""
+    place = list(range(1, n - 1)) + [1, n - 2]
+    wired = [2 + 2 * abs(place[i - 1] - place[j - 1]) for i, j in pairs(n)]
+    timed = [entry + (1 if i <= n - 2 < j else -1) for entry, (i, j) in zip(wired, pairs(n))]
+    return table_from(n, wired), table_from(n, timed)
+
+
 def random_shape(dice):
     return dice.one_of(["star", "caterpillar", "uneven", "uneven"])
 
@@ -1924,6 +1936,107 @@ def test_demand_2(dice):
                     assert sorted(out) == list(range(1, n + 1))
                     assert (out[0], out[-1]) == (first, last)
                     assert closed_sum(n, t, out) == sum(costs)
+
+
+def least_closed_sum(n, t):
+    """The least closed sum of all orders of the images: for each set of them that holds image 1, and each image
+    in it, what it costs at least to begin with image 1, pass all others of the set once, and end there."""
+    d = square(n, t)
+    ways = {(1, 1): 0}
+    for _ in range(n - 1):
+        longer = {}
+        for (passed, last), cost in ways.items():
+            for i in range(2, n + 1):
+                if not holds(passed, i):
+                    place = passed + 2 ** (i - 1), i
+                    longer[place] = min(cost + d[last][i], longer.get(place, cost + d[last][i]))
+        ways = longer
+    return min(cost + d[last][1] for (_, last), cost in ways.items())
+
+
+def is_one_run(far, ring):
+    """Are the images of the far side neighbours on the closed ring, without a gap?"""
+    return sum(holds(far, i) != holds(far, j) for i, j in zip(ring, ring[1:] + ring[:1])) == 2
+
+
+def fails_by(n, t):
+    """By how much the largest of the three sums of four images is above the second, at most."""
+    d = square(n, t)
+    images, most = range(1, n + 1), 0
+    for i, j, k, l in itertools.combinations_with_replacement(images, 4):
+        sums = sorted([d[i][j] + d[k][l], d[i][k] + d[j][l], d[i][l] + d[j][k]])
+        most = max(most, sums[2] - sums[1])
+    return most
+
+
+def ring_of(n, t, first, last):
+    out = [0] * n
+    assert order(n, t, first, last, out) == (0, n)
+    return out
+
+
+def test_no_ring_is_shorter(dice):
+    """On tree tables no order of the images has a smaller closed sum, whatever first and last are, and every far
+    side of the tree is one run. The least of all is reckoned for up to nine images; beyond that the order is
+    held to rings of chance, to itself with two neighbours exchanged, and to the one that goes to the nearest."""
+    n, h = example("H")
+    assert least_closed_sum(n, h) == 226 and closed_sum(n, h, [1, 7, 3, 6, 5, 4, 2]) == 288
+    for n in (3, 4, 5, 6, 7, 8, 9):
+        for _ in range(12 if n < 9 else 2):
+            rows = tree_rows(dice, n, random_shape(dice), dice.one_of([2, 10, 500]))
+            t = tree_table(n, rows)
+            least = least_closed_sum(n, t)
+            for first, last in itertools.permutations(range(1, n + 1), 2):
+                ring = ring_of(n, t, first, last)
+                assert closed_sum(n, t, ring) == least
+                assert all(is_one_run(far, ring) for far, _ in rows)
+    for n in (12, 33, 64):
+        rows = tree_rows(dice, n, random_shape(dice), 500)
+        t = tree_table(n, rows)
+        d = square(n, t)
+        first, last = dice.mixed(range(1, n + 1))[:2]
+        ring = ring_of(n, t, first, last)
+        others = [dice.mixed(ring) for _ in range(200)] + [sorted(ring)]
+        others += [ring[:i] + [ring[i + 1], ring[i]] + ring[i + 2:] for i in range(n - 1)]
+        for start in range(1, n + 1):
+            nearest, waiting = [start], set(range(1, n + 1)) - {start}
+            while waiting:
+                nearest.append(min(waiting, key=lambda i: (d[nearest[-1]][i], i)))
+                waiting.remove(nearest[-1])
+            others.append(nearest)
+        assert all(closed_sum(n, t, ring) <= closed_sum(n, t, other) for other in others)
+        assert all(is_one_run(far, ring) for far, _ in rows)
+
+
+def test_ring_of_timings(dice):
+    """Where no entry is more than D away from one of a tree table, no ring is shorter by more than 4(n-3)D, by
+    the timings or by the tree table, nor, by the timings, by more than n-3 times what four images fail by; and
+    each far side of the tree with a doubled cost above 4D is one run. By the timings no ring is shorter than the
+    tree table's own by more than 2nD. The timed line reaches the first bound, for every n."""
+    for n in (3, 4, 5, 6, 7, 8):
+        for _ in range(30):
+            rows = tree_rows(dice, n, random_shape(dice), dice.one_of([2, 6, 20, 100]))
+            t = tree_table(n, rows)
+            moved = noisy(dice, n, t, dice.one_of([1, 2, 5, 30]))
+            distance = max(abs(a - b) for a, b in zip(t, moved))
+            least, least_wired, off = least_closed_sum(n, moved), least_closed_sum(n, t), fails_by(n, moved)
+            assert fails_by(n, t) == 0 and off <= 4 * distance
+            for first, last in itertools.permutations(range(1, n + 1), 2):
+                ring, own = ring_of(n, moved, first, last), ring_of(n, t, first, last)
+                assert closed_sum(n, moved, ring) <= least + (n - 3) * off
+                assert closed_sum(n, t, ring) <= least_wired + (n - 3) * 4 * distance
+                assert closed_sum(n, moved, own) <= least + 2 * n * distance
+                assert all(is_one_run(far, ring) for far, cost in rows if cost > 4 * distance)
+    for n in range(3, 65):
+        wired, timed = timed_line(n)
+        ring = ring_of(n, timed, n, 1)
+        exchanged = [ring[1], ring[0]] + ring[2:]
+        assert ring == list(range(n, 0, -1)) and first_failing_four(n, tuple(wired)) is None
+        assert all(abs(a - b) == 1 for (i, a), b in zip(enumerate(wired), timed) if i % (n + 1))
+        for t in (wired, timed):
+            assert closed_sum(n, t, ring) - closed_sum(n, t, exchanged) == 4 * (n - 3)
+        if n < 9:
+            assert closed_sum(n, wired, exchanged) == least_closed_sum(n, wired)
 
 
 def test_demand_3(dice):
@@ -3034,6 +3147,7 @@ def self_test():
         (test_report_examples, ()), (test_term_text, ()), (test_report_refusals, (dice,)),
         (test_report_limits, (dice,)),
         (test_report, (dice,)), (test_cut_report, (dice,)), (test_zeros, (dice,)), (test_zeros_among_faults, ()),
+        (test_no_ring_is_shorter, (dice,)), (test_ring_of_timings, (dice,)),
     ]
     for test, arguments in tests:
         test(*arguments)

@@ -5,8 +5,8 @@
 
 Of README.md, docs/, tests/README.md, bench/README.md and the README of theory: each file of a crate that a page names is there, and the
 names that stand in brackets with it occur in it. Of docs/PROMISES.md: its table of edits has each edit of each crate and no other, and
-says how many there are. Of each edit: the text that it replaces occurs once in its file. Of README.md: its table of crates has each
-crate of crates.txt and no other.
+says how many there are; its table of cases has each call that cases are made for, and as many as its file has lines. Of each edit: the
+text that it replaces occurs once in its file. Of README.md: its table of crates has each crate of crates.txt and no other.
 
 Prints a line for each check that fails, and one with the numbers. Status 0 where none failed, 1 otherwise.
 """
@@ -77,6 +77,17 @@ def hold_edits(crates):
     check(f"docs/PROMISES.md: there are {count} edits in all", f"{count} in all" in page)
 
 
+def hold_cases():
+    page = read("docs/PROMISES.md")
+    table = page[page.index("| Call | Cases |"):].split("\n\n")[0]
+    said = {call: int(count.replace(",", "")) for call, count in re.findall(r"`(\w+)` \| ([\d,]+) \|", table)}
+    files = glob.glob(os.path.join(ROOT, "crates/cases/data/*.txt"))
+    made = {os.path.basename(path)[:-len(".txt")]: read(path).count("\n") for path in files}
+    for call in sorted(set(said) | set(made)):
+        check(f"docs/PROMISES.md: {call} has {made.get(call, 0)} cases", said.get(call) == made.get(call))
+    check(f"docs/PROMISES.md: there are {sum(made.values()):,} cases", f"{sum(made.values()):,} cases" in page)
+
+
 def main():
     crates = re.findall(r"^(\w+):", read("crates.txt"), re.MULTILINE)
     for page in PAGES:
@@ -85,6 +96,7 @@ def main():
                 check(f"{page}: there is no {path}", os.path.exists(os.path.join(ROOT, path)))
             hold_names(page, text)
     hold_edits(crates)
+    hold_cases()
     rows = re.findall(r"^\| (`[\w`, ]+`) \|", read("README.md").split("| Crate | What it has |")[1], re.MULTILINE)
     named = [name for row in rows for name in re.findall(r"`(\w+)`", row)]
     check(f"README.md: its table of crates against crates.txt: {sorted(set(named) ^ set(crates))}", sorted(named) == sorted(crates))

@@ -1,7 +1,7 @@
 -- What the order line of a listing says: all images once, from 1 to the last image; and which image that is. Images are 1 to n here, as in
 -- the listing. Assumes nothing.
-use mathlib.Core.List.{List, append-assoc, _++_}
-use mathlib.Core.Path.{ap, refl, sym, _∙_, _≡_}
+use mathlib.Core.List.{List, append-assoc, map, _++_}
+use mathlib.Core.Path.{ap, refl, subst, sym, _∙_, _≡_}
 use Prim.Native.Nat.{suc, ℕ, _-_, _≤_}
 use native.Mathlib.Omega.{arith}
 use lib.ListN.{getD, length, length-replicate, replicate, take}
@@ -9,11 +9,14 @@ use lib.Seq.{getD-take}
 use Rattle.ground.specs.Members.{occurs}
 use Rattle.ground.specs.Outcomes.{Left}
 use Rattle.ground.specs.declared.Check.the-variants.{Passed}
+use Rattle.theory.specs.Demands.{ordered}
 use Rattle.theory.specs.LinkTables.{costs, fars}
+use Rattle.theory.specs.Order.{AnOrder, closed, order}
 use Rattle.theory.specs.Routes.{uppers}
 use Rattle.theory.specs.Tables.{CostTable, cost, limit}
 use Rattle.far_end.specs.FarEnd.{IsFarEnd, farEnd}
 use Rattle.far_end.specs.Laws.FarEnd.{far-end-is, far-end-only}
+use Rattle.order.specs.Laws.Counted.{back-suc}
 use Rattle.order.specs.Outcome.{images, orderOutcome}
 use Rattle.order.specs.Promises.{order-accepted, order-wrote}
 use Rattle.tree.specs.Exact.{exactRows}
@@ -23,7 +26,7 @@ use Rattle.table_text.specs.Laws.Accepted.{order-asked, order-left}
 use Rattle.listing_text.specs.Laws.LastImage.{last-other}
 use Rattle.listing_lines.specs.Lines.{header, orderLine, readingText, rowLines}
 use Rattle.listing_text.specs.Listing.{Listed, imagesSaid, listingText, tableSaid}
-use Rattle.listing_text.specs.Promises.{listed-front, listing-accepted, listing-table, listingChecks, orderSaid}
+use Rattle.listing_text.specs.Promises.{listed-front, listing-accepted, listing-exact, listing-table, listingChecks, orderSaid}
 use Rattle.listing_text.specs.declared.Last.{Last}
 use Rattle.listing_text.specs.declared.Last.the-variants.{FarEnd, ImageN}
 
@@ -91,10 +94,17 @@ abbrev pub rowsShown : List ℕ → List ℕ
 rowsShown s =
     let T = exactRows limit (imagesSaid s) (tableSaid s) in header (imagesSaid s) (length (fars T)) ++ rowLines (fars T) (costs T) (uppers (fars T))
 
+-- the order of that table from 1 to last, counted from 0 as the definitions of theory have it
+abbrev pub ringSaid : List ℕ → ℕ → List ℕ
+ringSaid s last = map (λ i. i - 1) (images (imagesSaid s) (tableSaid s) 1 last)
+
 -- the text is header and rows, which are the same whichever image is last, and the order from 1 to last, which has all images once
 pub record Printed (s text : List ℕ) (last : ℕ) : Type 0 where
   pub lines : text ≡ rowsShown s ++ orderLine (images (imagesSaid s) (tableSaid s) 1 last)
   pub ring : FromOneTo last (imagesSaid s) (images (imagesSaid s) (tableSaid s) 1 last)
+  -- no ring is shorter than this order, closed by the way back from last to image 1
+  pub least : (l : List ℕ) → AnOrder (imagesSaid s) l
+      → closed (cost (tableSaid s) (imagesSaid s)) (ringSaid s last) ≤ closed (cost (tableSaid s) (imagesSaid s)) l
 
 module _ (s : List ℕ) (e : listingChecks s ≡ Passed) where
   -- whichever image is last, the lines before the order line are the same
@@ -109,10 +119,18 @@ module _ (s : List ℕ) (e : listingChecks s ≡ Passed) where
   printed : (which : Last) {size : ℕ} {text : List ℕ} → Listed which s size text
       → Printed s (take size text) (lastImage which (imagesSaid s) (tableSaid s))
   printed which p =
+      let n = imagesSaid s in
+      let t = tableSaid s in
+      let last = lastImage which n t in
       let c = listing-table s e in
+      let o = last-other which n t c in
+      let x = listing-exact which s e in
+      let all = ordered limit (cost t n) n 0 (last - 1) (c .formed) (omega (arith, c .some)) (omega (arith, o .low, o .high)) (λ z. omega (arith, o .low)) in
       record {
         lines = listed-front which s p ∙ shown which;
-        ring = from-one (imagesSaid s) (tableSaid s) _ c (last-other which (imagesSaid s) (tableSaid s) c);
+        ring = from-one n t _ c o;
+        least = λ l a. subst (λ (r : List ℕ). closed (cost t n) r ≤ closed (cost t n) l) (sym (back-suc (order (cost t n) n 0 (last - 1))))
+            (all .least (x .0) (x .1 .exact) l a);
       }
 
   -- the listing closes its ring over the long link

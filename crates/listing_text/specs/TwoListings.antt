@@ -52,7 +52,7 @@ module _ (s : List ℕ) (e : listingChecks s ≡ Passed) where
       let o = last-other which n (tableSaid s) c in
       let a = ordered limit (cost (tableSaid s) n) n 0 (last - 1) (c .formed) (omega (arith, c .some)) (omega (arith, o .low, o .high))
       (λ z. omega (arith, o .low)) in
-      suc-small n (order (cost (tableSaid s) n) n 0 (last - 1)) (c .few) (a .images .range)
+      suc-small n (order (cost (tableSaid s) n) n 0 (last - 1)) (c .few) (a .images .all .range)
 
   -- the last image can be read off
   last-said : listingText FarEnd s ≡ listingText ImageN s → lastImage FarEnd (imagesSaid s) (tableSaid s) ≡ imagesSaid s
