@@ -1,16 +1,19 @@
 -- On the ring of the order every far side of an accepted table's tree is one run of neighbours (T-12).
 -- Assumes nothing.
-use mathlib.Core.Bool.{false, not}
-use mathlib.Core.List.{List, List·Memᴰ·head, List·Memᴰ·tail, [], append-nil, _∷_}
-use mathlib.Core.Path.{ap, refl, sym, _∙_, _≡_}
+use mathlib.Core.Bool.{false, true}
+use mathlib.Core.List.{List, List·Memᴰ, List·Memᴰ·head, List·Memᴰ·tail, Memᴰ·append-left, Memᴰ·append-right, [], append-nil, _++_, _∷_}
+use mathlib.Core.Path.{ap, ap₂, refl, subst, sym, _∙_, _≡_}
 use Prim.Native.Nat.{ℕ, _*_, _<_}
 use native.Mathlib.Omega.{arith}
 use lib.Dec.{eqb, ltb}
-use borrow.Author.Tests.{eqb-true, ltb-false, ltb-true}
+use borrow.Author.Tests.{eq-eqb, ltb-false, ltb-true, ne-eqb}
 use borrow.Table.Steps.{cases}
 use Rattle.ground.specs.Bits.{bit}
+use Rattle.ground.specs.Counts.{one-if}
 use Rattle.ground.specs.Filters.{Each}
 use Rattle.ground.specs.Laws.Filters.{each-cons, each-nil}
+use Rattle.ground.specs.Laws.Members.{mem-occurs, mem-split, occurs-mem}
+use Rattle.ground.specs.Laws.Sums.{sum-append}
 use Rattle.ground.specs.Members.{occurs}
 use Rattle.ground.specs.Tests.{one-of}
 use Rattle.theory.specs.FarSides.{FarSide, inner, own}
@@ -31,62 +34,50 @@ use Rattle.theory.specs.Tables.{WellFormed}
 -- ## One image alone is a run
 
 none-there : (i : ℕ) (l : List ℕ) → occurs i l ≡ 0 → Each l (λ u. eqb i u ≡ false)
-none-there i [] e = each-nil _
-none-there i (y ∷ l) e =
-    cases (eqb i y) (λ t. absurd (let r = rw t at e in omega (arith, r)))
-    (λ t. each-cons _ y l t (none-there i l (let r = rw t at e in omega (arith, r))))
+none-there i l e u m = ne-eqb i u (λ t. absurd (omega (arith, mem-occurs u l m, ap (λ (k : ℕ). occurs k l) t)))
 
-module _ (S f i : ℕ) where
-  -- f is in the other group
-  alone-run : (l : List ℕ) → Each l (λ u. apart S f u ≡ eqb i u) → occurs i l ≡ 1 → OneRun S f l
-  alone-run [] a e = absurd (omega arith)
-  alone-run (y ∷ l) a e =
-      cases (eqb i y)
-      (λ t.
-      let z : occurs i l ≡ 0 = (let r = rw t at e in omega (arith, r)) in
-      record {
-        before = [];
-        run = y ∷ [];
-        after = l;
-        is = refl;
-        all-before = each-nil _;
-        all-run = each-cons _ y [] (a y (List·Memᴰ·head refl) ∙ t) (each-nil _);
-        all-after = λ u m. a u (List·Memᴰ·tail m) ∙ none-there i l z u m;
-      })
-      (λ t.
-      let q = alone-run l (λ u m. a u (List·Memᴰ·tail m)) (let r = rw t at e in omega (arith, r)) in
-      record {
-        before = y ∷ q .before;
-        run = q .run;
-        after = q .after;
-        is = ap (λ z. y ∷ z) (q .is);
-        all-before = each-cons _ y (q .before) (a y (List·Memᴰ·head refl) ∙ t) (q .all-before);
-        all-run = q .all-run;
-        all-after = q .all-after;
-      })
-
-  -- f is that image
-  others-run : (l : List ℕ) → f ≡ i → Each l (λ u. apart S f u ≡ not (eqb i u)) → occurs i l ≡ 0 → OneRun S f (f ∷ l)
-  others-run l q a e = record {
-    before = f ∷ [];
-    run = l;
-    after = [];
-    is = ap (λ z. f ∷ z) (sym (append-nil l));
-    all-before = each-cons _ f [] (away-self S f) (each-nil _);
-    all-run = λ u m. a u m ∙ ap not (none-there i l e u m);
-    all-after = each-nil _;
-  }
-
--- an own link is one run on every ring
+-- an own link is one run on every ring: its image, or, where that is in front, all others
 pub own-run : (n i f : ℕ) (l : List ℕ) → i < n → AnOrder n (f ∷ l) → OneRun (own n i) f (f ∷ l)
 own-run n i f l h a =
-    let hf = a .range f (List·Memᴰ·head refl) in
-    let o : occurs i (f ∷ l) ≡ 1 = omega (arith, a .once i h) in
-    cases (eqb i f)
-    (λ e.
-    let r = rw e at o in
-    others-run (own n i) f i l (sym (eqb-true i f e)) (λ u m. own-parts n i f u hf (a .range u (List·Memᴰ·tail m)) ∙ ap (λ b. one-of b (eqb i u)) e) (omega (arith, r)))
-    (λ e. alone-run (own n i) f i (f ∷ l) (λ u m. own-parts n i f u hf (a .range u m) ∙ ap (λ b. one-of b (eqb i u)) e) o)
+    cases (eqb i f) in-front (λ e. behind e (mem-split i (f ∷ l) (occurs-mem i (f ∷ l) (omega (arith, a .once i h)))))
+  where
+    S : ℕ
+    S = own n i
+
+    -- what it parts from f
+    side : (u : ℕ) → List·Memᴰ u (f ∷ l) → apart S f u ≡ one-of (eqb i f) (eqb i u)
+    side u m = own-parts n i f u (a .range f (List·Memᴰ·head refl)) (a .range u m)
+
+    in-front : eqb i f ≡ true → OneRun S f (f ∷ l)
+    in-front e =
+        let z : occurs i l ≡ 0 = (let o = rw e at (a .once i h) in omega (arith, o)) in
+        record {
+          before = f ∷ [];
+          run = l;
+          after = [];
+          is = ap (λ z. f ∷ z) (sym (append-nil l));
+          all-before = each-cons _ f [] (away-self S f) (each-nil _);
+          all-run = λ u m. side u (List·Memᴰ·tail m) ∙ ap₂ one-of e (none-there i l z u m);
+          all-after = each-nil _;
+        }
+
+    behind : eqb i f ≡ false → (p : List ℕ) × (q : List ℕ) × (f ∷ l ≡ p ++ (i ∷ q)) → OneRun S f (f ∷ l)
+    behind e r =
+        let o = a .once i h in
+        let c = ap (occurs i) (r .2) ∙ sum-append (λ y. one-if (eqb i y)) (r .0) (i ∷ r .1) in
+        let here : one-if (eqb i i) ≡ 1 = ap one-if (eq-eqb i i refl) in
+        let there : (u : ℕ) → List·Memᴰ u (r .0 ++ (i ∷ r .1)) → List·Memᴰ u (f ∷ l) = λ u m. subst (List·Memᴰ u) (sym (r .2)) m in
+        record {
+          before = r .0;
+          run = i ∷ [];
+          after = r .1;
+          is = r .2;
+          all-before =
+              λ u m. side u (there u (Memᴰ·append-left (i ∷ r .1) m)) ∙ ap₂ one-of e (none-there i (r .0) (omega (arith, o, c)) u m);
+          all-run = each-cons _ i [] (side i (there i (Memᴰ·append-right (r .0) (List·Memᴰ·head refl))) ∙ ap₂ one-of e (eq-eqb i i refl)) (each-nil _);
+          all-after =
+              λ u m. side u (there u (Memᴰ·append-right (r .0) (List·Memᴰ·tail m))) ∙ ap₂ one-of e (none-there i (r .1) (omega (arith, o, c)) u m);
+        }
 
 -- ## The ring of the order
 
