@@ -41,6 +41,7 @@ pub mod RingRuns
 pub mod TakenOut
 pub mod Shortest
 pub mod NoShorter
+pub mod Scaled
 pub mod Line
 pub mod TimedLine
 pub mod Reached

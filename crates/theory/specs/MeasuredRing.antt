@@ -1,17 +1,20 @@
 -- The ring of a table that is a little off: what is left of the demands of the order where no entry differs by more than D from one of
 -- an accepted table. Assumes nothing.
 use mathlib.Core.List.{List}
-use mathlib.Core.Path.{_≡_}
+use mathlib.Core.Path.{_∙_, _≡_}
 use Prim.Native.Nat.{suc, zero, ℕ, _*_, _+_, _-_, _<_, _≤_}
+use native.Mathlib.Nat.{mul-assoc, mul-comm}
 use native.Mathlib.Omega.{arith}
 use Rattle.ground.specs.Filters.{Each}
 use Rattle.theory.specs.Demands.{ordered}
 use Rattle.theory.specs.FourPoint.{FourPoint}
 use Rattle.theory.specs.Laws.Line.{line-accepted}
+use Rattle.theory.specs.Laws.Limits.{formed-wide}
 use Rattle.theory.specs.Laws.Paths.{meets-four-point}
 use Rattle.theory.specs.Laws.Reached.{exchanged, exchanged-all, shorter-accepted, shorter-measured}
 use Rattle.theory.specs.Laws.RingRuns.{kept-runs}
 use Rattle.theory.specs.Laws.NoShorter.{closed-near, near-within, shortest-accepted, shortest-within}
+use Rattle.theory.specs.Laws.Scaled.{formed-scaled, four-scaled, near-scaled, scaled, shorter-scaled}
 use Rattle.theory.specs.Laws.Stable.{near-sym}
 use Rattle.theory.specs.Laws.TimedLine.{at, near-one, timed, timed-formed, wired, wired-formed}
 use Rattle.theory.specs.LinkTables.{Row}
@@ -48,39 +51,46 @@ accepted-ring L D d e n f last T c x p hf hl ne l a =
     let o = ordered L d n f last c hf hl ne in
     omega (arith, o .least T x l a, closed-near D d e n l p a, closed-near D e d n (order d n f last) (near-sym D d e n p) (o .images .all))
 
--- No smaller bound holds. Of n images: an accepted table d, a table e no entry of which differs by more than 1, and a ring that is
--- shorter than the order's by 4 for each image but three, by the one table and by the other.
-pub record Reached (L n : ℕ) : Type 0 where
+-- No smaller bound holds. Of n images: an accepted table d, a table e no entry of which differs by more than D, and a ring that is
+-- shorter than the order's by 4 D for each image but three, by the one table and by the other.
+pub record Reached (L D n : ℕ) : Type 0 where
   pub d : ℕ → ℕ → ℕ
   pub e : ℕ → ℕ → ℕ
   pub formed : WellFormed L d n × WellFormed L e n
   pub accepted : FourPoint d n
-  pub near : Near 1 d e n
+  pub near : Near D d e n
   pub first : ℕ
   pub last : ℕ
   pub images : (first < n) × (last < n) × (first ≡ last → ⊥)
   pub ring : List ℕ
   pub all : AnOrder n ring
-  pub by-measured : closed e (order e n first last) ≡ closed e ring + (n - 3) * 4
-  pub by-accepted : closed d (order e n first last) ≡ closed d ring + (n - 3) * 4
+  pub by-measured : closed e (order e n first last) ≡ closed e ring + (n - 3) * (4 * D)
+  pub by-accepted : closed d (order e n first last) ≡ closed d ring + (n - 3) * (4 * D)
 
--- For every n of document 01, under every limit that leaves room for 2 n: the images stand on a line, two of them at its ends, and the
--- shorter ring is the order's with its first two images exchanged.
-pub reached : (L n : ℕ) → 3 ≤ n → 2 * n ≤ L → Reached L n
-reached L zero h l = absurd (omega arith)
-reached L (suc zero) h l = absurd (omega arith)
-reached L (suc (suc zero)) h l = absurd (omega arith)
-reached L (suc (suc (suc k))) h l = record {
-  d = wired k;
-  e = timed k;
-  formed = (wired-formed k L l, timed-formed k L l);
-  accepted = line-accepted (at k) (suc (suc (suc k)));
-  near = near-one k;
-  first = suc (suc k);
-  last = 0;
-  images = (omega arith, omega arith, λ t. omega arith);
-  ring = exchanged k;
-  all = exchanged-all k;
-  by-measured = shorter-measured k;
-  by-accepted = shorter-accepted k;
-}
+-- For every n of document 01 and every D, under every limit that leaves room for 2 n D: the images stand on a line, two of them at its
+-- ends, and the shorter ring is the order's with its first two images exchanged.
+pub reached : (L D n : ℕ) → 1 ≤ D → 3 ≤ n → D * (2 * n) ≤ L → Reached L D n
+reached L D zero some h l = absurd (omega arith)
+reached L D (suc zero) some h l = absurd (omega arith)
+reached L D (suc (suc zero)) some h l = absurd (omega arith)
+reached L D (suc (suc (suc k))) some h l =
+    let n : ℕ = suc (suc (suc k)) in
+    let c = wired-formed k (2 * n) (omega arith) in
+    let times : D * ((n - 3) * 4) ≡ (n - 3) * (4 * D) = mul-comm D ((n - 3) * 4) ∙ mul-assoc (n - 3) 4 D in
+    record {
+      d = scaled D some (wired k);
+      e = scaled D some (timed k);
+      formed = (
+        formed-wide (D * (2 * n)) L _ n l (formed-scaled D some (wired k) (2 * n) n c),
+        formed-wide (D * (2 * n)) L _ n l (formed-scaled D some (timed k) (2 * n) n (timed-formed k (2 * n) (omega arith))),
+      );
+      accepted = four-scaled D some (wired k) n (line-accepted (at k) n) (λ i j hi hj. c .same hi hj);
+      near = near-scaled D some (wired k) (timed k) n (near-one k);
+      first = suc (suc k);
+      last = 0;
+      images = (omega arith, omega arith, λ t. omega arith);
+      ring = exchanged k;
+      all = exchanged-all k;
+      by-measured = rw (← times) (shorter-scaled D some (timed k) (timed k) n (suc (suc k)) 0 (exchanged k) ((n - 3) * 4) (shorter-measured k));
+      by-accepted = rw (← times) (shorter-scaled D some (wired k) (timed k) n (suc (suc k)) 0 (exchanged k) ((n - 3) * 4) (shorter-accepted k));
+    }

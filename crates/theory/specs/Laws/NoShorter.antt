@@ -11,6 +11,7 @@ use Rattle.theory.specs.FourPoint.{FourPoint, FourPointWithin}
 use Rattle.theory.specs.Laws.FourPoint.{four-low, four-within}
 use Rattle.theory.specs.Laws.Shortest.{order-size, ring-off}
 use Rattle.theory.specs.Laws.TakenOut.{Off}
+use Rattle.theory.specs.Laws.Walk.{order-all}
 use Rattle.theory.specs.Order.{AnOrder, along, closed, order}
 use Rattle.theory.specs.Readings.{Near}
 use Rattle.theory.specs.Tables.{WellFormed}
@@ -28,6 +29,16 @@ shortest-within L q d n f last hf hl ne c four l a =
 pub shortest : (L : ℕ) (d : ℕ → ℕ → ℕ) (n f last : ℕ) → f < n → last < n → (f ≡ last → ⊥) → WellFormed L d n → FourPoint d n
     → (l : List ℕ) → AnOrder n l → closed d (order d n f last) ≤ closed d l
 shortest L d n f last hf hl ne c four l a = omega (arith, shortest-within L 0 d n f last hf hl ne c (four-within d n four) l a, mul-zero (n - 3))
+
+-- whichever images are first and last, the ring costs the same
+pub any-ends : (L : ℕ) (d : ℕ → ℕ → ℕ) (n : ℕ) → WellFormed L d n → FourPoint d n → (f last : ℕ) → f < n → last < n → (f ≡ last → ⊥)
+    → (g end : ℕ) → g < n → end < n → (g ≡ end → ⊥) → closed d (order d n f last) ≡ closed d (order d n g end)
+any-ends L d n c four f last hf hl ne g end hg he ne′ =
+    omega (
+      arith,
+      shortest L d n f last hf hl ne c four (order d n g end) (order-all d n g hg end he ne′ .all),
+      shortest L d n g end hg he ne′ c four (order d n f last) (order-all d n f hf last hl ne .all),
+    )
 
 -- ## By two tables, no entry of which differs by more than D: e, by which the order is, and d, which has the condition
 
