@@ -39,8 +39,11 @@ pub mod ClosedSum
 pub mod Runs
 pub mod RingRuns
 pub mod TakenOut
+pub mod RingLeft
 pub mod Shortest
 pub mod NoShorter
+pub mod LastChoice
+pub mod TimedSum
 pub mod Scaled
 pub mod Line
 pub mod TimedLine

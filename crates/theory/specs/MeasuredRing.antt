@@ -1,9 +1,9 @@
 -- The ring of a table that is a little off: what is left of the demands of the order where no entry differs by more than D from one of
 -- an accepted table. Assumes nothing.
 use mathlib.Core.List.{List}
-use mathlib.Core.Path.{_∙_, _≡_}
-use Prim.Native.Nat.{suc, zero, ℕ, _*_, _+_, _-_, _<_, _≤_}
-use native.Mathlib.Nat.{mul-assoc, mul-comm}
+use mathlib.Core.Path.{_≡_}
+use Prim.Native.Nat.{max, suc, zero, ℕ, _*_, _+_, _-_, _<_, _≤_}
+use native.Mathlib.Nat.{mul-assoc}
 use native.Mathlib.Omega.{arith}
 use Rattle.ground.specs.Filters.{Each}
 use Rattle.theory.specs.Demands.{ordered}
@@ -11,13 +11,15 @@ use Rattle.theory.specs.FourPoint.{FourPoint}
 use Rattle.theory.specs.Laws.Line.{line-accepted}
 use Rattle.theory.specs.Laws.Limits.{formed-wide}
 use Rattle.theory.specs.Laws.Paths.{meets-four-point}
-use Rattle.theory.specs.Laws.Reached.{exchanged, exchanged-all, shorter-accepted, shorter-measured}
+use Rattle.theory.specs.Laws.Reached.{exchanged, exchanged-all, exchanged-timed, exchanged-wired, order-timed, order-wired}
 use Rattle.theory.specs.Laws.RingRuns.{kept-runs}
 use Rattle.theory.specs.Laws.NoShorter.{closed-near, near-within, shortest-accepted, shortest-within}
-use Rattle.theory.specs.Laws.Scaled.{formed-scaled, four-scaled, near-scaled, scaled, shorter-scaled}
+use Rattle.theory.specs.Laws.Scaled.{formed-scaled, four-scaled, longer-scaled, near-scaled, scaled}
 use Rattle.theory.specs.Laws.Stable.{near-sym}
 use Rattle.theory.specs.Laws.TimedLine.{at, near-one, timed, timed-formed, wired, wired-formed}
-use Rattle.theory.specs.LinkTables.{Row}
+use Rattle.theory.specs.Laws.TimedSum.{told-sum}
+use Rattle.theory.specs.Laws.Walk.{order-all}
+use Rattle.theory.specs.LinkTables.{Row, allCosts}
 use Rattle.theory.specs.Order.{AnOrder, closed, order}
 use Rattle.theory.specs.OrderRules.{OneRun}
 use Rattle.theory.specs.Readings.{Exact, Near}
@@ -30,6 +32,9 @@ pub record MeasuredRing (D : ℕ) (d e : ℕ → ℕ → ℕ) (n f : ℕ) (ring 
   pub accepted : (l : List ℕ) → AnOrder n l → closed d ring ≤ closed d l + (n - 3) * (4 * D)
   -- every far side of the tree with a doubled cost above 4 D is a run of neighbours on the closed ring
   pub far-runs : Each T (λ r. 4 * D < r .1 → OneRun (r .0) f ring)
+  -- what it costs by e is the sum of all doubled costs of the tree, than which no ring costs less by d, less n D at most, and more by
+  -- 3 n - 8 times D at most, or by 3 D for three images
+  pub told : (allCosts T ≤ closed e ring + n * D) × (closed e ring ≤ allCosts T + max n (3 * n - 8) * D)
   -- what any one ring costs by the two tables differs by no more than D for each of its n links
   pub sums : (l : List ℕ) → AnOrder n l → (closed d l ≤ closed e l + n * D) × (closed e l ≤ closed d l + n * D)
 
@@ -37,10 +42,16 @@ pub measured-ring : (L D : ℕ) (d e : ℕ → ℕ → ℕ) (n f last : ℕ) (T 
     → f < n → last < n → (f ≡ last → ⊥) → MeasuredRing D d e n f (order e n f last) T
 measured-ring L D d e n f last T c c′ x p hf hl ne =
     let four = meets-four-point L n T (x .tree) d (x .meets) in
+    let o = ordered L d n f last c hf hl ne in
+    let ring = order-all e n f hf last hl ne .all in
     record {
       measured = shortest-within L (4 * D) e n f last hf hl ne c′ (near-within L D d e n four p);
       accepted = shortest-accepted L D d e n four p f last hf hl ne c;
       far-runs = kept-runs L D d e n f last c′ p hf hl ne T x;
+      told = (
+        omega (arith, o .sums T x, o .least T x (order e n f last) ring, closed-near D d e n (order e n f last) p ring),
+        omega (arith, o .sums T x, told-sum L D d e n f hf c c′ four p (order d n f last) (o .images .all) last hl ne),
+      );
       sums = λ l a. (closed-near D d e n l p a, closed-near D e d n l (near-sym D d e n p) a);
     }
 
@@ -66,6 +77,8 @@ pub record Reached (L D n : ℕ) : Type 0 where
   pub all : AnOrder n ring
   pub by-measured : closed e (order e n first last) ≡ closed e ring + (n - 3) * (4 * D)
   pub by-accepted : closed d (order e n first last) ≡ closed d ring + (n - 3) * (4 * D)
+  -- by the one against the other
+  pub told : closed e (order e n first last) ≡ closed d ring + (3 * n - 8) * D
 
 -- For every n of document 01 and every D, under every limit that leaves room for 2 n D: the images stand on a line, two of them at its
 -- ends, and the shorter ring is the order's with its first two images exchanged.
@@ -76,7 +89,8 @@ reached L D (suc (suc zero)) some h l = absurd (omega arith)
 reached L D (suc (suc (suc k))) some h l =
     let n : ℕ = suc (suc (suc k)) in
     let c = wired-formed k (2 * n) (omega arith) in
-    let times : D * ((n - 3) * 4) ≡ (n - 3) * (4 * D) = mul-comm D ((n - 3) * 4) ∙ mul-assoc (n - 3) 4 D in
+    let times = mul-assoc (n - 3) 4 D in
+    let longer = longer-scaled D some in
     record {
       d = scaled D some (wired k);
       e = scaled D some (timed k);
@@ -91,6 +105,7 @@ reached L D (suc (suc (suc k))) some h l =
       images = (omega arith, omega arith, λ t. omega arith);
       ring = exchanged k;
       all = exchanged-all k;
-      by-measured = rw (← times) (shorter-scaled D some (timed k) (timed k) n (suc (suc k)) 0 (exchanged k) ((n - 3) * 4) (shorter-measured k));
-      by-accepted = rw (← times) (shorter-scaled D some (wired k) (timed k) n (suc (suc k)) 0 (exchanged k) ((n - 3) * 4) (shorter-accepted k));
+      by-measured = omega (arith, times, longer (timed k) (timed k) (timed k) n (suc (suc k)) 0 (exchanged k) ((n - 3) * 4) (omega (arith, order-timed k, exchanged-timed k)));
+      by-accepted = omega (arith, times, longer (wired k) (wired k) (timed k) n (suc (suc k)) 0 (exchanged k) ((n - 3) * 4) (omega (arith, order-wired k, exchanged-wired k)));
+      told = longer (timed k) (wired k) (timed k) n (suc (suc k)) 0 (exchanged k) (3 * n - 8) (omega (arith, order-timed k, exchanged-wired k));
     }

@@ -3,13 +3,14 @@
 use mathlib.Core.List.{List, List·Memᴰ·head, List·Memᴰ·tail, [], _∷_}
 use mathlib.Core.Path.{refl, _≡_}
 use Prim.Native.Nat.{suc, ℕ, _*_, _+_, _-_, _<_, _≤_}
-use native.Mathlib.Nat.{add-zero, mul-zero, suc-mul, zero-add}
+use native.Mathlib.Nat.{mul-add, mul-zero, suc-mul}
 use native.Mathlib.Omega.{arith}
 use lib.ListN.{length}
 use Rattle.ground.specs.Filters.{Each}
 use Rattle.theory.specs.FourPoint.{FourPoint, FourPointWithin}
 use Rattle.theory.specs.Laws.FourPoint.{four-low, four-within}
-use Rattle.theory.specs.Laws.Shortest.{order-size, ring-off}
+use Rattle.theory.specs.Laws.RingLeft.{order-size}
+use Rattle.theory.specs.Laws.Shortest.{ring-off}
 use Rattle.theory.specs.Laws.TakenOut.{Off}
 use Rattle.theory.specs.Laws.Walk.{order-all}
 use Rattle.theory.specs.Order.{AnOrder, along, closed, order}
@@ -22,8 +23,13 @@ use Rattle.theory.specs.Tables.{WellFormed}
 pub shortest-within : (L q : ℕ) (d : ℕ → ℕ → ℕ) (n f last : ℕ) → f < n → last < n → (f ≡ last → ⊥) → WellFormed L d n → FourPointWithin q d n
     → (l : List ℕ) → AnOrder n l → closed d (order d n f last) ≤ closed d l + (n - 3) * q
 shortest-within L q d n f last hf hl ne c four l a =
-    let o : Off d d n f 0 q = record { same = λ hi hj. c .same hi hj; chosen = λ hx hw hu s. omega arith; four = four } in
-    rw (← zero-add q) (ring-off d d n f 0 q hf o l a last hl ne)
+    let o : Off d d d n f 0 q 0 = record {
+      same = λ hi hj. c .same hi hj;
+      above = λ hi hj. omega arith;
+      chosen = λ hx hw hu t. omega (arith, c .same hw hx);
+      four = four;
+    } in
+    omega (arith, ring-off d d d n f 0 q 0 hf o l a last hl ne, mul-add (n - 3) 0 q, mul-zero (n - 3))
 
 -- no ring is shorter at all
 pub shortest : (L : ℕ) (d : ℕ → ℕ → ℕ) (n f last : ℕ) → f < n → last < n → (f ≡ last → ⊥) → WellFormed L d n → FourPoint d n
@@ -52,12 +58,13 @@ module _ (L D : ℕ) (d e : ℕ → ℕ → ℕ) (n : ℕ) (four : FourPoint d n
   pub shortest-accepted : (f last : ℕ) → f < n → last < n → (f ≡ last → ⊥) → WellFormed L d n → (l : List ℕ) → AnOrder n l
       → closed d (order e n f last) ≤ closed d l + (n - 3) * (4 * D)
   shortest-accepted f last hf hl ne c l a =
-      let o : Off e d n f (4 * D) 0 = record {
+      let o : Off e d d n f (4 * D) 0 0 = record {
         same = λ hi hj. c .same hi hj;
-        chosen = λ hx hw hu s. omega (arith, p .up hx hw, p .up hf hu, p .down hx hu, p .down hf hw);
+        above = λ hi hj. omega arith;
+        chosen = λ hx hw hu t. omega (arith, p .up hx hw, p .up hf hu, p .down hx hu, p .down hf hw, c .same hw hx);
         four = four-within d n four;
       } in
-      rw (← add-zero (4 * D)) (ring-off e d n f (4 * D) 0 hf o l a last hl ne)
+      omega (arith, ring-off e d d n f (4 * D) 0 0 hf o l a last hl ne, mul-add (n - 3) (4 * D) 0, mul-zero (n - 3))
 
 -- ## One ring by two tables
 

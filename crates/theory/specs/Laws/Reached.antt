@@ -4,6 +4,7 @@ use mathlib.Core.List.{List, List·Memᴰ·tail, [], _∷_}
 use mathlib.Core.Logic.{inl, inr, _⊎_}
 use mathlib.Core.Path.{ap, sym, _∙_, _≡_}
 use Prim.Native.Nat.{suc, zero, ℕ, _*_, _+_, _-_, _<_, _≤_}
+use native.Mathlib.Nat.{suc-mul, zero-mul}
 use native.Mathlib.Omega.{arith}
 use lib.Dec.{eqb, leb, ltb}
 use borrow.Author.Tests.{eq-eqb, eqb-false, eqb-true, le-ltb, leb-false, leb-true, lt-ltb, ltb-false, ltb-true, ne-eqb}
@@ -34,10 +35,10 @@ occurs-down i (suc m) =
     (λ l. let y = ltb-true i m l in rw (e, ih, l, lt-ltb i (suc m) (omega arith)) (omega arith))
     (λ l. let y = ltb-false i m l in rw (e, ih, l, le-ltb i (suc m) (omega (arith, t))) (omega arith)))
 
--- along the descending numbers only the last step knows where the ring goes back to
-back-to : (w : ℕ → ℕ → ℕ) (f g m : ℕ) → along w f m (down m) + w 0 g ≡ along w g m (down m) + w 0 f
-back-to w f g zero = omega arith
-back-to w f g (suc m) = omega (arith, back-to w f g m)
+-- along them, where each step costs c
+along-down : (w : ℕ → ℕ → ℕ) (c k h m : ℕ) → m ≤ k → ((i : ℕ) → i < k → w (suc i) i ≡ c) → along w h m (down m) ≡ m * c + w 0 h
+along-down w c k h zero l e = omega (arith, zero-mul c)
+along-down w c k h (suc m) l e = omega (arith, e m (omega arith), along-down w c k h m (omega arith) e, suc-mul m c)
 
 module _ (k : ℕ) where
   free-is : (u m : ℕ) → (u ≡ first k → ⊥) → m ≤ u → free (first k) (down m) u ≡ true
@@ -99,32 +100,28 @@ module _ (k : ℕ) where
         once = λ i h. omega (arith, a .once i h);
       }
 
-  shorter : (w : ℕ → ℕ → ℕ) → w (first k) (suc k) ≡ w (suc k) (first k) → w (suc k) k + w 0 (first k) ≡ w (first k) k + w 0 (suc k) + 4 * k
-      → closed w (order (timed k) (n k) (first k) 0) ≡ closed w exchanged + (n k - 3) * 4
-  shorter w s g = ap (closed w) ordered-down ∙ omega (arith, back-to w (first k) (suc k) k)
+  -- ## What both rings cost, by either table
 
-  pub shorter-measured : closed (timed k) (order (timed k) (n k) (first k) 0) ≡ closed (timed k) exchanged + (n k - 3) * 4
-  shorter-measured =
-      shorter (timed k) (timed-same k (first k) (suc k))
-      (omega (
-        arith,
-        timed-same k (suc k) k,
-        timed-same k 0 (first k),
-        end k k (omega arith) .1,
-        front k 0 (omega arith) .1,
-        front k k (omega arith) .1,
-        end k 0 (omega arith) .1,
-      ))
+  timed-steps : (h : ℕ) → along (timed k) h k (down k) ≡ k * 3 + timed k 0 h
+  timed-steps h = along-down (timed k) 3 k h k (omega arith) (λ i l. omega (arith, timed-same k (suc i) i, low k i (suc i) (omega arith) (omega arith) .1))
 
-  pub shorter-accepted : closed (wired k) (order (timed k) (n k) (first k) 0) ≡ closed (wired k) exchanged + (n k - 3) * 4
-  shorter-accepted =
-      shorter (wired k) (line-same (at k) (first k) (suc k))
-      (omega (
-        arith,
-        line-same (at k) (suc k) k,
-        line-same (at k) 0 (first k),
-        end k k (omega arith) .0,
-        front k 0 (omega arith) .0,
-        front k k (omega arith) .0,
-        end k 0 (omega arith) .0,
-      ))
+  wired-steps : (h : ℕ) → along (wired k) h k (down k) ≡ k * 4 + wired k 0 h
+  wired-steps h = along-down (wired k) 4 k h k (omega arith) (λ i l. omega (arith, line-same (at k) (suc i) i, low k i (suc i) (omega arith) (omega arith) .0))
+
+  pub order-timed : closed (timed k) (order (timed k) (n k) (first k) 0) ≡ 9 * k + 7
+  order-timed =
+      ap (closed (timed k)) ordered-down
+      ∙ omega (arith, timed-steps (first k), ends k .1, timed-same k (suc k) k, end k k (omega arith) .1, timed-same k 0 (first k), front k 0 (omega arith) .1)
+
+  pub exchanged-timed : closed (timed k) exchanged ≡ 5 * k + 7
+  exchanged-timed =
+      omega (arith, timed-steps (suc k), timed-same k (suc k) (first k), ends k .1, front k k (omega arith) .1, end k 0 (omega arith) .1)
+
+  pub order-wired : closed (wired k) (order (timed k) (n k) (first k) 0) ≡ 10 * k + 6
+  order-wired =
+      ap (closed (wired k)) ordered-down
+      ∙ omega (arith, wired-steps (first k), ends k .0, line-same (at k) (suc k) k, end k k (omega arith) .0, line-same (at k) 0 (first k), front k 0 (omega arith) .0)
+
+  pub exchanged-wired : closed (wired k) exchanged ≡ 6 * k + 6
+  exchanged-wired =
+      omega (arith, wired-steps (suc k), line-same (at k) (suc k) (first k), ends k .0, front k k (omega arith) .0, end k 0 (omega arith) .0)

@@ -2,7 +2,7 @@
 use mathlib.Core.List.{List, [], _∷_}
 use mathlib.Core.Path.{ap, refl, sym, _∙_, _≡_}
 use Prim.Native.Nat.{max, suc, zero, ℕ, _*_, _+_, _-_, _<_, _≤_}
-use native.Mathlib.Nat.{mul-add, mul-le-mul-left, mul-lt-mul-of-pos-left, mul-one, mul-zero}
+use native.Mathlib.Nat.{mul-add, mul-comm, mul-le-mul-left, mul-lt-mul-of-pos-left, mul-one, mul-zero}
 use native.Mathlib.Omega.{arith}
 use lib.Dec.{leb, ltb}
 use borrow.Author.Tests.{le-ltb, leb-false, leb-true, lt-ltb, ltb-false, ltb-true}
@@ -71,9 +71,9 @@ module _ (D : ℕ) (some : 0 < D) where
       go : (a b : ℕ) → a ≤ b + 1 → D * a ≤ D * b + D
       go a b u = omega (arith, mul-le-mul-left D u, mul-add D b 1, mul-one D)
 
-  -- a ring that is shorter than the order's by s is then shorter by so many times s
-  pub shorter-scaled : (w e : ℕ → ℕ → ℕ) (n f last : ℕ) (l : List ℕ) (s : ℕ) → closed w (order e n f last) ≡ closed w l + s
-      → closed (scaled w) (order (scaled e) n f last) ≡ closed (scaled w) l + D * s
-  shorter-scaled w e n f last l s p =
+  -- by how much the order's ring, by w, is longer than another, by v
+  pub longer-scaled : (w v e : ℕ → ℕ → ℕ) (n f last : ℕ) (l : List ℕ) (s : ℕ) → closed w (order e n f last) ≡ closed v l + s
+      → closed (scaled w) (order (scaled e) n f last) ≡ closed (scaled v) l + s * D
+  longer-scaled w v e n f last l s p =
       ap (λ (r : List ℕ). closed (scaled w) (f ∷ r)) (grow-scaled e n f (n - 2) last [])
-      ∙ omega (arith, closed-scaled w (order e n f last), closed-scaled w l, ap (λ (x : ℕ). D * x) p, mul-add D (closed w l) s)
+      ∙ omega (arith, closed-scaled w (order e n f last), closed-scaled v l, ap (λ (x : ℕ). D * x) p, mul-add D (closed v l) s, mul-comm D s)

@@ -10,11 +10,13 @@ use Rattle.ground.specs.Filters.{Each}
 use Rattle.theory.specs.FourPoint.{FourPointWithin}
 use Rattle.theory.specs.Order.{along, closed}
 
--- an order by the table g, from f on, and what is asked of a table d by which its ring is summed up: the image that g chooses is by d
--- off the best by p at most, and the four-point condition by q
-pub record Off (g d : ℕ → ℕ → ℕ) (n f p q : ℕ) : Type 0 where
+-- an order by the table g, from f on, the table s by which its ring is summed up, and what is asked of a table d by which another ring
+-- is: s is above d by r at most, the image that g chooses costs by s more than the best by d by p at most, and the four-point
+-- condition of d fails by q at most
+pub record Off (g s d : ℕ → ℕ → ℕ) (n f p q r : ℕ) : Type 0 where
   pub same : {i j : ℕ} → i < n → j < n → d i j ≡ d j i
-  pub chosen : {x w u : ℕ} → x < n → w < n → u < n → g x w + g f u ≤ g x u + g f w → d x w + d f u ≤ d x u + d f w + p
+  pub above : {i j : ℕ} → i < n → j < n → s i j ≤ d i j + r
+  pub chosen : {x w u : ℕ} → x < n → w < n → u < n → g x w + g f u ≤ g x u + g f w → s w x + d f u ≤ d x u + d f w + p
   pub four : FourPointWithin q d n
 
 -- ## A ring may begin anywhere
@@ -29,7 +31,7 @@ module _ (d : ℕ → ℕ → ℕ) where
   closed-turn f [] b = ap (λ (l : List ℕ). along d f f l) (sym (append-nil b))
   closed-turn f (y ∷ a) b = omega (arith, along-through y y f a b, along-through f f y b a)
 
-module _ (g d : ℕ → ℕ → ℕ) (n f p q : ℕ) (hf : f < n) (o : Off g d n f p q) where
+module _ (g s d : ℕ → ℕ → ℕ) (n f p q r : ℕ) (hf : f < n) (o : Off g s d n f p q r) where
   -- ## One image is taken out
 
   module _ (x w : ℕ) (hx : x < n) (hw : w < n) where
@@ -38,7 +40,7 @@ module _ (g d : ℕ → ℕ → ℕ) (n f p q : ℕ) (hf : f < n) (o : Off g d n
     Other u = (u < n) × (g x w + g f u ≤ g x u + g f w)
 
     -- from between two others
-    between : (u v : ℕ) → Other u → Other v → d u v + d x w + d f x ≤ d u x + d x v + d f w + (p + q)
+    between : (u v : ℕ) → Other u → Other v → d u v + s w x + d f x ≤ d u x + d x v + d f w + (p + q)
     between u v a b =
         omega (
           arith,
@@ -52,23 +54,22 @@ module _ (g d : ℕ → ℕ → ℕ) (n f p q : ℕ) (hf : f < n) (o : Off g d n
         )
 
     pub taken : (y : ℕ) (a b : List ℕ) → Other y ⊎ ((y ≡ f) × (0 < length (a ++ b))) → Each (a ++ b) Other
-        → along d f y (a ++ b) + d x w + d f x ≤ along d f y (a ++ (x ∷ b)) + d f w + (p + q)
-    taken y [] [] (inl t) r = omega (arith, o .chosen hx hw (t .0) (t .1), o .same (t .0) hf, o .same hx (t .0), o .same hx hf)
-    taken y [] [] (inr t) r = absurd (omega (arith, t .1))
-    taken y [] (u ∷ b) (inl t) r = omega (arith, between y u t (r u (List·Memᴰ·head refl)))
-    taken y [] (u ∷ b) (inr t) r =
-        let v = r u (List·Memᴰ·head refl) in rw (t .0) (omega (arith, o .chosen hx hw (v .0) (v .1)))
-    taken y (z ∷ a) b t r = omega (arith, taken z a b (inl (r z (List·Memᴰ·head refl))) (λ u m. r u (List·Memᴰ·tail m)))
+        → along d f y (a ++ b) + s w x + d f x ≤ along d f y (a ++ (x ∷ b)) + d f w + (p + q)
+    taken y [] [] (inl t) c = omega (arith, o .chosen hx hw (t .0) (t .1), o .same (t .0) hf, o .same hx (t .0), o .same hx hf)
+    taken y [] [] (inr t) c = absurd (omega (arith, t .1))
+    taken y [] (u ∷ b) (inl t) c = omega (arith, between y u t (c u (List·Memᴰ·head refl)))
+    taken y [] (u ∷ b) (inr t) c =
+        let v = c u (List·Memᴰ·head refl) in rw (t .0) (omega (arith, o .chosen hx hw (v .0) (v .1)))
+    taken y (z ∷ a) b t c = omega (arith, taken z a b (inl (c z (List·Memᴰ·head refl))) (λ u m. c u (List·Memᴰ·tail m)))
 
-    -- nothing is lost where w alone is left
+    -- where w alone is left
     pub alone : (a b : List ℕ) → List·Memᴰ w (a ++ b) → length (a ++ b) ≡ 1
-        → along d f f (a ++ b) + d x w + d f x ≤ along d f f (a ++ (x ∷ b)) + d f w
+        → along d f f (a ++ b) + s w x + d f x ≤ along d f f (a ++ (x ∷ b)) + d f w + r
     alone [] [] m e = absurd (omega arith)
-    alone [] (v ∷ []) m e = let q = List·Memᴰ·eq-of-singleton m in omega (arith, ap (d x) q, ap (d f) q)
+    alone [] (v ∷ []) m e = let t = List·Memᴰ·eq-of-singleton m in omega (arith, ap (d x) t, ap (d f) t, o .above hw hx, o .same hw hx)
     alone [] (v ∷ u ∷ b) m e = absurd (omega arith)
     alone (v ∷ []) [] m e =
-        let q = List·Memᴰ·eq-of-singleton m in
-        let hv : v < n = omega arith in
-        omega (arith, ap (d x) q, ap (d f) q, o .same hv hx, o .same hf hx, o .same hf hv)
+        let t = List·Memᴰ·eq-of-singleton m in
+        omega (arith, ap (λ (i : ℕ). d i x) t, ap (λ (i : ℕ). d i f) t, o .above hw hx, o .same hf hx, o .same hf hw)
     alone (v ∷ []) (u ∷ b) m e = absurd (omega arith)
     alone (v ∷ u ∷ a) b m e = absurd (omega arith)
