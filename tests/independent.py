@@ -2012,7 +2012,8 @@ def test_ring_of_timings(dice):
     """Where no entry is more than D away from one of a tree table, no ring is shorter by more than 4(n-3)D, by
     the timings or by the tree table, nor, by the timings, by more than n-3 times what four images fail by; and
     each far side of the tree with a doubled cost above 4D is one run. By the timings no ring is shorter than the
-    tree table's own by more than 2nD. The timed line reaches the first bound, for every n."""
+    tree table's own by more than 2nD, and the ring costs what the shortest costs by the tree table, less nD or
+    more by (3n-8)D at most, 3D for three images. The timed line reaches both bounds, for every n."""
     for n in (3, 4, 5, 6, 7, 8):
         for _ in range(30):
             rows = tree_rows(dice, n, random_shape(dice), dice.one_of([2, 6, 20, 100]))
@@ -2026,6 +2027,8 @@ def test_ring_of_timings(dice):
                 assert closed_sum(n, moved, ring) <= least + (n - 3) * off
                 assert closed_sum(n, t, ring) <= least_wired + (n - 3) * 4 * distance
                 assert closed_sum(n, moved, own) <= least + 2 * n * distance
+                told = closed_sum(n, moved, ring) - least_wired
+                assert -n * distance <= told <= max(n, 3 * n - 8) * distance
                 assert all(is_one_run(far, ring) for far, cost in rows if cost > 4 * distance)
     for n in range(3, 65):
         wired, timed = timed_line(n)
@@ -2035,6 +2038,7 @@ def test_ring_of_timings(dice):
         assert all(abs(a - b) == 1 for (i, a), b in zip(enumerate(wired), timed) if i % (n + 1))
         for t in (wired, timed):
             assert closed_sum(n, t, ring) - closed_sum(n, t, exchanged) == 4 * (n - 3)
+        assert closed_sum(n, timed, ring) - closed_sum(n, wired, exchanged) == 3 * n - 8
         if n < 9:
             assert closed_sum(n, wired, exchanged) == least_closed_sum(n, wired)
 

@@ -17,7 +17,8 @@ use Rattle.order.specs.Outcome.{counted, orderOutcome}
 use Rattle.order.specs.Promises.{order-wrote}
 
 -- Where no entry differs by more than D from one of an accepted table d with the tree T, no ring is shorter than the one that was left
--- by more than 4 D for each image but three, by either table; and every far side of T with a doubled cost above 4 D is one run on it.
+-- by more than 4 D for each image but three, by either table; every far side of T with a doubled cost above 4 D is one run on it; and
+-- what it costs by t is the sum of all doubled costs of T, less n D or more by 3 n - 8 times D at most.
 pub order-measured : (L n : ℕ) (t : List ℕ) (first last : ℕ) (e₀ : List ℕ) (r : Written) (e : List ℕ) (count : ℕ)
     → Left (orderOutcome L n t first last e₀) r e → r ≡ Places count
     → (D : ℕ) (d : ℕ → ℕ → ℕ) (T : List Row) → WellFormed L d n → Exact L d n T → Near D d (cost t n) n

@@ -96,37 +96,23 @@ module _ (g s d : ℕ → ℕ → ℕ) (n f p q r : ℕ) (hf : f < n) (o : Off g
         let hu = all .range u (occurs-mem u m (omega (arith, a .same u))) in
         (hu, v .least u hu (eq-eqb (occurs u (f ∷ x ∷ l)) 0 (omega (arith, a .same u, all .once u hu))))
 
-    -- x is taken out
-    pub more : Left (k + (p + q)) w (x ∷ l)
-    more = record {
+    -- x is taken out, and j is lost
+    without : (j : ℕ) → along d f f (a .before ++ a .behind) + s w x + d f x ≤ along d f f (a .before ++ (x ∷ a .behind)) + d f w + j → Left (k + j) w (x ∷ l)
+    without j e = record {
       rest = a .before ++ a .behind;
       same = a .same;
       size = a .size;
-      most =
-          omega (
-            arith,
-            h .most,
-            ap (along d f f) (a .is),
-            taken g s d n f p q r hf o x w hx (v .below) f (a .before) (a .behind)
-                (inr (refl, mem-some w (a .before ++ a .behind) next-there)) others,
-          );
+      most = omega (arith, h .most, ap (along d f f) (a .is));
     }
+
+    pub more : Left (k + (p + q)) w (x ∷ l)
+    more =
+        let some = mem-some w (a .before ++ a .behind) next-there in
+        without (p + q) (taken g s d n f p q r hf o x w hx (v .below) f (a .before) (a .behind) (inr (refl, some)) others)
 
     -- where w alone is left then
     pub last-one : length l + 3 ≡ n → Left (k + r) w (x ∷ l)
-    last-one e = record {
-      rest = a .before ++ a .behind;
-      same = a .same;
-      size = a .size;
-      most =
-          omega (
-            arith,
-            h .most,
-            ap (along d f f) (a .is),
-            alone g s d n f p q r hf o x w hx (v .below) (a .before) (a .behind) next-there
-                (omega (arith, a .size)),
-          );
-    }
+    last-one e = without r (alone g s d n f p q r hf o x w hx (v .below) (a .before) (a .behind) next-there (omega (arith, a .size)))
 
   pub weaker : (k j x : ℕ) (l : List ℕ) → k ≤ j → Left k x l → Left j x l
   weaker k j x l e h = record { rest = h .rest; same = h .same; size = h .size; most = omega (arith, h .most) }

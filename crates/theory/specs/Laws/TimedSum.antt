@@ -24,8 +24,6 @@ use Rattle.theory.specs.Readings.{Near}
 use Rattle.theory.specs.Tables.{WellFormed}
 
 module _ (L D : ℕ) (d e : ℕ → ℕ → ℕ) (n f : ℕ) (hf : f < n) (c : WellFormed L d n) (c′ : WellFormed L e n) (four : FourPoint d n) (p : Near D d e n) where
-  -- ## From the first image to the last
-
   module _ (m : List ℕ) (all : AnOrder n m) where
     abbrev Rest : ℕ → ℕ → List ℕ → Type 0
     Rest = Left e e d n f (3 * D) 0 D hf (off L D d e n f hf c c′ four p) m all
