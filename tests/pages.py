@@ -6,7 +6,8 @@
 Of README.md, docs/, tests/README.md, bench/README.md and the README of theory: each file of a crate that a page names is there, and the
 names that stand in brackets with it occur in it. Of docs/PROMISES.md: its table of edits has each edit of each crate and no other, and
 says how many there are; its table of cases has each call that cases are made for, and as many as its file has lines. Of each edit: the
-text that it replaces occurs once in its file. Of README.md: its table of crates has each crate of crates.txt and no other.
+text that it replaces occurs once in its file. Of README.md: its table of crates has each crate of crates.txt and no other, and what it
+shows of the rings is examples/ring.txt.
 
 Prints a line for each check that fails, and one with the numbers. Status 0 where none failed, 1 otherwise.
 """
@@ -100,6 +101,7 @@ def main():
     rows = re.findall(r"^\| (`[\w`, ]+`) \|", read("README.md").split("| Crate | What it has |")[1], re.MULTILINE)
     named = [name for row in rows for name in re.findall(r"`(\w+)`", row)]
     check(f"README.md: its table of crates against crates.txt: {sorted(set(named) ^ set(crates))}", sorted(named) == sorted(crates))
+    check("README.md: the rings of examples/ring.txt", read("examples/ring.txt") in read("README.md"))
     print(f"pages: {checks} checks, {failures} failed")
     return 1 if failures else 0
 
