@@ -39,7 +39,7 @@ fn check_order(n: usize, t: &[u32], first: usize, last: usize, room: usize) -> C
 }
 
 // The order around the tree of a well-formed table, from first to last, images 1 to n: n places of out, or the refusal. Everything is
-// checked before the first store.
+// checked before the first store. No ring is shorter than what it leaves, where the table is an accepted one: specs/Promises.antt.
 pub fn order(n: usize, t: &[u32], first: usize, last: usize, out: &mut [u32]) -> Written
     ensures { λ r. ⌜ Left (orderOutcome limit n (now (t .entry)) first last (now (out .entry))) r (now (out .exit)) ⌝ }
 {
