@@ -1,6 +1,6 @@
 -- What the order line of a listing says: all images once, from 1 to the last image; and which image that is. Images are 1 to n here, as in
 -- the listing. Assumes nothing.
-use mathlib.Core.List.{List, append-assoc, map, _++_}
+use mathlib.Core.List.{List, append-assoc, _++_}
 use mathlib.Core.Path.{ap, refl, subst, sym, _∙_, _≡_}
 use Prim.Native.Nat.{suc, ℕ, _-_, _≤_}
 use native.Mathlib.Omega.{arith}
@@ -12,6 +12,7 @@ use Rattle.ground.specs.declared.Check.the-variants.{Passed}
 use Rattle.theory.specs.Demands.{ordered}
 use Rattle.theory.specs.LinkTables.{costs, fars}
 use Rattle.theory.specs.Order.{AnOrder, closed, order}
+use Rattle.theory.specs.OrderRules.{countedFrom0}
 use Rattle.theory.specs.Routes.{uppers}
 use Rattle.theory.specs.Tables.{CostTable, cost, limit}
 use Rattle.far_end.specs.FarEnd.{IsFarEnd, farEnd}
@@ -94,17 +95,13 @@ abbrev pub rowsShown : List ℕ → List ℕ
 rowsShown s =
     let T = exactRows limit (imagesSaid s) (tableSaid s) in header (imagesSaid s) (length (fars T)) ++ rowLines (fars T) (costs T) (uppers (fars T))
 
--- the order of that table from 1 to last, counted from 0 as the definitions of theory have it
-abbrev pub ringSaid : List ℕ → ℕ → List ℕ
-ringSaid s last = map (λ i. i - 1) (images (imagesSaid s) (tableSaid s) 1 last)
-
 -- the text is header and rows, which are the same whichever image is last, and the order from 1 to last, which has all images once
 pub record Printed (s text : List ℕ) (last : ℕ) : Type 0 where
   pub lines : text ≡ rowsShown s ++ orderLine (images (imagesSaid s) (tableSaid s) 1 last)
   pub ring : FromOneTo last (imagesSaid s) (images (imagesSaid s) (tableSaid s) 1 last)
   -- no ring is shorter than this order, closed by the way back from last to image 1
   pub least : (l : List ℕ) → AnOrder (imagesSaid s) l
-      → closed (cost (tableSaid s) (imagesSaid s)) (ringSaid s last) ≤ closed (cost (tableSaid s) (imagesSaid s)) l
+      → closed (cost (tableSaid s) (imagesSaid s)) (countedFrom0 (images (imagesSaid s) (tableSaid s) 1 last)) ≤ closed (cost (tableSaid s) (imagesSaid s)) l
 
 module _ (s : List ℕ) (e : listingChecks s ≡ Passed) where
   -- whichever image is last, the lines before the order line are the same

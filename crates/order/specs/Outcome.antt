@@ -11,6 +11,7 @@ use Rattle.ground.specs.Refusals.{outside, placesIf, refusal, refuseIf, roomChe
 use Rattle.ground.specs.declared.Check.{Check}
 use Rattle.ground.specs.declared.Written.{Written}
 use Rattle.theory.specs.Order.{order}
+use Rattle.theory.specs.OrderRules.{countedFrom0}
 use Rattle.theory.specs.Tables.{CostTable, cost}
 use Rattle.tables.specs.Checks.{costsCheck, sizeCheck}
 
@@ -33,7 +34,7 @@ images n t first last = map suc (order (cost t n) n (first - 1) (last - 1))
 
 -- the images at the first n places of e, counted from 0 as the definitions of theory have them
 abbrev pub counted : ℕ → List ℕ → List ℕ
-counted n e = map (λ i. i - 1) (take n e)
+counted n e = countedFrom0 (take n e)
 
 -- n places, and the order at the front of them; or the first refusal
 abbrev pub orderOutcome : ℕ → ℕ → List ℕ → ℕ → ℕ → List ℕ → Outcome Written

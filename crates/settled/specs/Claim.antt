@@ -23,12 +23,13 @@ use Rattle.theory.specs.FourPoint.{failing}
 use Rattle.theory.specs.Index.{shifted}
 use Rattle.theory.specs.LinkTables.{Row, fars}
 use Rattle.theory.specs.Order.{AnOrder, closed, grow, next}
+use Rattle.theory.specs.OrderRules.{countedFrom0}
 use Rattle.theory.specs.Readings.{Exact}
 use Rattle.theory.specs.Tables.{CostTable, limit}
 use Rattle.tables.specs.Laws.Formed.{cost-table}
 use Rattle.counts.specs.Differ.{differ}
 use Rattle.settled.specs.Examples.{exampleA, exampleB, exampleC, exampleD, exampleE, exampleEG, exampleF, exampleG, exampleH, orderH, ringH, settled}
-use Rattle.settled.specs.Settled.{Holds, Settled, around, compared, counted, ordered, reads, refused, rowsRead, shortest, tableChecks, untimed}
+use Rattle.settled.specs.Settled.{Holds, Settled, around, compared, ordered, reads, refused, rowsRead, shortest, tableChecks, untimed}
 use Rattle.settled.specs.Triangles.{square, table}
 use Rattle.wiring.specs.Check.{wiringCheck}
 
@@ -68,8 +69,8 @@ Computed (untimed n t i j) = tableChecks n t ≡ Refused (refusal 20 i j 0 0)
 Computed (ordered n t first last l s) =
     (tableChecks n t ≡ Passed) × (map suc (around n t first last) ≡ l) × (closed (table n t) (around n t first last) ≡ s)
 Computed (shortest n t l s) =
-    Accepted n t × (filter (λ i. leb n i) (counted l) ≡ []) × (filter (λ i. not (eqb (occurs i (counted l)) 1)) (from 0 n) ≡ [])
-    × (closed (table n t) (counted l) ≡ s) × (s ≡ closed (table n t) (around n t 1 2))
+    Accepted n t × (filter (λ i. leb n i) (countedFrom0 l) ≡ []) × (filter (λ i. not (eqb (occurs i (countedFrom0 l)) 1)) (from 0 n) ≡ [])
+    × (closed (table n t) (countedFrom0 l) ≡ s) × (s ≡ closed (table n t) (around n t 1 2))
 Computed (compared n t u x) = Accepted n t × Accepted n u × (differ n (fars (rowsRead n t)) (fars (rowsRead n u)) ≡ x)
 
 computed : (x : Settled) → Computed x → Holds x
@@ -78,7 +79,7 @@ computed (refused n t i j k l T) p = (is-table n t (p .0), p .1, p .2)
 computed (untimed n t i j) p = p
 computed (ordered n t first last l s) p = (is-table n t (p .0), p .1, p .2)
 computed (shortest n t l s) p =
-    (is-order n (counted l) (p .1) (p .2), p .3, λ m a. omega (arith, p .4, none-shorter n t (p .0 .0) (p .0 .1) m a))
+    (is-order n (countedFrom0 l) (p .1) (p .2), p .3, λ m a. omega (arith, p .4, none-shorter n t (p .0 .0) (p .0 .1) m a))
 computed (compared n t u x) p = (is-exact n t _ (p .0 .0) (p .0 .1) refl, is-exact n u _ (p .1 .0) (p .1 .1) refl, p .2)
 
 pub claim : Each settled Holds

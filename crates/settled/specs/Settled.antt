@@ -7,6 +7,7 @@ use Rattle.ground.specs.declared.Check.{Check}
 use Rattle.ground.specs.declared.Check.the-variants.{Refused}
 use Rattle.theory.specs.LinkTables.{Row, fars}
 use Rattle.theory.specs.Order.{AnOrder, closed, order}
+use Rattle.theory.specs.OrderRules.{countedFrom0}
 use Rattle.theory.specs.Readings.{Exact, measured}
 use Rattle.theory.specs.Tables.{CostTable, limit}
 use Rattle.tables.specs.Checks.{costsCheck, sizeCheck}
@@ -18,10 +19,6 @@ use Rattle.wiring.specs.Check.{wiringCheck}
 -- the order around the tree from first, with last
 abbrev pub around : ℕ → List ℕ → ℕ → ℕ → List ℕ
 around n t first last = order (table n t) n (first - 1) (last - 1)
-
--- a ring of images 1 to n, counted from 0
-abbrev pub counted : List ℕ → List ℕ
-counted l = map (λ i. i - 1) l
 
 -- the rows of the measured reading
 abbrev pub rowsRead : ℕ → List ℕ → List Row
@@ -56,6 +53,6 @@ Holds (untimed n t i j) = tableChecks n t ≡ Refused (refusal 20 i j 0 0)
 Holds (ordered n t first last l s) =
     CostTable limit n (square n t) × (map suc (around n t first last) ≡ l) × (closed (table n t) (around n t first last) ≡ s)
 Holds (shortest n t l s) =
-    AnOrder n (counted l) × (closed (table n t) (counted l) ≡ s) × ((m : List ℕ) → AnOrder n m → s ≤ closed (table n t) m)
+    AnOrder n (countedFrom0 l) × (closed (table n t) (countedFrom0 l) ≡ s) × ((m : List ℕ) → AnOrder n m → s ≤ closed (table n t) m)
 Holds (compared n t u x) =
     Exact limit (table n t) n (rowsRead n t) × Exact limit (table n u) n (rowsRead n u) × (differ n (fars (rowsRead n t)) (fars (rowsRead n u)) ≡ x)

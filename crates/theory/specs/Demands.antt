@@ -12,12 +12,12 @@ use Rattle.theory.specs.FarSides.{FarSide, own}
 use Rattle.theory.specs.FourPoint.{FourPoint, FourPointWithin, failing}
 use Rattle.theory.specs.Index.{AtLeast, clipped}
 use Rattle.theory.specs.Laws.ClosedSum.{closed-sum}
+use Rattle.theory.specs.Laws.NoShorter.{shortest, shortest-within}
 use Rattle.theory.specs.Laws.OneTree.{measured-tree}
 use Rattle.theory.specs.Laws.OnlyOne.{exact-exists, exact-is}
 use Rattle.theory.specs.Laws.Paths.{meets-four-point}
 use Rattle.theory.specs.Laws.RingRuns.{drawn-run, far-runs}
 use Rattle.theory.specs.Laws.RowCount.{row-count}
-use Rattle.theory.specs.Laws.NoShorter.{shortest, shortest-within}
 use Rattle.theory.specs.Laws.Sorted.{none-failing}
 use Rattle.theory.specs.Laws.Stable.{cost-near, measured-cost}
 use Rattle.theory.specs.Laws.Under.{measured-under}

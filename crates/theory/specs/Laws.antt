@@ -38,12 +38,14 @@ pub mod Ring
 pub mod ClosedSum
 pub mod Runs
 pub mod RingRuns
+-- No ring is shorter, and by how much one may be where a table is a little off.
 pub mod TakenOut
 pub mod RingLeft
 pub mod Shortest
 pub mod NoShorter
 pub mod LastChoice
 pub mod TimedSum
+-- That no smaller bounds hold.
 pub mod Scaled
 pub mod Line
 pub mod TimedLine

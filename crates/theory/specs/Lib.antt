@@ -18,4 +18,5 @@ pub mod Outcomes
 -- What is true of them: the laws with their proofs, and on one page the theorems that answer the demands.
 pub mod Laws
 pub mod Demands
+-- And what is left of those of the order where a table is a little off.
 pub mod MeasuredRing

@@ -10,10 +10,10 @@ use Rattle.theory.specs.Demands.{ordered}
 use Rattle.theory.specs.FourPoint.{FourPoint}
 use Rattle.theory.specs.Laws.Line.{line-accepted}
 use Rattle.theory.specs.Laws.Limits.{formed-wide}
+use Rattle.theory.specs.Laws.NoShorter.{closed-near, near-within, shortest-accepted, shortest-within}
 use Rattle.theory.specs.Laws.Paths.{meets-four-point}
 use Rattle.theory.specs.Laws.Reached.{exchanged, exchanged-all, exchanged-timed, exchanged-wired, order-timed, order-wired}
 use Rattle.theory.specs.Laws.RingRuns.{kept-runs}
-use Rattle.theory.specs.Laws.NoShorter.{closed-near, near-within, shortest-accepted, shortest-within}
 use Rattle.theory.specs.Laws.Scaled.{formed-scaled, four-scaled, longer-scaled, near-scaled, scaled}
 use Rattle.theory.specs.Laws.Stable.{near-sym}
 use Rattle.theory.specs.Laws.TimedLine.{at, near-one, timed, timed-formed, wired, wired-formed}

@@ -1,8 +1,8 @@
 -- What is said of an order around the tree: the rule by which it is built, in document 01's words, and runs of neighbours.
 use mathlib.Core.Bool.{false, true}
-use mathlib.Core.List.{List, _++_}
+use mathlib.Core.List.{List, map, _++_}
 use mathlib.Core.Path.{_≡_}
-use Prim.Native.Nat.{ℕ, _+_, _<_, _≤_}
+use Prim.Native.Nat.{ℕ, _+_, _-_, _<_, _≤_}
 use Rattle.ground.specs.Filters.{Each}
 use Rattle.theory.specs.LinkTables.{apart}
 use Rattle.theory.specs.Order.{free}
@@ -24,3 +24,7 @@ pub record OneRun (S f : ℕ) (l : List ℕ) : Type 0 where
   pub all-before : Each before (λ i. apart S f i ≡ false)
   pub all-run : Each run (λ i. apart S f i ≡ true)
   pub all-after : Each after (λ i. apart S f i ≡ false)
+
+-- images 1 to n, as calls have them, counted from 0
+abbrev pub countedFrom0 : List ℕ → List ℕ
+countedFrom0 l = map (λ i. i - 1) l

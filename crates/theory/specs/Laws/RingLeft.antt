@@ -1,4 +1,5 @@
 -- What is left of another ring while the order places its images: they are taken out of it one by one. Assumes nothing.
+use mathlib.Core.Bool.{true}
 use mathlib.Core.List.{List, List·Memᴰ, List·Memᴰ·head, [], _++_, _∷_}
 use mathlib.Core.Logic.{inr}
 use mathlib.Core.Path.{ap, refl, _∙_, _≡_}
@@ -15,7 +16,7 @@ use Rattle.ground.specs.Laws.Totals.{total-least, total-most, total-occurs}
 use Rattle.ground.specs.Members.{occurs}
 use Rattle.theory.specs.Laws.TakenOut.{Off, Other, alone, closed-turn, taken}
 use Rattle.theory.specs.Laws.Walk.{Placed}
-use Rattle.theory.specs.Order.{AnOrder, along, closed}
+use Rattle.theory.specs.Order.{AnOrder, along, closed, free}
 use Rattle.theory.specs.OrderRules.{IsNext}
 
 pub order-size : (n : ℕ) (l : List ℕ) → AnOrder n l → length l ≡ n
@@ -52,7 +53,7 @@ module _ (g s d : ℕ → ℕ → ℕ) (n f p q r : ℕ) (hf : f < n) (o : Off g
             most = omega (arith, turned, o .above hl hf, o .same hl hf);
           }
 
-  -- x stands somewhere in it, and beside x all images that may come next
+  -- x stands somewhere in it
   pub record Among (k x : ℕ) (l : List ℕ) (h : Left k x l) : Type 0 where
     pub before : List ℕ
     pub behind : List ℕ
@@ -78,6 +79,11 @@ module _ (g s d : ℕ → ℕ → ℕ) (n f p q r : ℕ) (hf : f < n) (o : Off g
         size = omega (arith, h .size, ap length (t .2), length-append (t .0) (t .1), length-append (t .0) (x ∷ t .1));
       }
 
+  -- every image that may come next does stand there
+  pub free-there : (k x : ℕ) (l : List ℕ) (h : Left k x l) (a : Among k x l h) (u : ℕ) → u < n → free f (x ∷ l) u ≡ true → List·Memᴰ u (a .before ++ a .behind)
+  free-there k x l h a u hu t =
+      occurs-mem u (a .before ++ a .behind) (omega (arith, a .same u, all .once u hu, eqb-true (occurs u (f ∷ x ∷ l)) 0 t))
+
   module _ (k x w : ℕ) (l : List ℕ) (c : Placed n f x l) (v : IsNext g f x (x ∷ l) n w) (h : Left k x l) where
     hx : x < n
     hx = c .range x (List·Memᴰ·head refl)
@@ -86,9 +92,7 @@ module _ (g s d : ℕ → ℕ → ℕ) (n f p q r : ℕ) (hf : f < n) (o : Off g
     a = among k x l c h
 
     next-there : List·Memᴰ w (a .before ++ a .behind)
-    next-there =
-        occurs-mem w (a .before ++ a .behind)
-        (omega (arith, a .same w, all .once w (v .below), eqb-true (occurs w (f ∷ x ∷ l)) 0 (v .is-free)))
+    next-there = free-there k x l h a w (v .below) (v .is-free)
 
     others : Each (a .before ++ a .behind) (Other g s d n f p q r hf o x w hx (v .below))
     others u t =

@@ -10,12 +10,11 @@ use lib.ListN.{length}
 use borrow.Author.Tests.{eq-eqb, eqb-true, leb-false, leb-true}
 use borrow.Table.Steps.{cases}
 use Rattle.ground.specs.Counts.{one-if}
-use Rattle.ground.specs.Laws.Members.{occurs-mem}
 use Rattle.ground.specs.Members.{occurs}
 use Rattle.theory.specs.FourPoint.{FourPoint}
 use Rattle.theory.specs.Laws.LastChoice.{last-choice, off}
 use Rattle.theory.specs.Laws.NoShorter.{closed-near, shortest-accepted}
-use Rattle.theory.specs.Laws.RingLeft.{Left, among, begins, more, weaker}
+use Rattle.theory.specs.Laws.RingLeft.{Left, among, begins, free-there, more, weaker}
 use Rattle.theory.specs.Laws.Stable.{near-sym}
 use Rattle.theory.specs.Laws.Walk.{End, Placed, grow-end, order-all, start}
 use Rattle.theory.specs.Order.{AnOrder, along, closed, free, grow, order}
@@ -37,14 +36,14 @@ module _ (L D : ℕ) (d e : ℕ → ℕ → ℕ) (n f : ℕ) (hf : f < n) (c : W
         let a = among e e d n f (3 * D) 0 D hf (off L D d e n f hf c c′ four p) m all k x l q h in
         let z = eqb-true (occurs v (f ∷ w ∷ x ∷ l)) 0 t in
         let ne : w ≡ v → ⊥ = (λ u. let y : one-if (eqb v w) ≡ 1 = ap one-if (eq-eqb v w (sym u)) in omega (arith, z)) in
-        let w-there = occurs-mem w (a .before ++ a .behind) (omega (arith, a .same w, all .once w (r .below), eqb-true (occurs w (f ∷ x ∷ l)) 0 (r .is-free))) in
-        let v-there = occurs-mem v (a .before ++ a .behind) (omega (arith, a .same v, all .once v hv, z)) in
-        let least = r .least v hv (eq-eqb (occurs v (f ∷ x ∷ l)) 0 (omega (arith, z))) in
+        let v-free = eq-eqb (occurs v (f ∷ x ∷ l)) 0 (omega (arith, z)) in
+        let there = free-there e e d n f (3 * D) 0 D hf (off L D d e n f hf c c′ four p) m all k x l h a in
         omega (
           arith,
           h .most,
           ap (along d f f) (a .is),
-          last-choice L D d e n f hf c c′ four p x w v (q .range x (List·Memᴰ·head refl)) (r .below) hv ne least (a .before) (a .behind) (omega (arith, a .size)) w-there v-there,
+          last-choice L D d e n f hf c c′ four p x w v (q .range x (List·Memᴰ·head refl)) (r .below) hv ne (r .least v hv v-free) (a .before) (a .behind) (omega (arith, a .size))
+              (there w (r .below) (r .is-free)) (there v hv v-free),
         )
 
     -- so much is lost while there are two choices, at the last one, and then
