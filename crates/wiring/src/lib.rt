@@ -21,7 +21,7 @@ fn is_above(x: u32, y: u32, z: u32) -> bool
 }
 
 // Whether the largest of three numbers occurs once only.
-fn is_once(x: u32, y: u32, z: u32) -> bool
+pub fn is_once(x: u32, y: u32, z: u32) -> bool
     ensures { λ r. ⌜ r ≡ ltb (timesLargest x y z) 2 ⌝ }
 {
     if is_above(x, y, z) {

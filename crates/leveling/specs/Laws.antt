@@ -1,0 +1,4 @@
+-- The condition as one inequality, over sorted threes, and that the scan finds the first of all.
+pub mod ThreePoint
+pub mod Sorted
+pub mod Scan

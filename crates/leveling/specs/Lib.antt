@@ -1,0 +1,11 @@
+-- What a reader must believe: document 02's condition of levels.
+pub mod ThreePoint
+-- What the contracts of `leveling` cite: refusal 21 and its scan.
+pub mod Check
+pub mod Scan
+-- Its check by its number.
+pub mod InOrder
+-- What refusal 21 is worth.
+pub mod Promises
+-- What is true of it.
+pub mod Laws
