@@ -1,8 +1,8 @@
 #!/usr/bin/env python3
 """Every public call of document 01, and of document 02 the links that a team shares,
 the far end of the listing, the second engine of the exact reading, the larger costs
-with the new stored forms, trees as Newick text, images that leave, the term report, and
-that two images may not cost nothing, written from their definitions.
+with the new stored forms, trees as Newick text, images that leave, the term report,
+that two images may not cost nothing, and the levels, written from their definitions.
 
 Nothing here is taken from the crates: the words, the orders of checks and the
 numbers are the documents', and where they leave a point open, the decision noted
@@ -27,8 +27,8 @@ runs the settled examples of document 01, checks of demands 2 and 3 on tables dr
 from a fixed seed, and what document 02 says of the links that a team shares, of the
 far end, of the second engine, which answers as the first on every table tried, of the
 two stored forms and the conversions between them, of Newick text, of images that
-leave, of the term report, of tables in which two images cost nothing, and of the
-ring of the order, than which none is shorter.
+leave, of the term report, of tables in which two images cost nothing, of the
+ring of the order, than which none is shorter, and of the levels.
 """
 
 import functools
@@ -146,6 +146,12 @@ def check_wiring(n, t):
     four = first_failing_four(n, tuple(t))
     if four is not None:
         refuse(7, *four)
+
+
+def check_levels(n, t):
+    three = first_failing_three(n, tuple(t))
+    if three is not None:
+        refuse(21, *three)
 
 
 def check_table_count(number):
@@ -357,6 +363,86 @@ def first_failing_four(n, t):
                     if fails:
                         return i, j, k, l
     return None
+
+
+# Levels
+
+def three_point_holds(d, i, j, k):
+    """Does the largest of the three entries occur at least twice?"""
+    entries = sorted([d[i][j], d[i][k], d[j][k]])
+    return entries[1] == entries[2]
+
+
+@functools.lru_cache(maxsize=None)
+def first_failing_three(n, t):
+    """The first i <= j <= k that fails, in dictionary order, or None."""
+    d = square(n, t)
+    for i in range(1, n + 1):
+        for j in range(i, n + 1):
+            for k in range(j, n + 1):
+                if not three_point_holds(d, i, j, k):
+                    return i, j, k
+    return None
+
+
+def member_sum(images):
+    return sum(2 ** (image - 1) for image in images)
+
+
+def members_of(n, members):
+    """The images of a group, ascending; image 1 counts 1."""
+    return [image for image in range(1, n + 1) if holds(members, image)]
+
+
+def largest_inside(d, images):
+    return max(d[i][j] for i in images for j in images)
+
+
+def groups_by_definition(n, t):
+    """Document 02's groups, word for word, each with its height: for each entry of the table the sets of
+    images in which every entry is at most that one, and which no larger such set contains; those of two
+    images or more. For few images only."""
+    d, found = square(n, t), {}
+    largest = {members: largest_inside(d, members_of(n, members)) for members in range(1, 2 ** n)}
+    for entry in sorted(set(t)):
+        sets = [members for members in largest if largest[members] <= entry]
+        for members in sets:
+            contained = any(members & other == members != other for other in sets)
+            if ones(members) >= 2 and not contained:
+                found[members] = largest[members]
+    return sorted(found.items())
+
+
+def groups_by_joining(n, t):
+    """The same of a table with levels. The pairs of images, ascending by their entries, join the sets of their
+    two images; a set that stands when all pairs of an entry are done is a group, and that entry is its height."""
+    d, found = square(n, t), {}
+    sets = {image: {image} for image in range(1, n + 1)}
+    for entry in sorted({d[i][j] for i, j in pairs(n)}):
+        for i, j in pairs(n):
+            if d[i][j] == entry and sets[i] is not sets[j]:
+                both = sets[i] | sets[j]
+                sets.update((image, both) for image in both)
+        for images in sets.values():
+            if len(images) > 1:
+                found.setdefault(member_sum(images), entry)
+    return sorted(found.items())
+
+
+def smallest_holding(groups_found, i, j):
+    """The smallest of these groups that holds both images, with its height."""
+    return min((group for group in groups_found if holds(group[0], i) and holds(group[0], j)),
+               key=lambda group: ones(group[0]))
+
+
+@functools.lru_cache(maxsize=None)
+def level_groups(n, t):
+    """Groups (member sum, height) of a table with levels, ascending. That the entry of two images is the
+    height of the smallest group that holds both is looked at for every table."""
+    found = groups_by_joining(n, t)
+    for i, j in pairs(n):
+        assert smallest_holding(found, i, j)[1] == t[(i - 1) * n + j - 1], (n, t, i, j)
+    return found
 
 
 # Link tables
@@ -898,6 +984,27 @@ def exact_grafted(n, t, fars, costs):
     return reading(n, t, fars, costs, grafted_or_refused)
 
 
+def leveled_groups(n, t):
+    """21, or the groups."""
+    check_levels(n, t)
+    return level_groups(n, t)
+
+
+@call
+def levels(n, t, members, heights):
+    """Groups and heights in front of the lists. The checks are those of the exact reading, but for the places
+    that 3 asks, and for 21 where 7 would stand."""
+    check_n(n)
+    check_length(n, t)
+    check_room(members, n - 1)
+    check_room(heights, n - 1)
+    check_entries(n, t)
+    found = leveled_groups(n, tuple(t))
+    members[:len(found)] = [group for group, _ in found]
+    heights[:len(found)] = [height for _, height in found]
+    return 0, len(found)
+
+
 @call
 def path(n, count, fars, costs, i, j):
     check_n(n)
@@ -1127,6 +1234,7 @@ SAYINGS = {
     18: ("outside the Newick profile", "byte", "a"),
     19: ("more than 1,024 far sides in one report", None, ""),
     20: ("zero off the diagonal", "row and column", "ab"),
+    21: ("no levels", "images", "abc"),
     22: ("siblings out of order", "byte", "a"),
 }
 TEXT_BYTES = 192
@@ -1300,22 +1408,26 @@ def listing_last_n(stored):
 
 def newick_line(stored):
     """What the program newick prints for these bytes: the Newick text of the exact reading."""
-    return program_text(stored, lambda n, t, rows: newick_text(*zip(*rows)) + "\n")
+    return program_text(stored, lambda n, t: newick_text(*zip(*wired_rows(n, t))) + "\n")
+
+
+def levels_listing(stored):
+    """What the program that lists levels prints for these bytes: the groups, each with its height and images."""
+    return program_text(stored, lambda n, t: levels_text(n, leveled_groups(n, t)))
 
 
 def program_text(stored, text_of):
-    """The text of the stored table and of its exact reading; or one line with the refusal."""
+    """The text of the stored table; or one line with the refusal."""
     try:
         n, t, _ = cost_table_in(stored, None)
-        check_wiring(n, t)
+        return text_of(n, tuple(t))
     except Refusal as refusal:
         return "refused %d %d %d %d %d\n" % refusal.answer()
-    return text_of(n, t, exact_rows(n, tuple(t)))
 
 
 def listing_with(stored, last_of):
     """The listing whose order from 1 has the last image that is chosen by n and the costs."""
-    return program_text(stored, lambda n, t, rows: listing_text(n, t, rows, last_of))
+    return program_text(stored, lambda n, t: listing_text(n, t, wired_rows(n, t), last_of))
 
 
 def listing_text(n, t, rows, last_of):
@@ -1324,6 +1436,12 @@ def listing_text(n, t, rows, last_of):
     lines += ["%d %d %d" % (far, cost, upper) for (far, cost), upper in zip(rows, uppers)]
     d = square(n, t)
     lines.append("order " + " ".join(map(str, order_of(n, d, 1, last_of(n, d)))))
+    return "".join(line + "\n" for line in lines)
+
+
+def levels_text(n, groups_found):
+    lines = ["images %d groups %d" % (n, len(groups_found))]
+    lines += [" ".join(map(str, [members, height] + members_of(n, members))) for members, height in groups_found]
     return "".join(line + "\n" for line in lines)
 
 
@@ -1553,6 +1671,48 @@ def timed_line(n):
     return table_from(n, wired), table_from(n, timed)
 
 
+# How a table with levels comes apart: all images at once; one after another; into halves again and again; into
+# two groups, or into three, of images that are equally far; anyhow.
+LEVEL_SHAPES = ("equal", "caterpillar", "balanced", "two", "three", "uneven")
+
+
+def parts_of_level(dice, n, images, shape):
+    """The parts into which a group of this shape comes apart."""
+    count = {"caterpillar": 2, "balanced": 2, "uneven": 2}.get(shape, len(images))
+    if shape == "uneven" and dice.chance(1, 4):
+        count = dice.between(2, min(5, len(images)))
+    if shape in ("two", "three") and len(images) == n:
+        count = 2 if shape == "two" else 3
+    if shape == "caterpillar":
+        cuts = [1]
+    elif shape == "balanced":
+        cuts = [len(images) // 2]
+    else:
+        cuts = sorted(dice.mixed(range(1, len(images)))[:count - 1])
+    return [images[a:b] for a, b in zip([0] + cuts, cuts + [len(images)])]
+
+
+def level_rows(dice, n, shape="uneven", most=9, images=None):
+    """Groups and heights over n images, in this order or in one of chance. A group is higher than the groups inside
+    it, by at most so much."""
+    rows = []
+
+    def height_of(some):
+        if len(some) == 1:
+            return 0
+        height = max([height_of(part) for part in parts_of_level(dice, n, some, shape)]) + dice.between(1, most)
+        rows.append((member_sum(some), height))
+        return height
+
+    height_of(images or dice.mixed(range(1, n + 1)))
+    return sorted(rows)
+
+
+def level_table(n, rows):
+    """The table in which the entry of two images is the height of the smallest group that holds both."""
+    return table_from(n, [smallest_holding(rows, i, j)[1] for i, j in pairs(n)])
+
+
 def random_shape(dice):
     return dice.one_of(["star", "caterpillar", "uneven", "uneven"])
 
@@ -1647,6 +1807,16 @@ LISTING_A = "images 3 rows 3\n2 1 3\n4 1 3\n6 1 0\norder 1 3 2\n"
 LISTING_A_LAST_N = "images 3 rows 3\n2 1 3\n4 1 3\n6 1 0\norder 1 2 3\n"
 LISTING_C = "refused 7 1 1 2 3\n"
 
+LEVELS = {
+    "A": [(7, 1)],
+    "E": [(3, 2), (12, 2), (15, 4)],
+    "G": [(15, 2)],
+}
+NOT_LEVELS = {"B": (20, 1, 2, 0, 0), "C": (21, 1, 2, 3, 0), "D": (21, 1, 2, 3, 0), "F": (21, 1, 2, 3, 0),
+              "H": (21, 1, 2, 3, 0)}
+LEVELS_LISTING_E = "images 4 groups 3\n3 2 1 2\n12 2 3 4\n15 4 1 2 3 4\n"
+LEVELS_LISTING_C = "refused 21 1 2 3 0\n"
+
 
 def example(name):
     n, upper = EXAMPLES[name]
@@ -1663,6 +1833,16 @@ def read_rows(reader, n, t):
     count = answer[1] if answer[0] == 0 else 0
     assert fars[count:] == [5] * (room - count) and costs[count:] == [6] * (room - count)
     return list(zip(fars[:count], costs[:count])) if answer[0] == 0 else answer
+
+
+def read_groups(n, t, more=2):
+    """Groups and heights that the levels call answers, or its refusal. Places behind them stay."""
+    room = n - 1 + more
+    members, heights = [5] * room, [6] * room
+    answer = levels(n, t, members, heights)
+    count = answer[1] if answer[0] == 0 else 0
+    assert members[count:] == [5] * (room - count) and heights[count:] == [6] * (room - count)
+    return list(zip(members[:count], heights[:count])) if answer[0] == 0 else answer
 
 
 def shared_rows(n, tables):
@@ -1740,6 +1920,7 @@ def test_settled_limits():
         assert measured(n, t, [0] * 130, [0] * 130) == refused
         assert exact(n, t, [0] * 130, [0] * 130) == refused
         assert exact_grafted(n, t, [0] * 130, [0] * 130) == refused
+        assert levels(n, t, [0] * 64, [0] * 64) == refused
         assert path(n, n, [0] * n, [0] * n, 1, 2) == refused
         assert upper_rows(n, n, [0] * n, [0] * n, [0] * 130) == refused
         assert route(n, n, [0] * n, [0] * n, 1, [0] * 130) == refused
@@ -1754,13 +1935,14 @@ def test_settled_limits():
             assert two_costs(stored, [0] * 5000, []) == (1, 1, n, 0, 0, 0)
             assert choice(stored, stored) == (1, 1, n, 0, 0, 0)
             assert convert_costs(form, stored, []) == convert_links(form, stored, []) == refused
-            assert listing(stored) == listing_last_n(stored) == "refused 1 %d 0 0 0\n" % n
+            assert listing(stored) == listing_last_n(stored) == levels_listing(stored) == "refused 1 %d 0 0 0\n" % n
     for n in (3, 4, 9):
         t = table_from(n, [MOST_ENTRY] * (n * n))
         rows = [(2 ** i, MOST_ENTRY) for i in range(1, n)] + [(2 ** n - 2, MOST_ENTRY)]
         assert read_rows(exact, n, t) == rows == read_rows(exact_grafted, n, t)
+        assert read_groups(n, t) == [(2 ** n - 1, MOST_ENTRY)]
         t[1] += 1
-        assert read_rows(exact, n, t) == (4, 1, 2, 0, 0) == read_rows(exact_grafted, n, t)
+        assert read_rows(exact, n, t) == (4, 1, 2, 0, 0) == read_rows(exact_grafted, n, t) == read_groups(n, t)
         for number in FORM_NUMBERS:
             form = form_named(number)
             assert write_costs(number, n, t, []) == (4, 1, 2, 0, 0)
@@ -1816,7 +1998,8 @@ def test_first_seven_bits():
             assert convert_links(form, stored, []) == links == read_links(stored, 0, [0] * 3, [0] * 3)
         assert choice(stored, STORED_A_LINKS) == links[:1] + (1,) + links[1:]
         assert choice(STORED_A_LINKS_NEW, stored) == links[:1] + (2,) + links[1:]
-        assert listing(stored) == listing_last_n(stored) == "refused %d %d %d %d %d\n" % costs
+        refused_line = "refused %d %d %d %d %d\n" % costs
+        assert listing(stored) == listing_last_n(stored) == levels_listing(stored) == refused_line
 
 
 def test_listing():
@@ -3048,7 +3231,7 @@ def by_every_table_call(n, t, good):
     several, it stands in front of a good one and behind it, and its own number must be said."""
     fars, costs = [0] * 2 * n, [0] * 2 * n
     answers = [index(n, t, 2), order(n, t, n, 1, [0] * n), replay(n, t, [], fars, costs)[:5]]
-    answers += [reading_call(n, t, fars, costs) for reading_call in (measured, exact, exact_grafted)]
+    answers += [reading_call(n, t, fars, costs) for reading_call in (measured, exact, exact_grafted, levels)]
     answers += [write_costs(form, n, t, [0] * 6000) for form in FORM_NUMBERS]
     for table, both in ((1, (t, good)), (2, (good, t))):
         answers.append(of_table(compare(n, *both), table))
@@ -3061,7 +3244,7 @@ def by_every_stored_call(n, t, good, form):
     stored, before, out = stored_costs(n, t, form), stored_costs(n, good), [0] * (n * n)
     answers = [read_costs(stored, 0, out), read_costs(before + stored, 8 * len(before), out)]
     answers += [convert_costs(number, stored, [0] * 6000) for number in FORM_NUMBERS]
-    answers += [of_text(program(stored)) for program in (listing, listing_last_n, newick_line)]
+    answers += [of_text(program(stored)) for program in (listing, listing_last_n, newick_line, levels_listing)]
     answers += [of_table(two_costs(stored + before, out, out), 1), of_table(two_costs(before + stored, out, out), 2)]
     answers += [first_two(stored, 0, out, out)[:5], first_two(before + stored, 0, out, out)[4:9]]
     places = [0] * MOST_SIDES
@@ -3083,13 +3266,13 @@ def says_of_zeros(n, t, good):
 
 def test_zeros(dice):
     """Every table of three images with entries to 2; tables of more images with zeros first, last, between, and
-    several, of which the lowest row counts, and in it the lowest column. B is refused by every call, D by none:
-    its own link of 0 stays."""
+    several, of which the lowest row counts, and in it the lowest column. B is refused by every call, D by none but
+    for having no levels: its own link of 0 stays."""
     good = {n: tree_table(n, tree_rows(dice, n, "uneven")) for n in (3, 4, 5, 9, 33)}
     for upper in itertools.product(range(3), repeat=3):
         says_of_zeros(3, table_from(3, upper), good[3])
     assert set(says_of_zeros(*example("B"), good[3])) == {(20, 1, 2, 0, 0)}
-    assert {answer[0] for answer in says_of_zeros(*example("D"), good[3])} == {0}
+    assert {answer[0] for answer in says_of_zeros(*example("D"), good[3])} == {0, 21}
     for n in (4, 5, 9, 33):
         middle = dice.one_of(pairs(n)[1:-1])
         for zeros in ([(1, 2)], [(n - 1, n)], [middle], [(1, n), (2, 3)], [(1, 4), (2, 3), (n - 1, n)], [(2, 3), (2, 4)]):
@@ -3113,6 +3296,7 @@ def test_zeros_among_faults():
     for reading_call in (measured, exact, exact_grafted):
         assert reading_call(n, t, [0] * room, [0] * room) == refused
         assert reading_call(n, t, [0] * (room - 1), [0] * room) == short
+    assert levels(n, t, [0] * 3, [0] * 3) == refused and levels(n, t, [0] * 3, [0] * 2) == short
     assert replay(n, t, [0], [0] * room, [0] * room)[:5] == refused and replay(n, t, [], [], [])[:5] == short
     for place, entry, earlier in ((15, 1, (5, 4, 0, 0, 0)), (14, 2, (6, 3, 4, 0, 0)), (14, 8000001, (4, 4, 3, 0, 0)),
                                   (2, 1, (6, 1, 3, 0, 0))):
@@ -3129,6 +3313,160 @@ def test_zeros_among_faults():
                               (stored[:-1] + [1], (11, 0, 0, 0, 0))):
             assert read_costs(found, 0, [0] * 25) == answer and read_costs(found, 0, [0] * 24) == short
             assert convert_costs(0, found, []) == convert_costs(1, found, []) == of_text(listing(found)) == answer
+
+
+def cut_by(n, members):
+    """The far side of the division between a group and the other images."""
+    return 2 ** n - 1 - members if holds(members, 1) else members
+
+
+def hold_groups(n, t, found):
+    """Groups that the levels call answers, held to document 02 and to the exact reading: the full set is the last of
+    them, two of them are nested or disjoint, the entry of two images is the height of the smallest that holds both,
+    the groups but the full one are sides of the exact tree, and its inner far sides are cut off by groups."""
+    d, full = square(n, t), 2 ** n - 1
+    assert 1 <= len(found) <= n - 1 and found[-1] == (full, max(t)) and found == sorted(found)
+    assert not any(crosses(one, other) for one, _ in found for other, _ in found)
+    for members, height in found:
+        assert ones(members) >= 2 and height == largest_inside(d, members_of(n, members))
+    for i, j in pairs(n):
+        assert smallest_holding(found, i, j)[1] == d[i][j]
+    if n <= 8:
+        assert found == groups_by_definition(n, t)
+    rows = read_rows(exact, n, t)
+    assert isinstance(rows, list), (n, t, rows)
+    cuts = {cut_by(n, members) for members, _ in found if members != full}
+    assert cuts <= {far for far, _ in rows} and {far for far, _ in rows if is_inner(n, far)} <= cuts
+
+
+def levels_hold(n, t):
+    """What the levels call answers for a table of few images without zeros. It is refused exactly where some three
+    images fail, at the first of them, and these are three different ones."""
+    d, answer = square(n, t), read_groups(n, t)
+    failing = {tuple(sorted(three)) for three in itertools.product(range(1, n + 1), repeat=3)
+               if not three_point_holds(d, *three)}
+    assert all(i < j < k for i, j, k in failing)
+    if failing:
+        assert answer == (21, *min(failing), 0), (n, t, answer)
+    else:
+        hold_groups(n, t, answer)
+    return answer
+
+
+def test_levels_examples():
+    for name in EXAMPLES:
+        n, t = example(name)
+        found = NOT_LEVELS.get(name) or LEVELS[name]
+        assert read_groups(n, t) == read_groups(n, t, 0) == found, name
+        for form in (OLD, NEW):
+            lines = levels_listing(stored_costs(n, t, form) + [1, 2, 3]).splitlines()
+            assert (lines == ["refused %d %d %d %d %d" % found] if name in NOT_LEVELS
+                    else lines[0] == "images %d groups %d" % (n, len(found)) and len(lines) == 1 + len(found))
+    for form in (OLD, NEW):
+        assert levels_listing(stored_costs(*example("E"), form)) == LEVELS_LISTING_E
+        assert levels_listing(stored_costs(*example("C"), form)) == LEVELS_LISTING_C
+    assert levels_listing(STORED_A_COSTS_NEW) == "images 3 groups 1\n7 1 1 2 3\n"
+    assert levels_listing([]) == "refused 9 0 0 0 0\n"
+    assert answer_text(21, 0, 1, 2, 3, 0) == "no levels: images 1 2 3"
+
+
+def test_levels_on_all_small_tables():
+    """Three images with entries to 5, four with entries to 3: those with a zero get 20, at the lowest pair, and of
+    the others the definitions decide."""
+    for n, most in ((3, 5), (4, 3)):
+        kinds = set()
+        for upper in itertools.product(range(most + 1), repeat=len(pairs(n))):
+            t = table_from(n, upper)
+            if 0 in upper:
+                assert read_groups(n, t) == (20, *zeros_in(n, t)[0], 0, 0)
+            else:
+                answer = levels_hold(n, t)
+                kinds.add(len(answer) if isinstance(answer, list) else answer[:4])
+        # Each number of groups, and each three images as the first that fail.
+        assert kinds == set(range(1, n)) | {(21, *three) for three in itertools.combinations(range(1, n + 1), 3)}
+
+
+def with_failing_three(n, i, j, k, entries=(1, 2, 3), other=5):
+    """A table in which these three images, and no others, fail: all others are equally far."""
+    inside = dict(zip([(i, j), (i, k), (j, k)], entries))
+    return table_from(n, [inside.get(pair, other) for pair in pairs(n)])
+
+
+def test_levels(dice):
+    """Tables that are made of groups give these groups; with an entry moved, and any other tables, the definitions
+    decide. Of many images each three that alone fail are found, and the last three behind all others."""
+    for n in (3, 4, 5, 6, 7, 8, 9):
+        for shape in LEVEL_SHAPES * 3:
+            rows = level_rows(dice, n, shape, dice.one_of([1, 3, 1000000]))
+            t = level_table(n, rows)
+            assert levels_hold(n, t) == rows
+            for _ in range(3):
+                levels_hold(n, moved_entries(dice, n, t, dice.between(1, 2)))
+        for t in tables_to_try(dice, n, 24):
+            levels_hold(n, t)
+        for _ in range(20):
+            levels_hold(n, random_table(dice, n, 2))
+    for n in (4, 5, 6):
+        for three in itertools.combinations(range(1, n + 1), 3):
+            assert levels_hold(n, with_failing_three(n, *three)) == (21, *three, 0)
+    for n in (12, 20, 33, 64):
+        for shape in LEVEL_SHAPES if n < 64 else ("caterpillar", "uneven"):
+            rows = level_rows(dice, n, shape, dice.one_of([1, 3, 100000]))
+            t = level_table(n, rows)
+            assert read_groups(n, t) == rows
+            hold_groups(n, t, rows)
+        for three in ((1, 2, 3), (1, 2, n), (1, n - 1, n), (2, 3, 4), (n - 2, n - 1, n)):
+            assert read_groups(n, with_failing_three(n, *three)) == (21, *three, 0)
+    rows = level_rows(dice, 64, "caterpillar", 1, list(range(1, 65)))
+    assert rows[-1] == (2 ** 64 - 1, 63) and len(rows) == 63 and rows[0] == (2 ** 63 + 2 ** 62, 1)
+
+
+def test_levels_checks():
+    """Of two faults in one call the first in the order 1, 2, 3, 4, 5, 6, 20, 21 is told; 3 asks n-1 places of both
+    outputs, however few groups there are."""
+    n = 4
+    t = with_failing_three(n, 2, 3, 4)
+    assert read_groups(n, t) == (21, 2, 3, 4, 0)
+    zero = list(t)
+    zero[7] = zero[13] = 0
+    assert read_groups(n, zero) == (20, 2, 4, 0, 0)
+    uneven = list(zero)
+    uneven[14] += 1
+    assert read_groups(n, uneven) == (6, 3, 4, 0, 0)
+    diagonal = list(uneven)
+    diagonal[15] = 1
+    assert read_groups(n, diagonal) == (5, 4, 0, 0, 0)
+    entry = list(diagonal)
+    entry[14] = MOST_ENTRY + 1
+    assert read_groups(n, entry) == (4, 4, 3, 0, 0)
+    for bad in (table_from(n, [2] * 6), t, zero, uneven, diagonal, entry):
+        for members, heights in ((2, 3), (3, 2), (2, 2), (0, 0), (0, 9)):
+            assert levels(n, bad, [0] * members, [0] * heights) == (3, 0, 0, 0, 0)
+            assert levels(n, bad + [0], [0] * members, [0] * heights) == (2, 0, 0, 0, 0)
+            assert levels(65, bad, [0] * members, [0] * heights) == (1, 65, 0, 0, 0)
+    assert levels(n, table_from(n, [2] * 6), [0] * 3, [0] * 3) == (0, 1)
+
+
+def longest_levels_listing():
+    """The stored table of 64 images with the longest listing of levels: as many groups as can be, as large as can be,
+    image 64 in all of them, and heights of seven digits."""
+    rows = level_rows(Dice(0), 64, "caterpillar", 1, list(range(1, 65)))
+    return stored_costs(64, level_table(64, [(members, MOST_ENTRY - 63 + height) for members, height in rows]), NEW)
+
+
+def test_levels_listing(dice):
+    """The numbers of a listing are the groups that the call answers, and the images of each add up to its member
+    sum. The longest text is that of images that come one after another from the last one on."""
+    for n in (3, 4, 5, 9, 20, 33):
+        for shape in LEVEL_SHAPES:
+            t = level_table(n, level_rows(dice, n, shape, 90))
+            for form in (OLD, NEW):
+                header, *lines = levels_listing(stored_costs(n, t, form)).splitlines()
+                numbers = [list(map(int, line.split(" "))) for line in lines]
+                assert header == "images %d groups %d" % (n, len(lines))
+                assert [tuple(line[:2]) for line in numbers] == read_groups(n, t)
+                assert all(line[0] == member_sum(line[2:]) and line[2:] == sorted(line[2:]) for line in numbers)
+    assert len(levels_listing(longest_levels_listing())) == 8039
 
 
 def self_test():
@@ -3152,6 +3490,8 @@ def self_test():
         (test_report_limits, (dice,)),
         (test_report, (dice,)), (test_cut_report, (dice,)), (test_zeros, (dice,)), (test_zeros_among_faults, ()),
         (test_no_ring_is_shorter, (dice,)), (test_ring_of_timings, (dice,)),
+        (test_levels_examples, ()), (test_levels_on_all_small_tables, ()), (test_levels, (dice,)),
+        (test_levels_checks, ()), (test_levels_listing, (dice,)),
     ]
     for test, arguments in tests:
         test(*arguments)
