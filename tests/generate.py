@@ -9,9 +9,10 @@ order, a slice as its length and then its elements, but the bytes of a report in
 pieces, and its slices as length and fill. It writes crates/cases/stdout,
 for each call a line with its name and then one line a case: the numbers of the
 answer, then each lent output as the call leaves it, its length first. It writes
-tests/listing/NAME.stdin, stored bytes for both listing programs and for the one that
-prints Newick text, and the text that each of them prints, tests/PROGRAM/NAME.stdout;
-example H is also what `rt ci` runs them on. It writes tests/term/NAME.stdin, stored
+tests/listing/NAME.stdin, stored bytes for both listing programs, for the one that
+prints Newick text and for the one that lists levels, and the text that each of them
+prints, tests/PROGRAM/NAME.stdout; example H is also what `rt ci` runs them on, and E what
+it runs the one that lists levels on. It writes tests/term/NAME.stdin, stored
 tables one behind another for the program that prints the term report, and its text,
 tests/term/NAME.stdout; `rt ci` runs it on the examples E, F, G and E. All is decided by
 the seeds below.
@@ -43,8 +44,8 @@ LONGEST_READ = 11800
 LONGEST_REPORT = 27000
 LONGEST_LENT = 1100
 LARGEST_FILE = 400000
-LARGEST_ANSWERS = 1260000
-LARGEST_TOTAL = 5060000
+LARGEST_ANSWERS = 1340000
+LARGEST_TOTAL = 5532000
 FEWEST_CASES = 2500
 FEWEST_OF_EACH_REFUSAL = 8
 FEWEST_IN_EACH_FORM = 5
@@ -84,6 +85,8 @@ CALLS = {
     "read_newick": (law.read_newick, "8 64* 32*", (1, 3, 12, 13, 18, 22)),
     "replay": (law.replay, "n 32 8 64* 32*", (1, 2, 3, 4, 5, 6, 7, 8, 20)),
     "report": (law.report, "8 64* 32* 64*", (1, 3, 4, 9, 11, 15, 19, 20)),
+    "levels": (law.levels, "n 32 64* 32*", (1, 2, 3, 4, 5, 6, 20, 21)),
+    "levels_listing": (law.levels_listing, "8", (1, 4, 9, 11, 20, 21)),
 }
 
 # With so many images each answer of the calls for Newick text is met, but for 18, which is found
@@ -100,6 +103,9 @@ MANY_EVENTS = 62
 # With so many images in its first table a report meets every refusal of a later table but 19.
 EVERY_REPORT = (3, 9, 33, 64)
 
+# With so many images the levels have every answer but 1, and each of the tables that are looked for below.
+EVERY_LEVEL = (3, 9, 33, 64)
+
 # Bytes that a report has in front as the case before has them are not written again, if they are so many.
 FEWEST_KEPT = 100
 
@@ -107,7 +113,7 @@ FEWEST_KEPT = 100
 # is met in both forms, but for those that one form alone has or that are about no one table.
 TOLD_A_FORM = ("write_costs", "write_links", "write_batch")
 FIND_A_FORM = ("read_costs", "read_links", "choice", "first_two", "first_links", "two_costs", "listing",
-               "convert_costs", "convert_links")
+               "convert_costs", "convert_links", "levels_listing")
 OF_ONE_FORM = (14, 15, 17)
 
 # Where two images of many cost nothing: the first pair, the last, one between, or two, of which the one
@@ -125,11 +131,15 @@ OTHER_ENGINE = {"exact": law.exact_grafted, "exact_grafted": law.exact}
 EVERY_TEST = (4, 5, 9, 33, 64)
 
 # The programs that print a listing, and what they print. The cases of `listing` have the
-# text of each, and a refusal stands in the text.
+# text of each, and a refusal stands in the text, as in those of `levels_listing`.
 LISTINGS = {"listing": law.listing, "listing_last_n": law.listing_last_n}
+TEXTS = {"listing": list(LISTINGS.values()), "levels_listing": [law.levels_listing]}
 
-# All programs that read a stored cost table: these and the one that prints Newick text.
-PROGRAMS = dict(LISTINGS, newick=law.newick_line)
+# All programs that read a stored cost table: these, the one that prints Newick text and the one that lists
+# levels. With each the example that `rt ci` runs it on.
+PROGRAMS = dict(LISTINGS, newick=law.newick_line, listing_levels=law.levels_listing)
+RUN_ON = dict.fromkeys(PROGRAMS, "H")
+RUN_ON["listing_levels"] = "E"
 
 # Those that put a table's number behind a refusal number.
 OVER_SEVERAL_TABLES = ("compare", "write_batch", "choice", "two_costs", "consensus")
@@ -1663,6 +1673,9 @@ def refusal_text_cases(dice):
     for number in (18, 22):
         for a in (1, 5, 1432, 2 ** 64 - 1):
             yield number, 0, a, 0, 0, 0, bytes_of_text(enough)
+    # The three images of 21, beside a fourth place, which it has not.
+    for a, b, c, d in ((1, 2, 3, 0), (62, 63, 64, 0), (1, 9, 64, 0), (2, 3, 4, 5), (0, 0, 1, 2 ** 64 - 1)):
+        yield 21, 0, a, b, c, d, bytes_of_text(enough)
 
 
 # Teams: tables over the same images, joined
@@ -2905,6 +2918,185 @@ def report_cases(dice):
             yield (stream, *lent())
 
 
+# Levels
+
+def leveled(dice, n, shape=None, most=None):
+    """A table with levels, of this shape or of any."""
+    shape = shape or dice.one_of(law.LEVEL_SHAPES)
+    return law.level_table(n, law.level_rows(dice, n, shape, most or dice.one_of([1, 3, 20, 300])))
+
+
+def up_to_the_limit(n, t):
+    """The table with levels in which every entry is as much higher, so that the highest is 8,000,000."""
+    more = law.MOST_ENTRY - max(t)
+    return table_from(n, [t[(i - 1) * n + j - 1] + more for i, j in pairs(n)])
+
+
+# Entries of three images of which the largest is there once, none of them above 5.
+FAILING = [(1, 2, 3), (3, 2, 1), (2, 3, 1), (1, 3, 2), (1, 1, 2), (1, 2, 1), (2, 1, 1), (4, 4, 5), (5, 1, 1)]
+
+
+def one_pair_off(n, i, j, entry):
+    """All images equally far but these two: where they are farther, every three with both fail."""
+    return with_entry(n, table_from(n, [5] * (n * n)), i, j, entry)
+
+
+def leveled_tables(dice):
+    """Tables with levels: of each shape, in orders of chance and from the first image or the last on, with small
+    entries and with entries up to the limit, few images and many."""
+    for n in (3, 4, 5, 6, 9):
+        for shape in law.LEVEL_SHAPES:
+            t = leveled(dice, n, shape)
+            yield n, t if dice.chance(2, 3) else up_to_the_limit(n, t)
+    for n in (3, 4, 9, 33, 64):
+        images = list(range(1, n + 1))
+        for order in (images, images[::-1]) if n < 64 else (images,):
+            yield n, law.level_table(n, law.level_rows(dice, n, "caterpillar", 1, order))
+    for n in (4, 9):
+        yield n, up_to_the_limit(n, law.level_table(n, law.level_rows(dice, n, "caterpillar", 1)))
+        yield n, table_from(n, [1 if (i - 1) // 2 == (j - 1) // 2 else 8000000 for i, j in pairs(n)])
+        yield n, in_halves(n)
+    for shape, most in (("balanced", 9), ("three", 4), ("uneven", 99), ("uneven", 2)):
+        yield 33, leveled(dice, 33, shape, most)
+    yield 33, up_to_the_limit(33, leveled(dice, 33, "balanced", 3))
+    yield 64, leveled(dice, 64, "uneven", 1)
+    yield 64, two_groups(64, sum(2 ** i for i in range(64) if i % 3 == 2), 1, 8000000)
+    yield 64, all_ones(64)
+    yield 64, in_halves(64)
+
+
+def tables_without_levels(dice):
+    """Tables without levels: with a wiring; with levels but for one entry that is 1 off; with three images in each
+    place that alone fail, where with those beyond image 1 all threes with image 1 pass; with two images that are
+    too far; and with the last three."""
+    for n in (3, 4, 4, 5, 5, 6, 9, 9, 33):
+        yield n, tree(dice, n, 20, dice.one_of(["star", "caterpillar", "uneven"]))
+    for n in (4, 5, 6, 9, 9, 33):
+        yield n, law.moved_entries(dice, n, leveled(dice, n, dice.one_of(["balanced", "caterpillar", "uneven"])), 1)
+    for n in (4, 5):
+        for i, j in pairs(n):
+            for k in range(j + 1, n + 1):
+                yield n, law.with_failing_three(n, i, j, k, dice.one_of(FAILING))
+    for i, j, k in ((1, 2, 3), (1, 2, 9), (1, 8, 9), (2, 3, 4), (2, 8, 9), (4, 5, 6), (4, 6, 9), (7, 8, 9)):
+        yield 9, law.with_failing_three(9, i, j, k, dice.one_of(FAILING))
+    for n, threes in ((33, ((1, 2, 33), (2, 3, 4), (31, 32, 33))), (64, ((1, 2, 3), (2, 3, 4), (62, 63, 64)))):
+        for i, j, k in threes:
+            yield n, law.with_failing_three(n, i, j, k, dice.one_of(FAILING))
+    for n in (3, 4, 5, 9):
+        for i, j in dice.mixed(pairs(n))[:3]:
+            yield n, one_pair_off(n, i, j, dice.one_of([6, 8000000]))
+    yield 64, tree(dice, 64, 1, "caterpillar")
+    t = law.level_table(64, law.level_rows(dice, 64, "caterpillar", 1, list(range(1, 65))))
+    yield 64, with_entry(64, t, 63, 64, 3)
+
+
+def leveled_or_not(dice, n, faults):
+    """A table with levels; where it is to have none, one that is so in another way each time."""
+    if "levels" not in faults:
+        return leveled(dice, n)
+    three = sorted(dice.mixed(range(1, n + 1))[:3])
+    return dice.one_of([law.with_failing_three(n, *three, dice.one_of(FAILING)), one_pair_off(n, *three[:2], 6)])
+
+
+LEVEL_FAULTS = ["n", "length", "room", "entry", "diagonal", "asymmetric", "zero", "levels"]
+
+
+def levels_cases(dice):
+    def outputs(n, short=False):
+        room1, room2 = two_rooms(dice, n - 1, short)
+        return far_places(dice, room1), places(dice, room2)
+
+    for source in (example_tables(), ((3, t) for t in all_small_tables()), zero_tables(dice), leveled_tables(dice),
+                   tables_without_levels(dice), large_zeros(dice, (33, "lower row"), (64, "between"))):
+        for n, t in source:
+            yield (n, t, *outputs(n))
+    for n in BAD_N:
+        yield (n, [], *outputs(3))
+    for n in (1, 2):
+        yield (n, [0] * (n * n), *outputs(3))
+    # Each fault alone, with a zero, with others, and with the one that is looked for next.
+    neighbours = [{kind, later} for kind, later in zip(LEVEL_FAULTS, LEVEL_FAULTS[1:])]
+    for faults in list(fault_sets(dice, LEVEL_FAULTS, 3, 21)) + neighbours * 2:
+        n = damaged_n(dice)
+        bad_n, bad_t = damage_table(dice, n, leveled_or_not(dice, n, faults), faults)
+        yield (bad_n, bad_t, *outputs(n, "room" in faults))
+    # Room for the one group that there is, but not the n-1 places that are asked; just enough; more.
+    for n in (3, 4, 9, 33):
+        t = table_from(n, [7] * (n * n))
+        for room1, room2 in ((n - 2, n - 1), (n - 1, n - 2), (n - 2, n - 2), (1, 1), (n - 1, n - 1), (2 * n, n + 3)):
+            yield n, t, far_places(dice, room1), places(dice, room2)
+    for room1, room2 in ((62, 63), (63, 62), (66, 63)):
+        yield 64, table_from(64, [7] * 64 * 64), far_places(dice, room1), places(dice, room2)
+    # Each fault of many images, in one of the last places that it can have.
+    for n in (9, 33, 64):
+        t = all_ones(n)
+        yield n, t[:-1], far_places(dice, 2), places(dice, 2)
+        for i, j, entry in ((n, n - 1, 8000001), (n, n, 1), (n - 1, n, 2)):
+            bad = list(t)
+            bad[(i - 1) * n + j - 1] = entry
+            yield n, bad, far_places(dice, n - 1), places(dice, n - 1)
+
+
+def levels_met(n, t, answer):
+    """What is met by a table whose entries are well: its groups, or the three that fail."""
+    met = set()
+    if answer[0] == 21:
+        three = answer[1:4]
+        words = {(n - 2, n - 1, n): "last three", (1, 2, 3): "first three"}
+        met |= {"without levels"} | ({words[three]} if three in words else set())
+        met |= {"image 1 is well"} if three[0] > 1 else set()
+        met |= {"wired"} if law.first_failing_four(n, tuple(t)) is None else set()
+    if answer[0] == 0:
+        found = law.level_groups(n, tuple(t))
+        law.hold_groups(n, t, found)
+        met |= {"one group"} if len(found) == 1 else {"all groups"} if len(found) == n - 1 else set()
+        met |= {"with image 1" if holds(members, 1) else "without image 1" for members, _ in found[:-1]}
+        met |= {"limit"} if max(t) == law.MOST_ENTRY else set()
+    return met
+
+
+def check_levels(levels):
+    """Each n has what the levels are to meet; of three images the first three are the last."""
+    for n in EVERY_LEVEL:
+        met = {(n, number) for number in (0, 2, 3, 4, 5, 6, 20, 21)}
+        words = {"without levels", "wired", "one group", "all groups", "with image 1", "without image 1", "limit"}
+        words |= {"first three", "last three", "image 1 is well"} if n > 3 else {"first three"}
+        met |= {(n, word) for word in words}
+        assert met <= levels, met - levels
+
+
+def levels_listing_cases(dice):
+    def followed(stored):
+        return stored + [dice.below(256) for _ in range(dice.one_of([0, 0, 0, 1, 3]))]
+
+    yield [],
+    for form in (OLD, NEW):
+        for n, t in example_tables():
+            yield followed(stored_costs(n, t, form)),
+    for n, t in zero_tables(dice):
+        yield stored_costs(n, t, any_form(dice)),
+    for n, t in large_zeros(dice, (33, "first"), (64, "last")):
+        yield stored_costs(n, t, NEW if n == 33 else OLD),
+    for n in (3, 4, 5, 9, 9):
+        yield followed(stored_costs(n, leveled(dice, n), any_form(dice))),
+        yield stored_costs(n, up_to_the_limit(n, leveled(dice, n)), NEW),
+    for shape, form in (("balanced", OLD), ("caterpillar", NEW)):
+        yield stored_costs(33, leveled(dice, 33, shape, 9), form),
+    yield stored_costs(64, leveled(dice, 64, "uneven", 200), OLD),
+    yield law.longest_levels_listing(),
+    yield stored_costs(64, law.with_failing_three(64, 62, 63, 64), OLD),
+    yield stored_costs(33, law.with_failing_three(33, 2, 3, 33), NEW),
+    for stored in ([254], [255], [6], [254, 12], [255, 255], [255, 252], [254, 0], [6, 0]):
+        yield stored,
+    kinds = ["header", "n", "body", "fill", "entry", "zero", "levels"]
+    neighbours = [{kind, later} for kind, later in zip(kinds, kinds[1:])]
+    for form in (OLD, NEW):
+        for faults in [{kind} for kind in kinds + ["fill"] for _ in range(4)] + neighbours:
+            n = damaged_n(dice)
+            stored = damaged_stored_costs(dice, n, leveled_or_not(dice, n, faults), faults, form)
+            yield (stored if faults & {"header", "body"} else followed(stored)),
+
+
 CASES = {
     "index": index_cases,
     "order": order_cases,
@@ -2934,6 +3126,8 @@ CASES = {
     "read_newick": read_newick_cases,
     "replay": replay_cases,
     "report": report_cases,
+    "levels": levels_cases,
+    "levels_listing": levels_listing_cases,
 }
 
 
@@ -3051,8 +3245,8 @@ def answer_line(name, arguments):
     if name == "report":
         return report_answer(*arguments)
     function, kinds, _ = CALLS[name]
-    if name == "listing":
-        texts = [program(*arguments) for program in LISTINGS.values()]
+    if name in TEXTS:
+        texts = [program(*arguments) for program in TEXTS[name]]
         return line_of([0] + [list(text.encode()) for text in texts]), listing_answer(texts)
     outputs = [at for at, kind in enumerate(kinds.split()) if kind.endswith("*")]
     given = [list(a) if isinstance(a, list) else a for a in arguments]
@@ -3219,7 +3413,7 @@ def refused_zeros(name, arguments, answer):
     if name == "two_costs":
         form, (n,) = law.header_of(arguments[0], 1)
         return stored_zeros(arguments[0][costs_length(form, n) if answer[1] == 2 else 0:])
-    if name in ("listing", "convert_costs"):
+    if name in ("listing", "levels_listing", "convert_costs"):
         return stored_zeros(arguments[name == "convert_costs"])
     n = arguments[name == "write_costs"]
     if name == "consensus":
@@ -3273,7 +3467,7 @@ def form_met(name, arguments, answer):
         stored = arguments[1 if answer[1] == 2 else 0]
     elif name == "two_costs" and answer[0] != 0 and answer[1] == 2:
         return None
-    elif name not in ("two_costs", "listing"):
+    elif name not in ("two_costs", "listing", "levels_listing"):
         at = arguments[1] // 8
     return int(stored[at] >= 254) if at < len(stored) else None
 
@@ -3281,6 +3475,7 @@ def form_met(name, arguments, answer):
 def make():
     """All files by name, and what was made of each call."""
     files, report, answers, signs, tests, sizes, zeros, replays, reports = {}, [], [], set(), set(), set(), set(), {}, {}
+    levels = set()
     for seed, name in enumerate(CALLS, 1):
         inputs, seen, refusals, behind, by_table, by_form = [], set(), {}, {}, set(), {}
         answers.append(name)
@@ -3319,6 +3514,9 @@ def make():
             if name == "report":
                 for met in report_met(arguments[0], arguments[1:], answer):
                     reports[met] = reports.get(met, 0) + 1
+            if name == "levels":
+                met = {answer[0]} | levels_met(*arguments[:2], answer)
+                levels |= {(arguments[0], word) for word in met}
             if answer[0] == 20:
                 found = refused_zeros(name, arguments, answer)
                 zeros.add((name, found[0], zero_word(*found)))
@@ -3346,6 +3544,7 @@ def make():
     check_zeros(zeros)
     check_replays(replays)
     check_reports(reports)
+    check_levels(levels)
     assert max(map(len, files.values())) <= LARGEST_FILE, {f: len(t) for f, t in files.items()}
     files["crates/cases/stdout"] = "".join(line + "\n" for line in answers).encode()
     assert len(files["crates/cases/stdout"]) <= LARGEST_ANSWERS, len(files["crates/cases/stdout"])
@@ -3354,7 +3553,7 @@ def make():
         for program, text_of in PROGRAMS.items():
             files["tests/%s/%s.stdout" % (program, name)] = text_of(stored).encode()
     for program, text_of in PROGRAMS.items():
-        stored = stored_costs(*law.example("H"))
+        stored = stored_costs(*law.example(RUN_ON[program]))
         files["crates/%s/stdin" % program] = bytes(stored)
         files["crates/%s/stdout" % program] = text_of(stored).encode()
     for name, stored in term_inputs():
@@ -3396,6 +3595,15 @@ def listing_inputs():
     yield "nanoseconds64", stored_costs(64, tree(dice, 64, 900000, "uneven"), NEW)
     yield "new_damaged", stored_costs(4, table_from(4, [1, 8000000, 1000001, 8000001, 0, 0]), NEW)
     yield "new_short", [255]
+    # Levels: nine images of which image 1 is in groups, and others are; the longest listing of levels; many images
+    # of which the last three alone have no levels.
+    yield "levels", stored_costs(9, law.level_table(9, LEVELS_OF_NINE))
+    yield "levels64", law.longest_levels_listing()
+    yield "no_levels64", stored_costs(64, law.with_failing_three(64, 62, 63, 64))
+
+
+# Groups of nine images: 1 and 2, these and 5, 3 and 9, three that are equally far, these with 3 and 9, and all.
+LEVELS_OF_NINE = [(3, 2), (19, 6), (260, 4), (104, 5), (364, 7), (511, 12)]
 
 
 def term_inputs():
