@@ -41,6 +41,9 @@ fn one_case(call: u32, text: &[u8], at: usize) -> usize {
     if call == calls::REPLAY {
         return leaving_cases::leaving_case(text, at);
     }
+    if call == calls::LEVELS {
+        return level_cases::levels_case(text, at);
+    }
     if calls::WRITE_NEWICK <= call {
         return newick_cases::newick_case(call, text, at);
     }
@@ -121,4 +124,5 @@ fn main() {
     run(calls::READ_NEWICK, b"read_newick", b"read_newick.txt");
     run(calls::REPLAY, b"replay", b"replay.txt");
     run(calls::REPORT, b"report", b"report.txt");
+    run(calls::LEVELS, b"levels", b"levels.txt");
 }
