@@ -13,8 +13,8 @@
 !
 ! A cost table has rank 2: t(i, j) is the entry in row i and column j, 0 on the diagonal and nowhere else. The tables of a team have
 ! rank 3: tables(:, :, k) is table k.
-! Entries, costs, images, rows and counts are default integers, 32 bits in arrays; far sides and the sums of a term report are
-! integer(int64), stored bytes integer(int8). The events of a replay, which are images, are default integers or bytes.
+! Entries, costs, heights, images, rows and counts are default integers, 32 bits in arrays; far sides, member sums and the sums of a
+! term report are integer(int64), stored bytes integer(int8). The events of a replay, which are images, are default integers or bytes.
 !
 ! What writes stored bytes is told the form first: kemotuiki_old_form, for entries to 1,000,000 and doubled costs to 2,000,000, which
 ! every version reads; or kemotuiki_new_form, for every table. What reads them takes both.
@@ -32,12 +32,12 @@ module kemotuiki
     private
 
     ! The version, as the file VERSION has it.
-    character(*), parameter, public :: kemotuiki_version = '4.0.1'
-    integer, parameter, public :: kemotuiki_version_major = 4, kemotuiki_version_minor = 0, kemotuiki_version_patch = 1
+    character(*), parameter, public :: kemotuiki_version = '4.1.0'
+    integer, parameter, public :: kemotuiki_version_major = 4, kemotuiki_version_minor = 1, kemotuiki_version_patch = 0
 
-    ! Room that is enough for every n: images, rows of a tree, bytes of a stored table in either form, and in the old form alone; the
-    ! tables of a team; characters of a Newick text; and bytes of a refusal's text.
-    integer, parameter, public :: kemotuiki_images = 64, kemotuiki_rows = 125, kemotuiki_tables = 16
+    ! Room that is enough for every n: images, rows of a tree, groups of a table with levels, bytes of a stored table in either form, and
+    ! in the old form alone; the tables of a team; characters of a Newick text; and bytes of a refusal's text.
+    integer, parameter, public :: kemotuiki_images = 64, kemotuiki_rows = 125, kemotuiki_groups = 63, kemotuiki_tables = 16
     integer, parameter, public :: kemotuiki_cost_bytes = 5798, kemotuiki_link_bytes = 1362
     integer, parameter, public :: kemotuiki_old_cost_bytes = 5041, kemotuiki_old_link_bytes = 1315
     integer, parameter, public :: kemotuiki_newick_bytes = 1432
@@ -75,6 +75,7 @@ module kemotuiki
         kemotuiki_outside_profile = 18, &
         kemotuiki_too_many_sides = 19, &
         kemotuiki_zero_off_diagonal = 20, &
+        kemotuiki_no_levels = 21, &
         kemotuiki_siblings_out_of_order = 22
 
     ! What all answers begin with: the refusal's number or 0, the table that was refused in calls that take more than one, and the
@@ -95,6 +96,9 @@ module kemotuiki
     end type
     type, extends(kemotuiki_answer), public :: kemotuiki_rows_answer
         integer :: rows
+    end type
+    type, extends(kemotuiki_answer), public :: kemotuiki_levels_answer
+        integer :: groups
     end type
     type, extends(kemotuiki_answer), public :: kemotuiki_path_answer
         integer :: cost
@@ -133,7 +137,7 @@ module kemotuiki
     public :: kemotuiki_upper_rows, kemotuiki_route, kemotuiki_compare, kemotuiki_consensus, kemotuiki_write_costs
     public :: kemotuiki_read_costs, kemotuiki_write_links, kemotuiki_read_links, kemotuiki_write_batch, kemotuiki_choice
     public :: kemotuiki_convert_costs, kemotuiki_convert_links, kemotuiki_write_newick, kemotuiki_read_newick, kemotuiki_replay
-    public :: kemotuiki_report
+    public :: kemotuiki_report, kemotuiki_levels
 
     ! Far sides and bit positions may be of either kind. A far side that holds image 32 or a later one needs int64: as a default integer
     ! it would be negative, or not fit.
@@ -174,6 +178,7 @@ module kemotuiki
     end type
 
     abstract interface
+        ! A cost table, and two arrays to write: far sides and costs, or member sums and heights.
         function c_reading(n, t, t_count, fars, fars_count, costs, costs_count) result(r) bind(c)
             import
             integer(word), value :: n, t_count, fars_count, costs_count
@@ -186,6 +191,7 @@ module kemotuiki
     procedure(c_reading), bind(c, name='kemotuiki_measured') :: c_measured
     procedure(c_reading), bind(c, name='kemotuiki_exact') :: c_exact
     procedure(c_reading), bind(c, name='kemotuiki_exact_grafted') :: c_exact_grafted
+    procedure(c_reading), bind(c, name='kemotuiki_levels') :: c_levels
 
     abstract interface
         function c_conversion(form, bytes, bytes_count, out, out_count) result(r) bind(c)
@@ -438,6 +444,20 @@ contains
         type(kemotuiki_rows_answer) :: r
         r = rows_answer(c_call(size(t, 1, word), t, size(t, kind=word), fars, size(fars, kind=word), &
                                costs, size(costs, kind=word)))
+        call place_by_rows(r, t)
+    end function
+
+    ! The reading of levels of t, into members and heights: groups of images, ascending by member sum, each with its height, which is the
+    ! largest entry inside it. Image i is in the group where btest(members(k), i-1). With 64 images a group that holds image 64 is negative
+    ! as a signed number, and the group of all 64 is -1.
+    function kemotuiki_levels(t, members, heights) result(r)
+        integer(int32), intent(in), contiguous :: t(:, :)
+        integer(int64), intent(inout), contiguous :: members(:)
+        integer(int32), intent(inout), contiguous :: heights(:)
+        type(kemotuiki_levels_answer) :: r
+        type(one_value) :: c
+        c = c_levels(size(t, 1, word), t, size(t, kind=word), members, size(members, kind=word), heights, size(heights, kind=word))
+        r = kemotuiki_levels_answer(kemotuiki_answer=head(c%head), groups=int(c%value))
         call place_by_rows(r, t)
     end function
 

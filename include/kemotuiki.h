@@ -6,6 +6,7 @@
  * stored table that an earlier version wrote as well.
  * A division of the images is named by its far side, the group without image 1, as the sum of 2^(i-1) over its images i.
  * A link table is rows of a far side and a doubled cost, at most 16,000,000, far sides strictly ascending, from n to 2n-3 rows.
+ * The reading of levels answers groups, each named by its member sum, 2^(i-1) over its images i as well, but with image 1 allowed.
  * Images, rows, tables and events are counted from 1.
  *
  * Both kinds of table have two stored forms. The old form is for entries to 1,000,000 and doubled costs to 2,000,000, and is the
@@ -25,8 +26,9 @@
  * A refused call alters no lent place, with two exceptions: a replay has written its rows also where an event was refused, and a term
  * report its far sides also where a table was refused. A call writes only the places that its answer names, from the front.
  *
- * Single numbers are size_t, far sides and the sums of a term report 64 bits, stored bytes and events 8 bits, text is char. All other
- * slices hold 32 bits, the batch's numbers of images and of rows as well, so that default integers of Fortran cross as they are.
+ * Single numbers are size_t, far sides, member sums and the sums of a term report 64 bits, stored bytes and events 8 bits, text is
+ * char. All other slices hold 32 bits, the batch's numbers of images and of rows as well, so that default integers of Fortran cross as
+ * they are.
  *
  * The header is C89 with <stdint.h>, later C, and C++.
  */
@@ -37,17 +39,18 @@
 #include <stdint.h>
 
 /* The version, as the file VERSION has it. */
-#define KEMOTUIKI_VERSION "4.0.1"
+#define KEMOTUIKI_VERSION "4.1.0"
 #define KEMOTUIKI_VERSION_MAJOR 4
-#define KEMOTUIKI_VERSION_MINOR 0
-#define KEMOTUIKI_VERSION_PATCH 1
+#define KEMOTUIKI_VERSION_MINOR 1
+#define KEMOTUIKI_VERSION_PATCH 0
 
 /*
- * Room that is enough for every n: images, rows of a tree, bytes of a stored table in either form, and in the old form alone; the
- * most tables of a team; bytes of a Newick text; and bytes of a refusal's text.
+ * Room that is enough for every n: images, rows of a tree, groups of a table with levels, bytes of a stored table in either form, and in
+ * the old form alone; the most tables of a team; bytes of a Newick text; and bytes of a refusal's text.
  */
 #define KEMOTUIKI_IMAGES 64
 #define KEMOTUIKI_ROWS 125
+#define KEMOTUIKI_GROUPS 63
 #define KEMOTUIKI_COST_BYTES 5798
 #define KEMOTUIKI_LINK_BYTES 1362
 #define KEMOTUIKI_OLD_COST_BYTES 5041
@@ -107,6 +110,7 @@ enum KemotuikiNumber {
     KEMOTUIKI_OUTSIDE_PROFILE = 18,  /* outside the Newick profile: byte, the length plus one where the text ends too early */
     KEMOTUIKI_TOO_MANY_SIDES = 19,   /* more than 1,024 far sides in one report */
     KEMOTUIKI_ZERO_OFF_DIAGONAL = 20, /* zero off the diagonal: row, column */
+    KEMOTUIKI_NO_LEVELS = 21,        /* no levels: three images */
     KEMOTUIKI_SIBLINGS_OUT_OF_ORDER = 22 /* siblings of a Newick text out of order: byte */
 };
 
@@ -140,6 +144,12 @@ typedef struct KemotuikiRows {
     size_t number, table, a, b, c, d;
     size_t rows;
 } KemotuikiRows;
+
+/* How many groups were written. */
+typedef struct KemotuikiLevels {
+    size_t number, table, a, b, c, d;
+    size_t groups;
+} KemotuikiLevels;
 
 /* The path cost of two images, doubled as the costs of the rows are. */
 typedef struct KemotuikiPath {
@@ -210,6 +220,7 @@ KEMOTUIKI_ASSERT(kemotuiki_words_of_64_bits, sizeof(size_t) == 8);
 KEMOTUIKI_ASSERT(kemotuiki_index_size, sizeof(KemotuikiIndex) == 56);
 KEMOTUIKI_ASSERT(kemotuiki_order_size, sizeof(KemotuikiOrder) == 56);
 KEMOTUIKI_ASSERT(kemotuiki_rows_size, sizeof(KemotuikiRows) == 56);
+KEMOTUIKI_ASSERT(kemotuiki_levels_size, sizeof(KemotuikiLevels) == 56);
 KEMOTUIKI_ASSERT(kemotuiki_path_size, sizeof(KemotuikiPath) == 56);
 KEMOTUIKI_ASSERT(kemotuiki_comparison_size, sizeof(KemotuikiComparison) == 88);
 KEMOTUIKI_ASSERT(kemotuiki_bytes_size, sizeof(KemotuikiBytes) == 56);
@@ -264,6 +275,20 @@ KemotuikiRows kemotuiki_exact(size_t n, const uint32_t *t, size_t t_count,
 KemotuikiRows kemotuiki_exact_grafted(size_t n, const uint32_t *t, size_t t_count,
                                       uint64_t *KEMOTUIKI_RESTRICT fars, size_t fars_count,
                                       uint32_t *KEMOTUIKI_RESTRICT costs, size_t costs_count);
+
+/*
+ * The reading of levels, for rooms that are wired in levels: it accepts a table exactly when of the entries of any three images the
+ * largest occurs at least twice. A group is two or more images, a largest set in which every entry is at most some entry of the table,
+ * and its height is the largest entry inside it, which is not doubled. The entry of two images is the height of the smallest group that
+ * holds both; any two groups are nested or disjoint, and all images together are the last group. Each such table has a tree too: the
+ * exact reading accepts it, and every group but the last is one side of a link of that tree. Groups are no link table, and no call over
+ * link tables takes them.
+ * Answers the groups written, from 1 to n-1: their member sums, ascending, to members, and their heights to heights. Room: n-1 places in
+ * each. Refusals 1, 2, 3, 4, 5, 6, 20, 21; 21 names the first three images whose largest entry occurs once.
+ */
+KemotuikiLevels kemotuiki_levels(size_t n, const uint32_t *t, size_t t_count,
+                                 uint64_t *KEMOTUIKI_RESTRICT members, size_t members_count,
+                                 uint32_t *KEMOTUIKI_RESTRICT heights, size_t heights_count);
 
 /*
  * The path cost of images i and j in the link table of count rows: the sum of the doubled costs between them.

@@ -5,6 +5,7 @@ use numbers::KemotuikiChoice;
 use numbers::KemotuikiComparison;
 use numbers::KemotuikiCosts;
 use numbers::KemotuikiIndex;
+use numbers::KemotuikiLevels;
 use numbers::KemotuikiLinks;
 use numbers::KemotuikiOrder;
 use numbers::KemotuikiPath;
@@ -19,6 +20,7 @@ ghost use Rattle.theory.specs.Tables.{limit};
 ghost use Rattle.index.specs.Call.{indexAnswer};
 ghost use Rattle.order.specs.Outcome.{orderOutcome};
 ghost use Rattle.tree.specs.Readings.{measuredOutcome, exactOutcome};
+ghost use Rattle.levels.specs.Outcome.{LeftLevels, levelsOutcome};
 ghost use Rattle.routes.specs.Outcomes.{pathOutcome, upperOutcome, routeOutcome};
 ghost use Rattle.compare.specs.Call.{comparison};
 ghost use Rattle.consensus.specs.Call.{consensusOutcome};
@@ -35,11 +37,12 @@ ghost use Rattle.conversion.specs.Links.{linksConverted};
 ghost use Rattle.newick_writer.specs.Writing as newick-writing;
 ghost use Rattle.newick_reader.specs.Outcomes as newick-reading;
 ghost use Rattle.refusal_text.specs.Text.{refusalTextOutcome};
+ghost use Rattle.numbers.specs.Levels.{ofLevels};
 ghost use Rattle.numbers.specs.Numbers.{ofIndex, ofOrder, ofRows, ofPath, ofComparison, ofShared};
 ghost use Rattle.numbers.specs.Replays.{ofReplayed};
 ghost use Rattle.numbers.specs.Reports.{ofReport};
 ghost use Rattle.numbers.specs.Stored.{ofBytes, ofBatched, ofCosts, ofLinks, ofChosen, ofTree};
-ghost use Rattle.kemotuiki.specs.Crossing.{crossed, crossedReport, crossedRows};
+ghost use Rattle.kemotuiki.specs.Crossing.{crossed, crossedLevels, crossedReport, crossedRows};
 ghost use Rattle.bits.specs.Editions.{editionBy};
 ghost use Rattle.cost_forms.specs.Form.{costForm};
 ghost use Rattle.link_forms.specs.Form.{linkForm};
@@ -106,6 +109,20 @@ pub extern "C" fn kemotuiki_exact_grafted(
         (now (fars .exit)) (now (costs .exit)) ⌝ }
 {
     numbers::of_rows(graft::exact(n, t, fars, costs))
+}
+
+// The reading of levels: groups, and the height of each.
+#[no_mangle]
+pub extern "C" fn kemotuiki_levels(
+    n: usize,
+    t: &[u32],
+    members: &mut [u64],
+    heights: &mut [u32],
+) -> KemotuikiLevels
+    ensures { λ r. ⌜ LeftLevels (crossedLevels ofLevels (levelsOutcome limit n (now (t .entry)) (now (members .entry)) (now (heights .entry)))) r
+        (now (members .exit)) (now (heights .exit)) ⌝ }
+{
+    numbers::of_levels(levels::levels(n, t, members, heights))
 }
 
 // The path cost of images i and j.

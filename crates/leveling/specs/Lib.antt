@@ -5,7 +5,8 @@ pub mod Check
 pub mod Scan
 -- Its check by its number.
 pub mod InOrder
--- What refusal 21 is worth.
+-- What refusal 21 is worth, and examples.
 pub mod Promises
+pub mod Examples
 -- What is true of it.
 pub mod Laws

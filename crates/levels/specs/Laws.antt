@@ -7,6 +7,7 @@ pub mod Heights
 pub mod Balls
 pub mod Smallest
 pub mod Count
+pub mod Determined
 -- How the code finds them and stores them.
 pub mod Listed
 pub mod Members

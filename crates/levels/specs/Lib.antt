@@ -9,6 +9,7 @@ pub mod Balls
 pub mod Next
 pub mod Putting
 -- What the promise is worth, and settled examples.
+pub mod Reading
 pub mod Promises
 pub mod Examples
 -- Its checks by their numbers, in order.

@@ -1,6 +1,7 @@
 -- What the contracts of `numbers` cite: the head of an answer, and the numbers of each kind.
 pub mod Heads
 pub mod Numbers
+pub mod Levels
 pub mod Stored
 pub mod Replays
 pub mod Reports

@@ -16,6 +16,7 @@ use stored_costs::StoredCosts;
 use stored_links::StoredLinks;
 ghost use mathlib.Core.Path.{_≡_};
 ghost use Rattle.numbers.specs.Heads.{accepted, refused};
+ghost use Rattle.numbers.specs.Levels.{ofLevels};
 ghost use Rattle.numbers.specs.Numbers.{ofIndex, ofOrder, ofRows, ofPath, ofComparison, ofShared};
 ghost use Rattle.numbers.specs.Replays.{ofReplayed};
 ghost use Rattle.numbers.specs.Reports.{ofEnd, ofReport};
@@ -45,6 +46,13 @@ pub struct KemotuikiIndex {
 pub struct KemotuikiOrder {
     pub head: KemotuikiHead,
     pub images: usize,
+}
+
+// How many groups were written.
+#[repr(C)]
+pub struct KemotuikiLevels {
+    pub head: KemotuikiHead,
+    pub groups: usize,
 }
 
 // How many rows were written.
@@ -192,6 +200,22 @@ pub fn of_order(x: Written) -> KemotuikiOrder
         Written::Refused(r) => KemotuikiOrder {
             head: refuse(0, r),
             images: 0,
+        },
+    }
+}
+
+// The numbers of the reading of levels.
+pub fn of_levels(x: Written) -> KemotuikiLevels
+    ensures { λ r. ⌜ r ≡ ofLevels x ⌝ }
+{
+    match x {
+        Written::Places(groups) => KemotuikiLevels {
+            head: accept(),
+            groups,
+        },
+        Written::Refused(r) => KemotuikiLevels {
+            head: refuse(0, r),
+            groups: 0,
         },
     }
 }

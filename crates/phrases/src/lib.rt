@@ -26,6 +26,17 @@ pub fn put_two(out: &mut [u8], at: usize, words: &[u8], a: usize, b: usize) -> u
     text::put_field(out, q, b as u64)
 }
 
+// Words, and three places behind them.
+pub fn put_three(out: &mut [u8], at: usize, words: &[u8], a: usize, b: usize, c: usize) -> usize
+    requires { ⌜ at + length (now words) + 63 ≤ length (now out) ⌝ }
+    ensures { λ r. ⌜ Put (now (words .entry) ++ fields (a ∷ b ∷ c ∷ [])) at (now (out .entry)) r (now (out .exit)) ⌝ }
+{
+    let p = text::put_word(out, at, words);
+    let q = text::put_field(out, p, a as u64);
+    let s = text::put_field(out, q, b as u64);
+    text::put_field(out, s, c as u64)
+}
+
 // Words, and all four places behind them.
 pub fn put_four(
     out: &mut [u8],
@@ -39,11 +50,8 @@ pub fn put_four(
     requires { ⌜ at + length (now words) + 84 ≤ length (now out) ⌝ }
     ensures { λ r. ⌜ Put (now (words .entry) ++ fields (a ∷ b ∷ c ∷ d ∷ [])) at (now (out .entry)) r (now (out .exit)) ⌝ }
 {
-    let p = text::put_word(out, at, words);
-    let q = text::put_field(out, p, a as u64);
-    let s = text::put_field(out, q, b as u64);
-    let t = text::put_field(out, s, c as u64);
-    text::put_field(out, t, d as u64)
+    let p = put_three(out, at, words, a, b, c);
+    text::put_field(out, p, d as u64)
 }
 
 // Refusal 12, whose row is 0 where the index call gives it.

@@ -60,6 +60,12 @@ unfolding refusalText aboutTable saidOf sayingText sayingIn sayings sayingsFrom4
     decimal digits
 off-diagonal = refl
 
+-- 21, whose fourth place is 0 and not said
+pub no-levels : refusalText 21 0 1 2 33 0 ≡ bytesOf "no levels: images 1 2 33"
+unfolding refusalText aboutTable saidOf sayingText sayingIn sayings sayingsFrom4 sayingsFrom8 sayingsFrom12 sayingsFrom16 sayingsFrom20 bytesOf fields field
+    decimal digits
+no-levels = refl
+
 pub no-such : refusalText 99 0 1 2 3 4 ≡ bytesOf "no such refusal: number 99"
 unfolding refusalText aboutTable saidOf sayingText sayingIn sayings sayingsFrom4 sayingsFrom8 sayingsFrom12 sayingsFrom16 sayingsFrom20 bytesOf fields field
     decimal digits

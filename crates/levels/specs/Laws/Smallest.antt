@@ -1,18 +1,20 @@
--- The entry of two different images is the height of the smallest group that holds both; so groups and heights determine the table.
+-- The entry of two different images is the height of the smallest group that holds both.
 -- The set of all images is a group. Assumes nothing.
-use mathlib.Core.Bool.{true}
+use mathlib.Core.Bool.{false, true, _&&_}
 use mathlib.Core.List.{List·Memᴰ}
+use mathlib.Core.Logic.{inl, inr, _⊎_}
 use mathlib.Core.Path.{ap, subst, sym, _∙_, _≡_}
 use Prim.Native.Nat.{ℕ, _-_, _<_, _^_, _≤_}
 use native.Mathlib.Omega.{arith}
-use lib.Dec.{eqb}
+use lib.Dec.{eqb, leb}
 use lib.Pow.{pow-pos}
-use borrow.Author.Tests.{eqb-false, eqb-true}
+use borrow.Author.Tests.{eqb-false, eqb-true, leb-false, leb-true}
 use borrow.Table.Steps.{cases}
 use Rattle.ground.specs.Laws.Bits.{bit-full}
 use Rattle.ground.specs.Laws.Ones.{ones-full}
-use Rattle.theory.specs.FarSides.{Within, holds}
-use Rattle.theory.specs.Laws.Nested.{bit-holds, holds-false, holds-true}
+use Rattle.ground.specs.Laws.Tests.{and-l, and-r}
+use Rattle.theory.specs.FarSides.{Nested, Within, holds}
+use Rattle.theory.specs.Laws.Nested.{bit-holds, find, holds-false, holds-true}
 use Rattle.theory.specs.Tables.{WellFormed}
 use Rattle.levels.specs.Balls.{ball}
 use Rattle.levels.specs.Groups.{Group, Smallest, groups, height}
@@ -69,22 +71,21 @@ module _ (L : ℕ) (d : ℕ → ℕ → ℕ) (n : ℕ) (c : WellFormed L d n) (t
     pub smallest-height : (S : ℕ) → Smallest d n i j S → height d n S ≡ d i j
     smallest-height S p = ap (height d n) (smallest-one S (ball d n i (d i j)) p smallest-exists) ∙ ball-height L d n c t i j hi hj
 
--- Two tables with levels that have the same groups with the same heights are the same.
-pub levels-determine : (L : ℕ) (d e : ℕ → ℕ → ℕ) (n : ℕ) → WellFormed L d n → WellFormed L e n → ThreePoint d n → ThreePoint e n
-    → groups d n ≡ groups e n → ((S : ℕ) → List·Memᴰ S (groups d n) → height d n S ≡ height e n S) → (i j : ℕ) → i < n → j < n → d i j ≡ e i j
-levels-determine L d e n c c′ t t′ same high i j hi hj =
-    cases (eqb i j) (λ q. ap (d i) (sym (eqb-true i j q)) ∙ c .self hi ∙ sym (ap (e i) (sym (eqb-true i j q)) ∙ c′ .self hi))
-    (λ q.
-    let ne = eqb-false i j q in
-    let S = ball d n i (d i j) in
-    let p = smallest-exists L d n c t i j hi hj ne in
-    sym (smallest-height L d n c t i j hi hj ne S p)
-    ∙ high S (groups-mem L d n c S .1 (p .group))
-    ∙ smallest-height L e n c′ t′ i j hi hj ne S (record {
-      group = over p;
-      both = p .both;
-      least = λ R g. p .least R (groups-mem L d n c R .0 (subst (List·Memᴰ R) (sym same) (groups-mem L e n c′ R .1 g)));
-    }))
+-- ## Two groups
+
+-- they are nested or disjoint: with an image in common both are balls around it, and the higher contains the other
+pub groups-nested : (L : ℕ) (d : ℕ → ℕ → ℕ) (n : ℕ) → WellFormed L d n → ThreePoint d n → (S R : ℕ) → Group d n S → Group d n R → Nested n S R
+groups-nested L d n c t S R p q = go (find n (λ i. holds S i && holds R i))
   where
-    over : {S : ℕ} → Smallest d n i j S → Group e n S
-    over {S} p = groups-mem L e n c′ S .0 (subst (List·Memᴰ S) same (groups-mem L d n c S .1 (p .group)))
+    inside : (S R x : ℕ) → Group d n S → Group d n R → x < n → holds S x ≡ true → holds R x ≡ true → height d n S ≤ height d n R → Within n S R
+    inside S R x p q hx s r h k l e =
+        ap (λ (y : ℕ). holds y k) (group-ball L d n c t R q x hx r)
+        ∙ ball-in d n x (height d n R) k l (omega (arith, h, le-height d n S x k hx l s e))
+
+    go : ((x : ℕ) × (x < n) × ((holds S x && holds R x) ≡ true)) ⊎ ((i : ℕ) → i < n → (holds S i && holds R i) ≡ false) → Nested n S R
+    go (inl (x, hx, e)) =
+        let s = and-l (holds S x) (holds R x) e in
+        let r = and-r (holds S x) (holds R x) e in
+        cases (leb (height d n S) (height d n R)) (λ h. inl (inside S R x p q hx s r (leb-true (height d n S) (height d n R) h)))
+        (λ h. inr (inl (inside R S x q p hx r s (omega (arith, leb-false (height d n S) (height d n R) h)))))
+    go (inr none) = inr (inr (λ i hi s. rw s at (none i hi)))

@@ -19,10 +19,12 @@ use Rattle.consensus.specs.declared.Shared.{Shared}
 use Rattle.consensus.specs.declared.Shared.the-variants.{Rows}
 use Rattle.numbers.specs.Heads.{refused}
 use Rattle.numbers.specs.Kept.{Kept, Numbered}
+use Rattle.numbers.specs.Levels.{ofLevels}
 use Rattle.numbers.specs.Numbers.{ofComparison, ofIndex, ofOrder, ofPath, ofRows, ofShared}
 use Rattle.numbers.specs.declared.KemotuikiComparison.{KemotuikiComparison}
 use Rattle.numbers.specs.declared.KemotuikiHead.{KemotuikiHead}
 use Rattle.numbers.specs.declared.KemotuikiIndex.{KemotuikiIndex}
+use Rattle.numbers.specs.declared.KemotuikiLevels.{KemotuikiLevels}
 use Rattle.numbers.specs.declared.KemotuikiOrder.{KemotuikiOrder}
 use Rattle.numbers.specs.declared.KemotuikiPath.{KemotuikiPath}
 use Rattle.numbers.specs.declared.KemotuikiRows.{KemotuikiRows}
@@ -75,6 +77,13 @@ pub order-kept : Kept (λ (k : KemotuikiOrder). k .head) ofOrder (λ m. written.
 order-kept = kept _ ofOrder (λ m. written.Refused) (λ k. Places (k .images)) (λ m q. refl) each
   where
     each : (x : Written) → ReadBack (λ (k : KemotuikiOrder). k .head) ofOrder (λ m. written.Refused) (λ k. Places (k .images)) x
+    each (Places m) = inr (refl, refl)
+    each (written.Refused q) = inl (0, q, refl, refl)
+
+pub levels-kept : Kept (λ (k : KemotuikiLevels). k .head) ofLevels (λ m. written.Refused)
+levels-kept = kept _ ofLevels (λ m. written.Refused) (λ k. Places (k .groups)) (λ m q. refl) each
+  where
+    each : (x : Written) → ReadBack (λ (k : KemotuikiLevels). k .head) ofLevels (λ m. written.Refused) (λ k. Places (k .groups)) x
     each (Places m) = inr (refl, refl)
     each (written.Refused q) = inl (0, q, refl, refl)
 

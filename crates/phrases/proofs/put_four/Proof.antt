@@ -1,106 +1,60 @@
--- `phrases::put_four` meets its contract: the words, then four places. Assumes nothing.
-use mathlib.Core.List.{List, [], _++_, _∷_}
+-- `phrases::put_four` meets its contract: the words and three places, then the fourth. Assumes nothing.
+use mathlib.Core.List.{List, [], append-assoc, append-nil, _++_, _∷_}
+use mathlib.Core.Path.{_≡_}
 use Prim.Native.Nat.{ℕ}
 use native.Mathlib.Omega.{arith}
 use borrow.Author.Needs.{needs}
 use Rattle.text.specs.Fields.{field, fields}
 use Rattle.text.specs.Laws.Lengths.{word-fields-fit}
-use Rattle.text.specs.Laws.Putting.{rest-begin, rest-end, rest-fits, rest-step}
+use Rattle.text.specs.Laws.Putting.{rest-begin, rest-last, rest-step}
 use Rattle.text.specs.Putting.{Fits, Rest}
 use Rattle.phrases.proofs.put_four.Statement.{statement}
 use Rattle.phrases.proofs.put_four.Tie as tie
 
--- where the call began, as seen from behind the words and behind each place
-abbrev s1 : tie.After-put-word → tie.Start
-s1 c = c .before .before .before .before
+-- where the call began, as seen from behind the first three places
+abbrev begun : tie.After-put-three → tie.Start
+begun c = c .before .before .before .before
 
-abbrev s2 : tie.After-put-field → tie.Start
-s2 c = s1 (c .before .before .before .before)
+-- the words and three places, and what is to be written
+abbrev three : tie.Start → List ℕ
+three s = s .args .words .now ++ fields (s .args .a ∷ s .args .b ∷ s .args .c ∷ [])
 
-abbrev s3 : tie.After-put-field2 → tie.Start
-s3 c = s2 (c .before .before .before .before)
-
-abbrev s4 : tie.After-put-field3 → tie.Start
-s4 c = s3 (c .before .before .before .before)
-
--- what is to be written
 abbrev line : tie.Start → List ℕ
 line s = s .args .words .now ++ fields (s .args .a ∷ s .args .b ∷ s .args .c ∷ s .args .d ∷ [])
 
-fitting : (s : tie.Start) → Fits (line s) (s .args .at) (s .args .out .now)
+parts : (s : tie.Start) → three s ++ field (s .args .d) ≡ line s
+unfolding fields
+parts s = simp (append-assoc, append-nil)
+
+fitting : (s : tie.Start) → Fits (three s ++ field (s .args .d)) (s .args .at) (s .args .out .now)
 fitting s =
-    word-fields-fit (s .args .words .now) (s .args .a ∷ s .args .b ∷ s .args .c ∷ s .args .d ∷ []) (s .args .at) (s .args .out .now)
-    (omega (arith, s .pre))
+    rw (parts s)
+    (word-fields-fit (s .args .words .now) (s .args .a ∷ s .args .b ∷ s .args .c ∷ s .args .d ∷ []) (s .args .at) (s .args .out .now) (omega (arith, s .pre)))
 
--- what is left to write there
-left-1 : (c : tie.After-put-word)
-    → let s = s1 c .args in
-    Rest (fields (s .a ∷ s .b ∷ s .c ∷ s .d ∷ [])) (c .put-word .result) (c .put-word .last .0) (line (s1 c)) (s .at) (s .out .now)
-left-1 c =
-    let s = s1 c .args in
-    rest-step (s .words .now) (fields (s .a ∷ s .b ∷ s .c ∷ s .d ∷ [])) (rest-begin _ (s .at) (s .out .now)) (fitting (s1 c)) (c .put-word .ensures)
+-- the fourth place is left to write there
+left : (c : tie.After-put-three)
+    → let s = begun c .args in
+    Rest (field (s .d)) (c .put-three .result) (c .put-three .last .0) (three (begun c) ++ field (s .d)) (s .at) (s .out .now)
+left c =
+    let s = begun c in
+    rest-step (three s) (field (s .args .d)) (rest-begin _ (s .args .at) (s .args .out .now)) (fitting s) (c .put-three .ensures)
 
-left-2 : (c : tie.After-put-field)
-    → let s = s2 c .args in
-    Rest (fields (s .b ∷ s .c ∷ s .d ∷ [])) (c .put-field .result) (c .put-field .last .0) (line (s2 c)) (s .at) (s .out .now)
-unfolding fields
-left-2 c =
-    let s = s2 c .args in
-    rest-step (field (s .a)) (fields (s .b ∷ s .c ∷ s .d ∷ [])) (left-1 (c .before .before .before .before)) (fitting (s2 c)) (c .put-field .ensures)
-
-left-3 : (c : tie.After-put-field2)
-    → let s = s3 c .args in
-    Rest (fields (s .c ∷ s .d ∷ [])) (c .put-field2 .result) (c .put-field2 .last .0) (line (s3 c)) (s .at) (s .out .now)
-unfolding fields
-left-3 c =
-    let s = s3 c .args in
-    rest-step (field (s .b)) (fields (s .c ∷ s .d ∷ [])) (left-2 (c .before .before .before .before)) (fitting (s3 c)) (c .put-field2 .ensures)
-
-left-4 : (c : tie.After-put-field3)
-    → let s = s4 c .args in
-    Rest (fields (s .d ∷ [])) (c .put-field3 .result) (c .put-field3 .last .0) (line (s4 c)) (s .at) (s .out .now)
-unfolding fields
-left-4 c =
-    let s = s4 c .args in
-    rest-step (field (s .c)) (fields (s .d ∷ [])) (left-3 (c .before .before .before .before)) (fitting (s4 c)) (c .put-field3 .ensures)
-
-put-word-requires : tie.Need-put-word-requires
-put-word-requires c κs = search needs
+put-three-requires : tie.Need-put-three-requires
+put-three-requires c κs = search needs
 
 put-field-requires : tie.Need-put-field-requires
-unfolding fields
 put-field-requires c κs =
     let d = c .before .before .before in
-    let s = s1 d .args in rest-fits (field (s .a)) (fields (s .b ∷ s .c ∷ s .d ∷ [])) (left-1 d) (fitting (s1 d))
-
-put-field-requires-2 : tie.Need-put-field-requires-2
-unfolding fields
-put-field-requires-2 c κs =
-    let d = c .before .before .before in
-    let s = s2 d .args in rest-fits (field (s .b)) (fields (s .c ∷ s .d ∷ [])) (left-2 d) (fitting (s2 d))
-
-put-field-requires-3 : tie.Need-put-field-requires-3
-unfolding fields
-put-field-requires-3 c κs =
-    let d = c .before .before .before in
-    let s = s3 d .args in rest-fits (field (s .c)) (fields (s .d ∷ [])) (left-3 d) (fitting (s3 d))
-
-put-field-requires-4 : tie.Need-put-field-requires-4
-unfolding fields
-put-field-requires-4 c κs =
-    let d = c .before .before .before in
-    let s = s4 d .args in rest-fits (field (s .d)) ([]) (left-4 d) (fitting (s4 d))
+    omega (arith, left d .ends, left d .size, fitting (begun d))
 
 same-length : tie.Need-same-length
 same-length c = search needs
 
 returns : tie.Need-returns
-unfolding fields
 returns c =
     let d = c .before .before .before .before .before .before in
-    rest-end (rest-step (field (s4 d .args .d)) [] (left-4 d) (fitting (s4 d)) (c .before .before .put-field4 .ensures))
+    rw (← parts (begun d)) (rest-last (left d) (c .before .before .put-field .ensures))
 
 pub put-four-spec : {M : Type 1} → statement M
 put-four-spec =
-    tie.close
-    (tie.spec put-word-requires put-field-requires put-field-requires-2 put-field-requires-3 put-field-requires-4 same-length returns)
+    tie.close (tie.spec put-three-requires put-field-requires same-length returns)
