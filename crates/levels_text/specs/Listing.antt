@@ -1,8 +1,8 @@
 -- The listing of levels of the stored cost table at the start of the bytes s, in either form, whatever follows it. Assumes nothing.
 use mathlib.Core.List.{List}
 use mathlib.Core.Path.{_≡_}
-use Prim.Native.Nat.{ℕ, _≤_}
-use lib.ListN.{length, replicate, take}
+use Prim.Native.Nat.{ℕ}
+use lib.ListN.{length, replicate}
 use Rattle.ground.specs.Buffers.{front}
 use Rattle.theory.specs.Tables.{cost}
 use Rattle.leveling.specs.Check.{levelsCheck}
@@ -23,7 +23,3 @@ levelsText s = storedText tableLevels s
 pub record Listed (s : List ℕ) (size : ℕ) (text : List ℕ) : Type 0 where
   pub sized : size ≡ length (levelsText s)
   pub listed : text ≡ front (levelsText s) (replicate room 0)
-
--- the first size places of a text are there; both parts are said so that a caller who takes them needs no proof
-abbrev pub Within : ℕ → List ℕ → Type 0
-Within size text = (size ≤ length text) × (size ≡ length (take size text))

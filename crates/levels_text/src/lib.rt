@@ -5,8 +5,9 @@ use stored_costs::StoredCosts;
 ghost use Prim.Native.Nat.{_<_, _≤_};
 ghost use lib.ListN.{length};
 ghost use Rattle.theory.specs.Tables.{CostTable, limit};
+ghost use Rattle.listing_text.specs.Listing.{Within};
 ghost use Rattle.levels_text.specs.Lines.{groupImages, groupLine, groupLines, groupsText, header, imageField, room};
-ghost use Rattle.levels_text.specs.Listing.{Listed, Within, levelsText, tableLevels};
+ghost use Rattle.levels_text.specs.Listing.{Listed, levelsText, tableLevels};
 ghost use Rattle.text.specs.Fields.{fields};
 ghost use Rattle.text.specs.Putting.{Fits, Put};
 
