@@ -4,9 +4,10 @@
  * a copy. Each case of the exact reading is read by both its engines, which must answer and leave the same; what a conversion wrote is
  * converted once more, to the form that it has, and must stay; a Newick text that was written is read and one that was read is written,
  * and must be the same; the rows that a replay leaves must be those that the cost table of the images left is read as; a term report and
- * those of its first tables must be what single calls give, table by table. boundary --edges tries null pointers with count 0, numbers too
- * large for anything, the longest stored tables and Newick text, images that cost nothing, Newick texts, replays and term reports that
- * were written by hand, the longest replays, the most tables and far sides of a term report, and the text of every answer.
+ * those of its first tables must be what single calls give, table by table; the groups of a table with levels must be sides of the rows
+ * that the exact reading gives of it. boundary --edges tries null pointers with count 0, numbers too large for anything, the longest stored
+ * tables and Newick text, images that cost nothing, Newick texts, replays, term reports and levels that were written by hand, the longest
+ * replays, the most tables and far sides of a term report, the most groups, and the text of every answer.
  */
 #include <errno.h>
 #include <stdio.h>
@@ -389,6 +390,71 @@ static void do_replay(void) {
     settle(&le, 0);
 }
 
+/* ---- levels ---- */
+
+static size_t images_in(uint64_t set) {
+    size_t count = 0;
+    for (; set; set &= set - 1) count++;
+    return count;
+}
+
+/* The first group that holds both images, counted from 0; as many as there are, if none does. Of groups that are nested the smallest comes
+ * first. */
+static size_t first_with(size_t groups, const uint64_t *members, size_t i, size_t j) {
+    size_t k = 0;
+    while (k < groups && !(members[k] >> i & members[k] >> j & 1)) k++;
+    return k;
+}
+
+/*
+ * The groups of a table, and its exact reading beside them. The last group is all images; two groups are nested or disjoint; the entry of
+ * two images is the height of the smallest group that holds both. The table has a tree, each other group is one side of a row of it, and
+ * each inner row has a group on one side.
+ */
+static void hold_groups(size_t n, const uint32_t *t, size_t groups, const uint64_t *members, const uint32_t *heights) {
+    const uint64_t all = UINT64_MAX >> (KEMOTUIKI_IMAGES - n);
+    Rows w;
+    if (groups < 1 || groups > n - 1 || members[groups - 1] != all) {
+        fault("the last group is not all images");
+        return;
+    }
+    for (size_t k = 0; k < groups; k++)
+        for (size_t m = 0; m < k; m++) {
+            uint64_t common = members[k] & members[m];
+            if (members[m] >= members[k] || (common && common != members[m])) fault("two groups are neither nested nor disjoint");
+        }
+    for (size_t i = 0; i < n; i++)
+        for (size_t j = 0; j < i; j++)
+            if (heights[first_with(groups, members, i, j)] != t[i * n + j]) fault("an entry is not the height of the smallest group");
+    lend_rows(&w, 2 * n - 3, 2 * n - 3);
+    KemotuikiRows s = kemotuiki_exact(n, t, n * n, ROWS(w));
+    if (s.number) fault("a table with levels has no tree");
+    for (size_t k = 0, m; k + 1 < groups; k++) {
+        for (m = 0; m < s.rows && w.fars[m] != (members[k] & 1 ? all ^ members[k] : members[k]);) m++;
+        if (m == s.rows || images_in(members[k]) < 2) fault("a group is no side of a row");
+    }
+    for (size_t m = 0, k; m < s.rows; m++) {
+        for (k = 0; k < groups && members[k] != w.fars[m] && members[k] != (all ^ w.fars[m]);) k++;
+        if (k == groups && images_in(w.fars[m]) > 1 && images_in(w.fars[m]) < n - 1) fault("an inner row has a group on neither side");
+    }
+    settle_rows(&w, s.rows);
+}
+
+static void do_levels(void) {
+    Lent lt;
+    Rows w;
+    size_t n = number();
+    uint32_t *t = read32(&lt);
+    read_rows(&w);
+    KemotuikiLevels r = kemotuiki_levels(n, t, lt.count, ROWS(w));
+    if (ANSWER(r, 0)) {
+        printf(" %zu", r.groups);
+        hold_groups(n, t, r.groups, w.fars, w.costs);
+    }
+    show_rows(&w, r.groups);
+    settle(&lt, 0);
+}
+
 /* ---- term reports ---- */
 
 /* The room of a term report, as the six arguments that it is: far sides, in how many trees each is, and the sums of its costs. */
@@ -710,7 +776,7 @@ static const struct {
     {"write_batch", do_write_batch}, {"choice", do_choice},       {"refusal_text", do_refusal_text},
     {"consensus", do_consensus},   {"exact_grafted", do_exact_grafted}, {"convert_costs", do_convert_costs},
     {"convert_links", do_convert_links}, {"write_newick", do_write_newick}, {"read_newick", do_read_newick},
-    {"replay", do_replay},         {"report", do_report},
+    {"replay", do_replay},         {"report", do_report},         {"levels", do_levels},
 };
 
 static int cases(const char *folder) {
@@ -771,6 +837,7 @@ static void no_images(void) {
         EXPECT(KemotuikiRows, measured, (n, NULL, 0, NULL, 0, NULL, 0), KEMOTUIKI_BAD_N, n, 0);
         EXPECT(KemotuikiRows, exact, (n, NULL, 0, NULL, 0, NULL, 0), KEMOTUIKI_BAD_N, n, 0);
         EXPECT(KemotuikiRows, exact_grafted, (n, NULL, 0, NULL, 0, NULL, 0), KEMOTUIKI_BAD_N, n, 0);
+        EXPECT(KemotuikiLevels, levels, (n, NULL, 0, NULL, 0, NULL, 0), KEMOTUIKI_BAD_N, n, 0);
         EXPECT(KemotuikiPath, path, (n, n, NULL, 0, NULL, 0, 1, 2), KEMOTUIKI_BAD_N, n, 0);
         EXPECT(KemotuikiRows, upper_rows, (n, n, NULL, 0, NULL, 0, NULL, 0), KEMOTUIKI_BAD_N, n, 0);
         EXPECT(KemotuikiRows, route, (n, n, NULL, 0, NULL, 0, 1, NULL, 0), KEMOTUIKI_BAD_N, n, 0);
@@ -795,6 +862,7 @@ static void no_places(void) {
         EXPECT(KemotuikiRows, measured, (n, NULL, 0, NULL, 0, NULL, 0), KEMOTUIKI_BAD_LENGTH, 0, 0);
         EXPECT(KemotuikiRows, exact, (n, NULL, 0, NULL, 0, NULL, 0), KEMOTUIKI_BAD_LENGTH, 0, 0);
         EXPECT(KemotuikiRows, exact_grafted, (n, NULL, 0, NULL, 0, NULL, 0), KEMOTUIKI_BAD_LENGTH, 0, 0);
+        EXPECT(KemotuikiLevels, levels, (n, NULL, 0, NULL, 0, NULL, 0), KEMOTUIKI_BAD_LENGTH, 0, 0);
         EXPECT(KemotuikiBytes, write_costs, (KEMOTUIKI_OLD_FORM, n, NULL, 0, NULL, 0), KEMOTUIKI_BAD_LENGTH, 0, 0);
         EXPECT(KemotuikiBytes, write_costs, (KEMOTUIKI_NEW_FORM, n, NULL, 0, NULL, 0), KEMOTUIKI_BAD_LENGTH, 0, 0);
         EXPECT(KemotuikiPath, path, (n, n, NULL, 0, NULL, 0, SIZE_MAX, SIZE_MAX), KEMOTUIKI_BAD_LENGTH, 0, 0);
@@ -933,6 +1001,7 @@ static void refuse_table(size_t n, const uint32_t *t, const uint32_t *good, size
     EXPECT_ZERO(KemotuikiRows, measured, (n, t, all, ROWS(w)), 0);
     EXPECT_ZERO(KemotuikiRows, exact, (n, t, all, ROWS(w)), 0);
     EXPECT_ZERO(KemotuikiRows, exact_grafted, (n, t, all, ROWS(w)), 0);
+    EXPECT_ZERO(KemotuikiLevels, levels, (n, t, all, ROWS(w)), 0);
     EXPECT_ZERO(KemotuikiReplay, replay, (n, t, all, NULL, 0, ROWS(w)), 0);
     EXPECT_ZERO(KemotuikiReplay, replay, (n, t, all, &event, 1, ROWS(w)), 0);
     EXPECT_ZERO(KemotuikiComparison, compare, (n, t, all, good, all), 1);
@@ -945,6 +1014,7 @@ static void refuse_table(size_t n, const uint32_t *t, const uint32_t *good, size
     }
     for (size_t f = 0; f < sizeof forms / sizeof *forms; f++) EXPECT_ZERO(KemotuikiBytes, write_costs, (forms[f], n, t, all, NULL, 0), 0);
     EXPECT(KemotuikiRows, measured, (n, t, all, w.fars, room - 1, w.costs, room), KEMOTUIKI_NO_ROOM, 0, 0);
+    EXPECT(KemotuikiLevels, levels, (n, t, all, w.fars, n - 1, w.costs, n - 2), KEMOTUIKI_NO_ROOM, 0, 0);
     EXPECT(KemotuikiOrder, order, (n, t, all, 1, 2, out, n - 1), KEMOTUIKI_NO_ROOM, 0, 0);
     settle(&lo, 0);
     settle_rows(&w, 0);
@@ -986,7 +1056,8 @@ static void images_that_cost_nothing(void) {
     }
 }
 
-/* The table in which image 1 stands between the others: every call takes it, and the own link of 0 is read, stored and converted. */
+/* The table in which image 1 stands between the others: every call takes it but the levels, which it has not, and the own link of 0 is read,
+ * stored and converted. */
 static void own_link_of_nothing(void) {
     static const uint64_t sides[] = {2, 4, 6};
     static const uint32_t links[] = {2, 2, 0};
@@ -1386,6 +1457,109 @@ static void most_sides(void) {
     expect_report("a table that is left out whole", bytes, 17 * one, sixteen);
 }
 
+/* ---- levels by hand ---- */
+
+/* Tables, and what is answered to each: a refusal and its places, or the groups and their heights. */
+static const struct {
+    size_t n;
+    uint32_t t[16];
+    KemotuikiLevels r;
+    uint64_t members[3];
+    uint32_t heights[3];
+} leveled[] = {
+    {3, {0, 1, 1, 1, 0, 1, 1, 1, 0}, {0, 0, 0, 0, 0, 0, 1}, {7}, {1}},
+    {3, {0, 1, 2, 1, 0, 2, 2, 2, 0}, {0, 0, 0, 0, 0, 0, 2}, {3, 7}, {1, 2}},
+    {3, {0, 2, 1, 2, 0, 2, 1, 2, 0}, {0, 0, 0, 0, 0, 0, 2}, {5, 7}, {1, 2}},
+    {3, {0, 2, 2, 2, 0, 1, 2, 1, 0}, {0, 0, 0, 0, 0, 0, 2}, {6, 7}, {1, 2}},
+    {4, {0, 2, 4, 4, 2, 0, 4, 4, 4, 4, 0, 2, 4, 4, 2, 0}, {0, 0, 0, 0, 0, 0, 3}, {3, 12, 15}, {2, 2, 4}},
+    {4, {0, 4, 2, 4, 4, 0, 4, 3, 2, 4, 0, 4, 4, 3, 4, 0}, {0, 0, 0, 0, 0, 0, 3}, {5, 10, 15}, {2, 3, 4}},
+    {4, {0, 2, 2, 2, 2, 0, 2, 2, 2, 2, 0, 2, 2, 2, 2, 0}, {0, 0, 0, 0, 0, 0, 1}, {15}, {2}},
+    {4, {0, 1, 2, 3, 1, 0, 2, 3, 2, 2, 0, 3, 3, 3, 3, 0}, {0, 0, 0, 0, 0, 0, 3}, {3, 7, 15}, {1, 2, 3}},
+    {4, {0, 3, 3, 3, 3, 0, 2, 2, 3, 2, 0, 1, 3, 2, 1, 0}, {0, 0, 0, 0, 0, 0, 3}, {12, 14, 15}, {1, 2, 3}},
+    {4, {0, 8000000, 8000000, 1, 8000000, 0, 8000000, 8000000, 8000000, 8000000, 0, 8000000, 1, 8000000, 8000000, 0},
+     {0, 0, 0, 0, 0, 0, 2}, {9, 15}, {1, 8000000}},
+    {3, {0, 1, 1, 1, 0, 3, 1, 3, 0}, {KEMOTUIKI_NO_LEVELS, 0, 1, 2, 3, 0, 0}, {0}, {0}},
+    {3, {0, 1, 1, 1, 0, 2, 1, 2, 0}, {KEMOTUIKI_NO_LEVELS, 0, 1, 2, 3, 0, 0}, {0}, {0}},
+    {4, {0, 2, 3, 4, 2, 0, 4, 4, 3, 4, 0, 2, 4, 4, 2, 0}, {KEMOTUIKI_NO_LEVELS, 0, 1, 2, 3, 0, 0}, {0}, {0}},
+    {4, {0, 4, 9, 1, 4, 0, 9, 3, 9, 9, 0, 9, 1, 3, 9, 0}, {KEMOTUIKI_NO_LEVELS, 0, 1, 2, 4, 0, 0}, {0}, {0}},
+    {4, {0, 5, 5, 5, 5, 0, 1, 2, 5, 1, 0, 3, 5, 2, 3, 0}, {KEMOTUIKI_NO_LEVELS, 0, 2, 3, 4, 0, 0}, {0}, {0}},
+    {3, {0}, {KEMOTUIKI_ZERO_OFF_DIAGONAL, 0, 1, 2, 0, 0, 0}, {0}, {0}},
+    {4, {0, 2, 4, 4, 2, 0, 4, 4, 4, 4, 0, 0, 4, 4, 0, 0}, {KEMOTUIKI_ZERO_OFF_DIAGONAL, 0, 3, 4, 0, 0, 0}, {0}, {0}},
+    {4, {0, 1, 2, 0, 1, 0, 4, 4, 2, 4, 0, 0, 0, 4, 9, 0}, {KEMOTUIKI_ASYMMETRIC, 0, 3, 4, 0, 0, 0}, {0}, {0}},
+    {4, {0, 1, 2, 0, 1, 0, 4, 4, 2, 4, 5, 0, 0, 4, 9, 0}, {KEMOTUIKI_DIAGONAL_NOT_ZERO, 0, 3, 0, 0, 0, 0}, {0}, {0}},
+    {4, {0, 1, 2, 0, 1, 0, 4, 4, 2, 4, 5, 0, 0, 4, 8000001, 0}, {KEMOTUIKI_ENTRY_TOO_LARGE, 0, 4, 3, 0, 0, 0}, {0}, {0}},
+};
+
+/*
+ * The levels of a table with these places for groups and heights: this is answered, and the groups stand in front. Where there are too few
+ * places, nothing else is looked at but the length.
+ */
+static void expect_levels(size_t n, const uint32_t *t, size_t places, size_t height_places, KemotuikiLevels want, const uint64_t *members,
+                          const uint32_t *heights) {
+    Lent lt;
+    Rows w;
+    KemotuikiLevels no_room = {KEMOTUIKI_NO_ROOM, 0, 0, 0, 0, 0, 0}, bad_length = {KEMOTUIKI_BAD_LENGTH, 0, 0, 0, 0, 0, 0};
+    uint32_t *table = memcpy(lend(&lt, n * n, 4), t, n * n * 4);
+    keep(&lt);
+    lend_rows(&w, places, height_places);
+    if (places < n - 1 || height_places < n - 1) want = no_room;
+    KemotuikiLevels r = kemotuiki_levels(n, table, n * n, ROWS(w));
+    if (memcmp(&r, &want, sizeof r)) fault("not what is answered to this table");
+    else if (!r.number && !same_rows(r.groups, members, heights, &w)) fault("not the groups of this table");
+    else if (!r.number) hold_groups(n, table, r.groups, w.fars, w.costs);
+    settle_rows(&w, r.groups);
+    lend_rows(&w, places, height_places);
+    r = kemotuiki_levels(n, table, n * n - 1, ROWS(w));
+    if (memcmp(&r, &bad_length, sizeof r)) fault("one entry too few was not refused");
+    settle_rows(&w, 0);
+    settle(&lt, 0);
+}
+
+/* Each of them in just enough room, with places to spare, and with one place less of either kind or of both. */
+static void levels_by_hand(void) {
+    call_name = "levels";
+    for (size_t k = 0; k < sizeof leveled / sizeof *leveled; k++)
+        for (size_t kind = 0; kind < 5; kind++) {
+            size_t n = leveled[k].n, places = kind == 4 ? n + 5 : n - 1 - (kind & 1), height_places = kind == 4 ? n : n - 1 - (kind >> 1 & 1);
+            int before = faults;
+            expect_levels(n, leveled[k].t, places, height_places, leveled[k].r, leveled[k].members, leveled[k].heights);
+            if (faults > before) fprintf(stderr, "%s: that was line %zu\n", call_name, k + 1);
+        }
+    EXPECT(KemotuikiLevels, levels, (4, four, 16, NULL, 0, NULL, 0), KEMOTUIKI_NO_ROOM, 0, 0);
+}
+
+/*
+ * Tables of 64 images: all equally far, whose one group has every bit; as many groups as can be, from the last image on and from the first
+ * on, up to the limit, in the room that the header has for them; and one in which the last three images alone have no levels.
+ */
+static void most_groups(void) {
+    static uint32_t t[KEMOTUIKI_IMAGES * KEMOTUIKI_IMAGES], heights[KEMOTUIKI_GROUPS];
+    static uint64_t members[KEMOTUIKI_GROUPS];
+    const size_t n = KEMOTUIKI_IMAGES, most = KEMOTUIKI_GROUPS;
+    call_name = "the most groups";
+    for (size_t kind = 0; kind < 4; kind++) {
+        KemotuikiLevels want = {0, 0, 0, 0, 0, 0, kind % 3 ? most : 1};
+        for (size_t i = 0; i < n; i++)
+            for (size_t j = 0; j < i; j++) {
+                size_t below = kind == 1 ? j : kind == 2 ? n - 1 - i : 0;
+                t[i * n + j] = t[j * n + i] = (uint32_t)(KEMOTUIKI_ENTRY_LIMIT - below);
+            }
+        for (size_t k = 0; k < most; k++) {
+            members[k] = kind == 1 ? UINT64_MAX << (most - 1 - k) : kind == 2 ? UINT64_MAX >> (most - 1 - k) : UINT64_MAX;
+            heights[k] = (uint32_t)(KEMOTUIKI_ENTRY_LIMIT - (kind % 3 ? most - 1 - k : 0));
+        }
+        if (kind == 3) {
+            t[(n - 2) * n + n - 3] = t[(n - 3) * n + n - 2] = 1;
+            t[(n - 1) * n + n - 3] = t[(n - 3) * n + n - 1] = 2;
+            want.number = KEMOTUIKI_NO_LEVELS, want.a = n - 2, want.b = n - 1, want.c = n, want.groups = 0;
+        }
+        expect_levels(n, t, most, most, want, members, heights);
+        expect_levels(n, t, most + 9, most + 2, want, members, heights);
+        expect_levels(n, t, most - 1, most, want, members, heights);
+        expect_levels(n, t, most, most - 1, want, members, heights);
+    }
+}
+
 /* ---- the text of an answer ---- */
 
 static const struct {
@@ -1425,7 +1599,9 @@ static const struct {
     {{20, 0, 1, 2, 0, 0}, "zero off the diagonal: row and column 1 2"},
     {{20, 0, 0, 0, 0, 0}, "zero off the diagonal: row and column 0 0"},
     {{20, 500, 63, 64, 0, 0}, "table 500: zero off the diagonal: row and column 63 64"},
-    {{21, 0, 0, 0, 0, 0}, "no such refusal: number 21"},
+    {{21, 0, 1, 2, 3, 0}, "no levels: images 1 2 3"},
+    {{21, 0, 62, 63, 64, 5}, "no levels: images 62 63 64"},
+    {{21, 2, 0, 0, 0, 0}, "table 2: no levels: images 0 0 0"},
     {{22, 0, 10, 0, 0, 0}, "siblings out of order: byte 10"},
     {{22, 2, 10, 0, 0, 0}, "table 2: siblings out of order: byte 10"},
     {{23, 0, 0, 0, 0, 0}, "no such refusal: number 23"},
@@ -1466,6 +1642,8 @@ static int edges(void) {
     reports_by_hand();
     most_tables();
     most_sides();
+    levels_by_hand();
+    most_groups();
     text_of_answers();
     return faults ? 1 : 0;
 }

@@ -1,8 +1,8 @@
 #!/usr/bin/env bash
 # Runs the cases of crates/cases/data through the archive and compares with crates/cases/stdout, but for the calls of the reader
-# and the listings, which are not exported; then null pointers, large numbers, the longest stored tables, Newick text, replays and term
-# reports, images that cost nothing, Newick texts, replays and term reports by hand, and the text of every answer; then the header in
-# every language that it is for.
+# and the listings, which are not exported; then null pointers, large numbers, the longest stored tables, Newick text, replays, term
+# reports and levels, images that cost nothing, Newick texts, replays, term reports and levels by hand, and the text of every answer; then
+# the header in every language that it is for.
 # Status 1 on a difference, 0 if all is the same or nothing could be run, which is said.
 set -euo pipefail
 cd "$(dirname "$0")/.."
@@ -30,7 +30,7 @@ else
     status=1
 fi
 left_out=$(grep '^[a-z]' crates/cases/stdout | grep -vxFf "$work/names" | paste -sd ' ' || true)
-if [ "$left_out" = "first_two first_links two_costs two_fields listing" ]; then
+if [ "$left_out" = "first_two first_links two_costs two_fields listing levels_listing" ]; then
     echo "boundary: not exported, so not run: $left_out"
 else
     echo "boundary: DIFFERENT, the calls that were not run: $left_out"
@@ -38,7 +38,7 @@ else
 fi
 if $RUN "$work/boundary" --edges; then
     echo "boundary: null pointers, large numbers, the longest stored tables, images that cost nothing, Newick texts, replays," \
-        "term reports and the text of every answer, as expected"
+        "term reports, levels and the text of every answer, as expected"
 else
     status=1
 fi

@@ -1,6 +1,6 @@
 // The calls by number. Those whose cases begin with a cost table come first, then those with a link table, those with stored bytes and a
 // position, those with the form in which they write, the choice, the calls of the reader, the text of an answer, the links that a team
-// shares, the listings, the two calls for Newick text, the replay of images that leave, the term report, and the levels.
+// shares, the listings, the two calls for Newick text, the replay of images that leave, the term report, and the levels with their listing.
 pub const INDEX: u32 = 1;
 
 pub const ORDER: u32 = 2;
@@ -58,3 +58,5 @@ pub const REPLAY: u32 = 27;
 pub const REPORT: u32 = 28;
 
 pub const LEVELS: u32 = 29;
+
+pub const LEVELS_LISTING: u32 = 30;

@@ -41,8 +41,8 @@ fn one_case(call: u32, text: &[u8], at: usize) -> usize {
     if call == calls::REPLAY {
         return leaving_cases::leaving_case(text, at);
     }
-    if call == calls::LEVELS {
-        return level_cases::levels_case(text, at);
+    if calls::LEVELS <= call {
+        return level_cases::level_case(call, text, at);
     }
     if calls::WRITE_NEWICK <= call {
         return newick_cases::newick_case(call, text, at);
@@ -125,4 +125,5 @@ fn main() {
     run(calls::REPLAY, b"replay", b"replay.txt");
     run(calls::REPORT, b"report", b"report.txt");
     run(calls::LEVELS, b"levels", b"levels.txt");
+    run(calls::LEVELS_LISTING, b"levels_listing", b"levels_listing.txt");
 }
