@@ -1,11 +1,8 @@
--- What the promise of a listing of levels says: which tables are listed and as what, what a refusal prints, and that there is no other text.
--- Assumes nothing.
+-- What the promise of a listing of levels says: which tables are listed and as what, and what a refusal prints. Assumes nothing.
 use mathlib.Core.List.{List, _++_}
-use mathlib.Core.Path.{ap, sym, _∙_, _≡_}
-use Prim.Native.Nat.{ℕ, _≤_}
+use mathlib.Core.Path.{ap, _∙_, _≡_}
+use Prim.Native.Nat.{ℕ}
 use native.Mathlib.Omega.{arith}
-use lib.ListN.{drop, length, length-append, replicate, take}
-use lib.Seq.{take-at}
 use Rattle.ground.specs.Laws.Refusals.{then-passed}
 use Rattle.ground.specs.Refusals.{_then_}
 use Rattle.ground.specs.declared.Check.{Check}
@@ -14,6 +11,7 @@ use Rattle.ground.specs.declared.Refusal.{Refusal}
 use Rattle.theory.specs.Tables.{CostTable, cost, limit}
 use Rattle.leveling.specs.Check.{levelsCheck}
 use Rattle.leveling.specs.Promises.{levels-passed}
+use Rattle.leveling.specs.ThreePoint.{ThreePoint}
 use Rattle.levels.specs.Groups.{groups, heights}
 use Rattle.levels.specs.Promises.{LevelReading, level-reading}
 use Rattle.bits.specs.declared.Edition.{Edition}
@@ -23,8 +21,8 @@ use Rattle.listing_lines.specs.Lines.{refusedLine}
 use Rattle.listing_text.specs.Listing.{imagesSaid, storedChecks, tableSaid}
 use Rattle.listing_text.specs.Promises.{stored-said, text-then}
 use Rattle.table_text.specs.TableText.{textIf}
-use Rattle.levels_text.specs.Lines.{groupsText, room}
-use Rattle.levels_text.specs.Listing.{Listed, levelsText, tableLevels}
+use Rattle.levels_text.specs.Lines.{groupsText}
+use Rattle.levels_text.specs.Listing.{levelsText, tableLevels}
 
 -- the entries of the table that the bytes say
 abbrev pub costSaid : List ℕ → ℕ → ℕ → ℕ
@@ -38,9 +36,10 @@ levelsSaid s = storedChecks s then levelsCheck (costSaid s) (imagesSaid s)
 abbrev pub groupsSaid : List ℕ → List ℕ
 groupsSaid s = groupsText (imagesSaid s) (groups (costSaid s) (imagesSaid s)) (heights (costSaid s) (imagesSaid s))
 
--- the listing shows all groups of the table that the bytes say, and no other set of images
+-- the table that the bytes say has levels, and the listing shows all its groups and no other set of images
 pub record GroupsListed (s : List ℕ) : Type 0 where
   pub table : CostTable limit (imagesSaid s) (tableSaid s)
+  pub levels : ThreePoint (costSaid s) (imagesSaid s)
   pub reading : LevelReading (costSaid s) (imagesSaid s)
   pub shown : levelsText s ≡ groupsSaid s
 
@@ -55,31 +54,17 @@ module _ (s : List ℕ) where
   levels-accepted e =
       let p = then-passed (storedChecks s) (levelsCheck (costSaid s) (imagesSaid s)) e in
       let c = table-said s (p .0) in
+      let t = levels-passed limit (costSaid s) (imagesSaid s) (c .formed) .0 (p .1) in
       record {
         table = c;
-        reading =
-            level-reading limit (costSaid s) (imagesSaid s) (omega (arith, c .some)) (c .formed)
-            (levels-passed limit (costSaid s) (imagesSaid s) (c .formed) .0 (p .1));
+        levels = t;
+        reading = level-reading limit (costSaid s) (imagesSaid s) (omega (arith, c .some)) (c .formed) t;
         shown = levels-checks ∙ ap (λ (k : Check). textIf k (groupsSaid s)) e;
       }
 
   -- the first refusal prints one line and no other
   pub levels-refused : (q : Refusal) → levelsSaid s ≡ Refused q → levelsText s ≡ refusedLine q
   levels-refused q e = levels-checks ∙ ap (λ (k : Check). textIf k (groupsSaid s)) e
-
-  -- what is printed is the listing
-  pub listed-front : {size : ℕ} {text : List ℕ} → Listed s size text → take size text ≡ levelsText s
-  listed-front {size} p = ap (take size) (p .listed) ∙ take-at (levelsText s) _ size (sym (p .sized))
-
-  -- it lies within the array
-  pub listed-within : {size : ℕ} {text : List ℕ} → Listed s size text → size ≤ length text
-  listed-within p =
-      let m = levelsText s in
-      omega (arith, p .sized, ap length (p .listed), length-append m (drop (length m) (replicate room 0)))
-
-  -- no second answer meets the promise
-  pub listed-once : {a b : ℕ} {t u : List ℕ} → Listed s a t → Listed s b u → (a ≡ b) × (t ≡ u)
-  listed-once p q = (p .sized ∙ sym (q .sized), p .listed ∙ sym (q .listed))
 
 -- a table has the same listing in whichever form it is stored, whatever follows it
 pub levels-stored : (e : Edition) (n : ℕ) (t b : List ℕ) → CostTable (costForm e .limit) n t

@@ -3,8 +3,8 @@ use mathlib.Core.Path.{sym}
 use lib.Seq.{length-take-le}
 use borrow.Author.Needs.{needs}
 use Rattle.text.specs.Laws.Putting.{put-front}
+use Rattle.levels_text.specs.Answered.{listed-within}
 use Rattle.levels_text.specs.Listing.{Listed}
-use Rattle.levels_text.specs.Promises.{listed-within}
 use Rattle.levels_text.proofs.levels_listing.Statement.{statement}
 use Rattle.levels_text.proofs.levels_listing.Tie as tie
 

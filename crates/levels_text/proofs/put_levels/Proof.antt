@@ -1,5 +1,5 @@
 -- `levels_text::put_levels` meets its contract: header and groups, one behind the other. Assumes nothing.
-use mathlib.Core.List.{List, _++_}
+use mathlib.Core.List.{List}
 use Prim.Native.Nat.{ℕ}
 use lib.ListN.{length}
 use borrow.Author.Needs.{needs}

@@ -1,9 +1,9 @@
 -- `levels_text::write_table` meets its contract: the reading of levels leaves the groups and their heights, or refuses with 21. Assumes nothing.
 use mathlib.Core.List.{List}
-use mathlib.Core.Path.{ap, sym, _≡_}
+use mathlib.Core.Path.{sym, _≡_}
 use Prim.Native.Nat.{ℕ}
 use native.Mathlib.Omega.{arith}
-use lib.ListN.{length, length-replicate, replicate}
+use lib.ListN.{length-replicate, replicate}
 use borrow.Author.Needs.{needs}
 use Rattle.listing_lines.specs.Lines.{refusedLine}
 use Rattle.text.specs.Laws.Pieces.{put-same}

@@ -1,10 +1,8 @@
 -- How long the lines of a listing of levels can be: room for every one of them is there. Assumes nothing.
 use mathlib.Core.List.{List, [], map, _∷_}
-use Prim.Native.Nat.{suc, zero, ℕ, _*_, _+_, _-_, _/_, _<_, _^_, _≤_}
+use Prim.Native.Nat.{suc, zero, ℕ, _*_, _+_, _≤_}
 use native.Mathlib.Omega.{arith}
-use lib.Dec.{ltb}
 use lib.ListN.{length, length-append}
-use borrow.Author.Tests.{ltb-false}
 use borrow.Table.Steps.{cases}
 use Rattle.ground.specs.Filters.{filter}
 use Rattle.ground.specs.Ranges.{from}
@@ -15,30 +13,17 @@ use Rattle.leveling.specs.ThreePoint.{ThreePoint}
 use Rattle.levels.specs.Groups.{groups, height, heights}
 use Rattle.levels.specs.Laws.Count.{groups-most}
 use Rattle.levels.specs.Laws.Heights.{height-le}
-use Rattle.text.specs.Decimal.{decimal, digits}
-use Rattle.text.specs.Fields.{field, fields}
+use Rattle.text.specs.Fields.{fields}
 use Rattle.text.specs.Laws.Lengths.{field-most}
 use Rattle.text.specs.Laws.Numbers.{decimal-most}
 use Rattle.text.specs.Putting.{Fits}
 use Rattle.text.specs.Words.{bytesOf}
 use Rattle.listing_lines.specs.Laws.Lengths.{refused-most}
 use Rattle.listing_lines.specs.Lines.{refusedLine}
+use Rattle.levels_text.specs.Laws.Digits.{field-below}
 use Rattle.levels_text.specs.Lines.{groupImages, groupLine, groupLines, groupsText, header, room}
 
--- a number below a power of ten has no more digits than this says
-digits-below : (m k x : ℕ) → x < 10 ^ suc k → length (digits m x) ≤ suc k
-unfolding digits
-digits-below zero k x h = omega arith
-digits-below (suc m) zero x h = cases (ltb x 10) (λ e. rw e (omega arith)) (λ e. absurd (omega (arith, ltb-false x 10 e)))
-digits-below (suc m) (suc k) x h =
-    let ih = digits-below m k (x / 10) (omega arith) in
-    cases (ltb x 10) (λ e. rw e (omega arith)) (λ e. rw e (simp length-append (omega arith)))
-
-field-below : (k x : ℕ) → x < 10 ^ suc k → length (field x) ≤ suc (suc k)
-unfolding field decimal
-field-below k x h = omega (arith, digits-below 20 k x h)
-
--- 64 images have two digits at most
+-- the number of an image has two digits at most
 images-most : (S m i : ℕ) → i + m ≤ 64 → length (fields (map suc (filter (holds S) (from i m)))) ≤ 3 * m
 unfolding fields
 images-most S zero i h = omega arith
@@ -61,7 +46,7 @@ header-most : (n m : ℕ) → length (header n m) ≤ 60
 unfolding header bytesOf
 header-most n m = simp length-append (omega (arith, field-most n, field-most m))
 
--- the largest entry inside a set is an entry, or 0
+-- no height is above the limit
 height-small : (L : ℕ) (d : ℕ → ℕ → ℕ) (n : ℕ) → WellFormed L d n → (S : ℕ) → height d n S ≤ L
 height-small L d n c S = height-le d n S L (λ i j hi hj si sj. c .small hi hj)
 
