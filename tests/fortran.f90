@@ -3,7 +3,7 @@
 !   fortran DATA ANSWERS       writes to ANSWERS what crates/cases/stdout has for the exported calls. A case that cannot be said in
 !                              Fortran, such as a table with fewer entries than its n asks for, has the line "-" instead.
 !   fortran --by-hand VERSION  compares the version, the texts of all refusals, the room for each stored form and for Newick text, term
-!                              reports, and what only Fortran can say: tables by rows, tables of another shape, teams of rank 3,
+!                              reports, levels, and what only Fortran can say: tables by rows, tables of another shape, teams of rank 3,
 !                              sections, integers of either kind, events that no byte holds, and text in character variables.
 !
 ! What is wrong is printed; then the status is 1.
@@ -325,8 +325,8 @@ contains
 end module
 
 ! One subroutine a call: the arguments from the line, then the answer and every lent output as it was left. A case of the exact reading
-! is read by both its engines, what a conversion wrote is converted once more, a Newick text is read and written again, and what a replay
-! leaves is compared with the exact reading of the images that are left.
+! is read by both its engines, what a conversion wrote is converted once more, a Newick text is read and written again, what a replay
+! leaves is compared with the exact reading of the images that are left, and groups with the exact reading of the same table.
 module case_calls
     use, intrinsic :: iso_fortran_env, only: int8, int32, int64
     use kemotuiki
@@ -378,6 +378,7 @@ contains
         call run('read_newick', do_read_newick, folder, [1, 3, 12, 13, 18, 22], far_sides=.true.)
         call run('replay', do_replay, folder, [1, 2, 3, 4, 5, 6, 7, 8, 20], far_sides=.true.)
         call run('report', do_report, folder, [1, 3, 4, 9, 11, 15, 19, 20], far_sides=.true.)
+        call run('levels', do_levels, folder, [1, 2, 3, 4, 5, 6, 20, 21], far_sides=.true.)
     end subroutine
 
     ! With a far side that is a default integer, where it can be one.
@@ -616,6 +617,47 @@ contains
         call note_far_sides(r, r%images, fars(:k))
     end subroutine
 
+    subroutine do_levels()
+        type(kemotuiki_levels_answer) :: r
+        integer(int32), allocatable :: t(:, :), heights(:)
+        integer(int64), allocatable :: members(:)
+        integer :: n
+        call read_reading(n, t, members, heights)
+        if (.not. can_be_said) return
+        r = kemotuiki_levels(t, members, heights)
+        call put_answer(r, [integer(int64) :: r%groups])
+        call put_rows(r, n, r%groups, members, heights)
+        if (r%accepted()) call hold_groups(t, members(:r%groups), heights(:r%groups))
+    end subroutine
+
+    ! The last group is all images, the table has a tree, and each other group is one side of a row of it; the entry of two images is the
+    ! height of the first group that holds both.
+    subroutine hold_groups(t, members, heights)
+        integer(int32), intent(in) :: t(:, :), heights(:)
+        integer(int64), intent(in) :: members(:)
+        type(kemotuiki_rows_answer) :: r
+        integer(int64) :: fars(kemotuiki_rows), everyone, side
+        integer(int32) :: costs(kemotuiki_rows)
+        integer :: i, j, k, groups
+        groups = size(members)
+        everyone = ishft(-1_int64, size(t, 1) - kemotuiki_images)
+        r = kemotuiki_exact(t, fars, costs)
+        if (.not. r%accepted()) call fault('a table with levels has no tree')
+        if (members(groups) /= everyone) call fault('the last group is not all images')
+        do k = 1, groups - 1
+            side = merge(ieor(members(k), everyone), members(k), btest(members(k), 0))
+            if (.not. any(fars(:r%rows) == side)) call fault('a group is no side of a row')
+        end do
+        do j = 2, size(t, 1)
+            do i = 1, j - 1
+                do k = 1, groups - 1
+                    if (btest(members(k), i - 1) .and. btest(members(k), j - 1)) exit
+                end do
+                if (heights(k) /= t(i, j)) call fault('an entry is not the height of the smallest group')
+            end do
+        end do
+    end subroutine
+
     subroutine do_write_costs()
         type(kemotuiki_bytes_answer) :: r
         integer(int32), allocatable :: t(:, :)
@@ -839,6 +881,7 @@ contains
         call replays()
         call reports()
         call most_sides()
+        call levels()
         call sections()
         faults = wrong
     end subroutine
@@ -880,7 +923,8 @@ contains
         call say(kemotuiki_too_many_sides, 500, [0, 0, 0, 0], 'table 500: more than 1,024 far sides in one report')
         call say(kemotuiki_zero_off_diagonal, 0, [1, 2, 0, 0], 'zero off the diagonal: row and column 1 2')
         call say(kemotuiki_zero_off_diagonal, 500, [63, 64, 0, 0], 'table 500: zero off the diagonal: row and column 63 64')
-        call say(21, 0, [0, 0, 0, 0], 'no such refusal: number 21')
+        call say(kemotuiki_no_levels, 0, [1, 2, 3, 0], 'no levels: images 1 2 3')
+        call say(kemotuiki_no_levels, 2, [62, 63, 64, 5], 'table 2: no levels: images 62 63 64')
         call say(kemotuiki_siblings_out_of_order, 0, [10, 0, 0, 0], 'siblings out of order: byte 10')
         call say(23, 0, [0, 0, 0, 0], 'no such refusal: number 23')
     end subroutine
@@ -937,6 +981,7 @@ contains
         call hold('measured, '//what, refused_at(kemotuiki_measured(t, fars, costs), number, 0, i, j))
         call hold('exact, '//what, refused_at(kemotuiki_exact(t, fars, costs), number, 0, i, j))
         call hold('exact_grafted, '//what, refused_at(kemotuiki_exact_grafted(t, fars, costs), number, 0, i, j))
+        call hold('levels, '//what, refused_at(kemotuiki_levels(t, fars, costs), number, 0, i, j))
         call hold('write_costs, '//what, refused_at(kemotuiki_write_costs(kemotuiki_old_form, t, bytes), number, 0, i, j))
         call hold('write_costs, new form, '//what, refused_at(kemotuiki_write_costs(kemotuiki_new_form, t, bytes), number, 0, i, j))
         call hold('compare, first table, '//what, refused_at(kemotuiki_compare(t, star(6)), number, 1, i, j))
@@ -1277,12 +1322,56 @@ contains
         end do
     end function
 
+    ! E, and D, C and B of document 01; one place too few of each kind; a table of another shape; 64 images that are equally far, whose one
+    ! group is -1 as a signed number; and as many groups as 64 images can have, in just enough room: each holds image 64, and is negative.
+    subroutine levels()
+        integer, parameter :: n = kemotuiki_images, most = kemotuiki_groups
+        integer, parameter :: e(4, 4) = reshape([0, 2, 4, 4, 2, 0, 4, 4, 4, 4, 0, 2, 4, 4, 2, 0], [4, 4])
+        integer, parameter :: d(3, 3) = reshape([0, 1, 1, 1, 0, 2, 1, 2, 0], [3, 3])
+        integer, parameter :: c(3, 3) = reshape([0, 1, 1, 1, 0, 3, 1, 3, 0], [3, 3])
+        type(kemotuiki_levels_answer) :: r
+        integer(int64) :: members(most)
+        integer :: heights(most), t(n, n), i, k
+        members = -7
+        heights = -7
+        r = kemotuiki_levels(e, members, heights)
+        call hold('the levels of E', r%accepted() .and. r%groups == 3 .and. all(members(:3) == [3, 12, 15]) &
+                  .and. all(heights(:3) == [2, 2, 4]) .and. all(members(4:) == -7) .and. all(heights(4:) == -7))
+        members = -7
+        heights = -7
+        r = kemotuiki_levels(d, members, heights)
+        call hold('D has no levels', r%number == kemotuiki_no_levels .and. all([r%table, r%a, r%b, r%c, r%d] == [0, 1, 2, 3, 0]) &
+                  .and. r%groups == 0)
+        r = kemotuiki_levels(c, members, heights)
+        call hold('C has no levels', r%text() == 'no levels: images 1 2 3' .and. r%groups == 0)
+        call hold('the levels of B', zero_at(kemotuiki_levels(0 * d, members, heights), 0, 1, 2))
+        r = kemotuiki_levels(e, members(:2), heights)
+        call hold('one place too few for groups', r%number == kemotuiki_no_room .and. r%groups == 0)
+        r = kemotuiki_levels(e, members, heights(:2))
+        call hold('one place too few for heights', r%number == kemotuiki_no_room .and. r%groups == 0)
+        r = kemotuiki_levels(e(:, :3), members, heights)
+        call hold('levels of another shape', r%number == kemotuiki_bad_length)
+        call hold('nothing written where levels are refused', all(members == -7) .and. all(heights == -7))
+        r = kemotuiki_levels(star(n), members, heights)
+        call hold('all 64 images', r%groups == 1 .and. members(1) == -1 .and. heights(1) == 2 .and. all(members(2:) == -7) &
+                  .and. all(heights(2:) == -7))
+        do i = 1, n
+            t(i, i) = 0
+            t(i, i + 1:) = n - i
+            t(i + 1:, i) = n - i
+        end do
+        r = kemotuiki_levels(t, members, heights)
+        call hold('as many groups as there may be', r%accepted() .and. r%groups == most .and. all(heights == [(k, k = 1, most)]) &
+                  .and. all(members == [(ishft(-1_int64, most - k), k = 1, most)]))
+    end subroutine
+
     ! Every second element of larger arrays: 4 images in a star, whose four own links cost 2, doubled; and the report of one table.
     subroutine sections()
         integer(int8), parameter :: all_events(3) = [4_int8, 9_int8, 2_int8]
         integer :: all_entries(8, 8), all_costs(10)
         integer(int64) :: all_fars(10)
         type(kemotuiki_rows_answer) :: r
+        type(kemotuiki_levels_answer) :: level
         type(kemotuiki_replay_answer) :: left
         type(kemotuiki_report_answer) :: report
         integer(int8), allocatable :: stored_pairs(:), all_bytes(:)
@@ -1298,6 +1387,11 @@ contains
         all_fars = -1
         r = kemotuiki_exact_grafted(all_entries(1:8:2, 1:8:2), all_fars(2:10:2), all_costs(2:10:2))
         call hold('sections, grafted', r%rows == 4 .and. all(all_fars == [-1, 2, -1, 4, -1, 8, -1, 14, -1, -1]))
+        all_fars = -1
+        all_costs = -1
+        level = kemotuiki_levels(all_entries(1:8:2, 1:8:2), all_fars(2:10:2), all_costs(2:10:2))
+        call hold('sections, levels', level%groups == 1 .and. all(all_fars(:3) == [-1, 15, -1]) .and. all(all_fars(4:) == -1) &
+                  .and. all(all_costs(:3) == [-1, 2, -1]) .and. all(all_costs(4:) == -1))
         all_fars = -1
         left = kemotuiki_replay(all_entries(1:8:2, 1:8:2), all_events(3:1:-2), all_fars(2:10:2), all_costs(2:10:2))
         call hold('sections, replayed', left%event == 2 .and. left%rows == 3 &

@@ -45,7 +45,7 @@ diff "$work/exported" "$work/run" || { echo "fortran: DIFFERENT, the calls of th
 
 if $RUN "$work/fortran" --by-hand "$(cat VERSION)"; then
     echo "fortran: the version, the texts, tables by rows, with zeros and of another shape, Newick texts, replays, term reports," \
-        "sections, as expected"
+        "levels, sections, as expected"
 else
     status=1
 fi
