@@ -371,7 +371,8 @@ def listing_of(n, rows):
 
 def test_drawings(dice):
     """The listings that are kept, and trees of each shape, with small costs and with the largest."""
-    paths = sorted(glob.glob(os.path.join(ROOT, "tests/listing*/*.stdout")))
+    paths = sorted(path for program in ("listing", "listing_last_n")
+                   for path in glob.glob(os.path.join(ROOT, f"tests/{program}/*.stdout")))
     listings = {os.path.relpath(path, ROOT): kept(path).decode() for path in paths}
     listings["nine.listing"] = kept("tests/drawing/nine.listing").decode()
     for n, most in ((4, 2), (11, 40), (30, 1_000), (64, 60_000)):
