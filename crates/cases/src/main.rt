@@ -125,5 +125,9 @@ fn main() {
     run(calls::REPLAY, b"replay", b"replay.txt");
     run(calls::REPORT, b"report", b"report.txt");
     run(calls::LEVELS, b"levels", b"levels.txt");
-    run(calls::LEVELS_LISTING, b"levels_listing", b"levels_listing.txt");
+    run(
+        calls::LEVELS_LISTING,
+        b"levels_listing",
+        b"levels_listing.txt",
+    );
 }
