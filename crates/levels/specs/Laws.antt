@@ -1,5 +1,4 @@
 -- Sets of images, groups and heights, on every well-formed table.
-pub mod Below
 pub mod Sets
 pub mod Groups
 pub mod Heights

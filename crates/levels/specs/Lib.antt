@@ -1,5 +1,4 @@
 -- What a reader must believe: document 02's definition of a group, and its height.
-pub mod Below
 pub mod GroupTest
 pub mod Groups
 -- What the call answers and leaves behind.

@@ -22,10 +22,10 @@ use Rattle.ground.specs.Ranges.{from}
 use Rattle.theory.specs.FarSides.{Within, holds}
 use Rattle.theory.specs.Laws.Nested.{bit-holds, holds-false, holds-true}
 use Rattle.theory.specs.Tables.{WellFormed}
-use Rattle.levels.specs.Below.{some}
+use Rattle.leveling.specs.Below.{some}
 use Rattle.levels.specs.GroupTest.{isGroup, isLargest, near}
 use Rattle.levels.specs.Groups.{AtMost, Group, Largest, groups}
-use Rattle.levels.specs.Laws.Below.{every-at, every-is, some-at, some-is}
+use Rattle.leveling.specs.Laws.Below.{every-at, every-is, some-at, some-is}
 
 -- ## A set given by a test
 
