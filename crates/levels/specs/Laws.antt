@@ -7,6 +7,10 @@ pub mod Heights
 pub mod Balls
 pub mod Smallest
 pub mod Count
+-- The exact tree of a table with levels.
+pub mod Rest
+pub mod Clear
+pub mod Links
 -- How the code finds them and stores them.
 pub mod Listed
 pub mod Members

@@ -2,6 +2,8 @@
 pub mod Below
 pub mod GroupTest
 pub mod Groups
+-- The two sides of a link, and what stands on them.
+pub mod Sides
 -- What the call answers and leaves behind.
 pub mod Outcome
 -- What the contracts below it cite: how the groups are found and stored.
