@@ -11,6 +11,8 @@ pub mod Count
 pub mod Rest
 pub mod Clear
 pub mod Links
+pub mod LinkCosts
+pub mod NextGroups
 -- How the code finds them and stores them.
 pub mod Listed
 pub mod Members

@@ -31,7 +31,7 @@ pub record Clear (d : ℕ → ℕ → ℕ) (n S : ℕ) : Type 0 where
   pub below : {i j k : ℕ} → i < n → j < n → k < n → holds S i ≡ true → holds S j ≡ true → holds S k ≡ false → d i j < d i k
 
 -- one image
-only : (x i : ℕ) → holds (2 ^ x) i ≡ true → i ≡ x
+pub only : (x i : ℕ) → holds (2 ^ x) i ≡ true → i ≡ x
 only x i e = cases (eqb i x) (λ t. eqb-true i x t) (λ t. absurd (omega (arith, holds-true (2 ^ x) i e, bit-pow-other x i (λ q. eqb-false i x t (sym q)))))
 
 -- a set with an image that is not the empty one
