@@ -10,6 +10,7 @@ pub mod Count
 -- The exact tree of a table with levels.
 pub mod Rest
 pub mod Clear
+pub mod LinkIndex
 pub mod Links
 pub mod LinkCosts
 pub mod NextGroups

@@ -12,6 +12,7 @@ pub mod Next
 pub mod Putting
 -- What the promise is worth, and settled examples.
 pub mod Promises
+pub mod Links
 pub mod Examples
 -- Its checks by their numbers, in order.
 pub mod InOrder

@@ -24,7 +24,7 @@ abbrev pub Part : (ℕ → ℕ → ℕ) → ℕ → ℕ → Type 0
 Part d n S = Group d n S ⊎ ((i : ℕ) × (i < n) × (S ≡ 2 ^ i))
 
 -- P is the smallest group that contains S and more
-pub record Next (d : ℕ → ℕ → ℕ) (n S P : ℕ) : Type 0 where
+pub record NextGroup (d : ℕ → ℕ → ℕ) (n S P : ℕ) : Type 0 where
   pub group : Group d n P
   pub contains : Within n S P
   pub more : P ≡ S → ⊥

@@ -2,28 +2,26 @@
 -- sets that are clear are exactly the groups and the single images, and each is one side of a division with index above 0.
 -- Assumes nothing.
 use mathlib.Core.Bool.{false, false≢true, true}
-use mathlib.Core.Logic.{inl, inr, _⊎_}
+use mathlib.Core.Logic.{inl, inr}
 use mathlib.Core.Path.{ap, sym, _∙_, _≡_}
-use Prim.Native.Nat.{ℕ, _+_, _-_, _<_, _^_, _≤_}
+use Prim.Native.Nat.{ℕ, _+_, _<_, _^_, _≤_}
 use native.Mathlib.Omega.{arith}
 use lib.Count.{ones}
 use lib.Dec.{eqb, leb}
-use lib.Pow.{pow-lt, pow-pos}
+use lib.Pow.{pow-lt}
 use borrow.Author.Tests.{eqb-false, eqb-true, leb-false, leb-true}
 use borrow.Table.Steps.{cases}
-use Rattle.ground.specs.Bits.{bit}
-use Rattle.ground.specs.Laws.Bits.{bit-pow, bit-pow-other, bit-some}
-use Rattle.ground.specs.Laws.Ones.{ones-in, ones-none, ones-one}
+use Rattle.ground.specs.Laws.Bits.{bit-pow, bit-pow-other}
+use Rattle.ground.specs.Laws.Ones.{ones-in, ones-one}
 use Rattle.theory.specs.FarSides.{holds}
-use Rattle.theory.specs.Index.{AtLeast}
-use Rattle.theory.specs.Laws.Nested.{bit-holds, bit-holds-not, holds-true}
+use Rattle.theory.specs.Laws.Nested.{bit-holds, holds-true}
 use Rattle.theory.specs.Tables.{WellFormed}
 use Rattle.levels.specs.Groups.{Group, height}
 use Rattle.levels.specs.Laws.Balls.{ball-in, group-ball}
 use Rattle.levels.specs.Laws.Groups.{holds-ext}
 use Rattle.levels.specs.Laws.Heights.{height-at, le-height}
-use Rattle.levels.specs.Laws.Rest.{in-rest, rest-fits, rest-in}
-use Rattle.levels.specs.Sides.{Part, rest}
+use Rattle.levels.specs.Laws.Sets.{other}
+use Rattle.levels.specs.Sides.{Part}
 use Rattle.leveling.specs.Laws.ThreePoint.{low}
 use Rattle.leveling.specs.ThreePoint.{ThreePoint}
 
@@ -37,6 +35,15 @@ only x i e = cases (eqb i x) (λ t. eqb-true i x t) (λ t. absurd (omega (arith,
 -- a set with an image that is not the empty one
 pub set-some : (S i : ℕ) → holds S i ≡ true → 1 ≤ ones S
 set-some S i e = ones-in i S (holds-true S i e)
+
+-- a group or one image is no empty set, and has no image beyond n
+pub part-fits : (d : ℕ → ℕ → ℕ) (n S : ℕ) → Part d n S → S < 2 ^ n
+part-fits d n S (inl g) = g .is .fits
+part-fits d n S (inr r) = rw (r .2) (pow-lt (r .1))
+
+pub part-image : (d : ℕ → ℕ → ℕ) (n S : ℕ) → Part d n S → (i : ℕ) × (i < n) × (holds S i ≡ true)
+part-image d n S (inl g) = let o = other n n S (g .is .fits) (g .two) in (o .0, o .1, bit-holds S (o .0) (o .3))
+part-image d n S (inr r) = (r .0, r .1, rw (r .2) (bit-holds (2 ^ r .0) (r .0) (bit-pow (r .0))))
 
 module _ (L : ℕ) (d : ℕ → ℕ → ℕ) (n : ℕ) (c : WellFormed L d n) where
   pub image-clear : (x : ℕ) → x < n → Clear d n (2 ^ x)
@@ -116,3 +123,14 @@ module _ (L : ℕ) (d : ℕ → ℕ → ℕ) (n : ℕ) (c : WellFormed L d n) wh
           c .same hi hk,
           c .same hi hl,
         )
+
+    -- the height of a set is an entry of each of its images
+    pub height-from : (S i : ℕ) → i < n → holds S i ≡ true → (j : ℕ) × (j < n) × (holds S j ≡ true) × (d i j ≡ height d n S)
+    height-from S i hi si =
+        let r = height-at d n S i hi si in
+        let a = le-height d n S i (r .0) hi (r .2) si (r .4) in
+        let b = le-height d n S i (r .1) hi (r .3) si (r .5) in
+        cases (leb (height d n S) (d i (r .0)))
+        (λ e. (r .0, r .2, r .4, omega (arith, a, leb-true (height d n S) (d i (r .0)) e)))
+        (λ e. (r .1, r .3, r .5,
+        omega (arith, b, r .6, leb-false (height d n S) (d i (r .0)) e, low t (r .2) (r .3) hi, c .same (r .2) hi, c .same (r .3) hi)))

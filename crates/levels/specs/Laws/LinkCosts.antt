@@ -4,64 +4,28 @@
 use mathlib.Core.Bool.{false, true, _&&_}
 use mathlib.Core.List.{List}
 use mathlib.Core.Logic.{inl, inr, _⊎_}
-use mathlib.Core.Path.{ap, sym, _∙_, _≡_}
+use mathlib.Core.Path.{_≡_}
 use Prim.Native.Nat.{ℕ, _*_, _+_, _-_, _<_, _^_, _≤_}
 use native.Mathlib.Omega.{arith}
-use lib.Dec.{eqb, leb, ltb}
-use lib.Pow.{pow-pos}
-use borrow.Author.Tests.{eqb-false, eqb-true, leb-false, leb-true, ltb-false, ltb-true}
-use borrow.Table.Steps.{cases}
+use lib.Dec.{eqb}
+use borrow.Author.Tests.{eqb-false, eqb-true}
 use Rattle.ground.specs.Bits.{bit}
-use Rattle.ground.specs.Laws.Bits.{bit-full}
 use Rattle.ground.specs.Laws.Tests.{and-l, and-not-both, and-r}
-use Rattle.ground.specs.Least.{On}
-use Rattle.theory.specs.FarSides.{FarSide, holds}
-use Rattle.theory.specs.Index.{AtLeast, clipped}
-use Rattle.theory.specs.Laws.Index.{clipped-low, low-clipped}
-use Rattle.theory.specs.Laws.Nested.{bit-holds, bit-holds-not, find, holds-false, holds-true}
-use Rattle.theory.specs.Laws.OnlyOne.{unique}
-use Rattle.theory.specs.Laws.Stable.{measured-cost}
+use Rattle.theory.specs.FarSides.{holds}
+use Rattle.theory.specs.Index.{AtLeast}
+use Rattle.theory.specs.Laws.Nested.{bit-holds, bit-holds-not, find}
 use Rattle.theory.specs.LinkTables.{Row, costOf}
 use Rattle.theory.specs.Readings.{Exact}
 use Rattle.theory.specs.Tables.{WellFormed}
 use Rattle.levels.specs.Groups.{height}
-use Rattle.levels.specs.Laws.Clear.{Clear, clear-same}
+use Rattle.levels.specs.Laws.Clear.{Clear, clear-same, height-from}
 use Rattle.levels.specs.Laws.Heights.{le-height}
-use Rattle.levels.specs.Laws.Links.{height-from}
-use Rattle.levels.specs.Laws.Rest.{at-least-rest, in-rest, link-far, not-in-rest, rest-in, rest-not-in}
-use Rattle.levels.specs.Laws.Sets.{from-bit}
+use Rattle.levels.specs.Laws.LinkIndex.{link-cost}
+
+use Rattle.levels.specs.Laws.Rest.{in-rest, not-in-rest, rest-in, rest-not-in}
 use Rattle.levels.specs.Sides.{linkOf, rest}
 use Rattle.leveling.specs.Laws.ThreePoint.{low}
 use Rattle.leveling.specs.ThreePoint.{ThreePoint}
-
--- ## The index where it is known from below and one choice attains it
-
-pub index-is : (L : ℕ) (d : ℕ → ℕ → ℕ) (n : ℕ) (s : ℕ → ℕ) (v : ℕ) → WellFormed L d n → AtLeast d n s v
-    → (a a′ b b′ : ℕ) → On n s 0 a → On n s 0 a′ → On n s 1 b → On n s 1 b′ → d a b + d a′ b′ ≤ v + d a a′ + d b b′ → clipped L d n s ≡ v
-index-is L d n s v c p a a′ b b′ ha ha′ hb hb′ q =
-    cases (ltb 0 (clipped L d n s))
-    (λ e. omega (arith, low-clipped L d n s c v ha hb p, clipped-low L d n s c (ltb-true 0 (clipped L d n s) e) .low ha ha′ hb hb′))
-    (λ e. omega (arith, low-clipped L d n s c v ha hb p, ltb-false 0 (clipped L d n s) e))
-
-module _ (L : ℕ) (d : ℕ → ℕ → ℕ) (n : ℕ) (c : WellFormed L d n) (T : List Row) (x : Exact L d n T) where
-  tree-cost : (R : ℕ) → FarSide n R → costOf T R ≡ clipped L d n (bit R)
-  tree-cost R f = ap (λ (U : List Row). costOf U R) (unique L d n c T (x .tree) (x .meets)) ∙ measured-cost L d n R f
-
-  -- so it is the cost of the link, whichever of its sides is named
-  pub link-cost : (S v : ℕ) → S < 2 ^ n → AtLeast d n (bit S) v → (i j k l : ℕ) → i < n → j < n → k < n → l < n
-      → holds S i ≡ true → holds S j ≡ true → holds S k ≡ false → holds S l ≡ false → d i k + d j l ≤ v + d i j + d k l → costOf T (linkOf n S) ≡ v
-  link-cost S v f p i j k l hi hj hk hl si sj sk sl q =
-      tree-cost (linkOf n S) (link-far n S f (omega (arith, hi)) (omega (arith, from-bit i S (holds-true S i si), pow-pos i)) full)
-      ∙ cases (holds S 0)
-      (λ e. rw e (index-is L d n (bit (rest n S)) v c (at-least-rest n S f L d v c p) i j k l
-      (hi, holds-false (rest n S) i (not-in-rest n S f i hi si)) (hj, holds-false (rest n S) j (not-in-rest n S f j hj sj))
-      (hk, holds-true (rest n S) k (in-rest n S f k hk sk)) (hl, holds-true (rest n S) l (in-rest n S f l hl sl)) q))
-      (λ e. rw e (index-is L d n (bit S) v c p k l i j
-      (hk, holds-false S k sk) (hl, holds-false S l sl) (hi, holds-true S i si) (hj, holds-true S j sj)
-      (omega (arith, q, c .same hi hk, c .same hj hl))))
-    where
-      full : S ≡ 2 ^ n - 1 → ⊥
-      full e = omega (arith, holds-false S k sk, ap (λ (z : ℕ). bit z k) e, bit-full n k hk)
 
 -- ## Of a clear set: image i in it, image k outside as near to i as any
 

@@ -1,11 +1,10 @@
 -- The exact tree of a table with levels: every group but that of all images is one side of a link, and every inner link has a group on
 -- one of its sides. Assumes nothing.
-use mathlib.Core.Bool.{false, false≢true, true, true≢false}
+use mathlib.Core.Bool.{false, true}
 use mathlib.Core.List.{List, List·Memᴰ}
 use mathlib.Core.Logic.{inl, inr, _↔_, _⊎_}
-use mathlib.Core.Path.{ap, subst, sym, _∙_, _≡_}
-use Prim.Native.Nat.{ℕ, _+_, _-_, _<_, _^_, _≤_}
-use native.Mathlib.Nat.{le-trans}
+use mathlib.Core.Path.{ap, _≡_}
+use Prim.Native.Nat.{suc, zero, ℕ, _+_, _-_, _<_, _^_, _≤_}
 use native.Mathlib.Omega.{arith}
 use lib.Count.{ones}
 use lib.Dec.{leb}
@@ -13,47 +12,24 @@ use lib.Pow.{pow-pos}
 use borrow.Author.Tests.{leb-false, leb-true}
 use borrow.Table.Steps.{cases}
 use Rattle.ground.specs.Bits.{bit}
-use Rattle.ground.specs.Laws.Bits.{bit-some}
+use Rattle.ground.specs.Laws.Bits.{bit-full}
 use Rattle.ground.specs.Laws.Tests.{and-l, and-r}
-use Rattle.ground.specs.Laws.Maps.{map-mem}
-use Rattle.theory.specs.FarSides.{FarSide, holds, inner}
-use Rattle.theory.specs.Index.{AtLeast, clipped}
-use Rattle.theory.specs.Laws.FarSides.{far-image}
-use Rattle.theory.specs.Laws.Index.{low-clipped}
+use Rattle.theory.specs.FarSides.{FarSide, holds, inner, own}
+use Rattle.theory.specs.Index.{AtLeast}
 use Rattle.theory.specs.Laws.Nested.{bit-holds, bit-holds-not, holds-false, holds-true}
-use Rattle.theory.specs.Laws.OneTree.{drawn-cases, drawn-low, fars-drawn, fars-measured, index-drawn, rows-mem}
-use Rattle.theory.specs.Laws.OnlyOne.{unique}
+use Rattle.theory.specs.Laws.OwnLinks.{not-inner-own}
 use Rattle.theory.specs.LinkTables.{Row, fars}
-use Rattle.theory.specs.Readings.{Exact, measured}
+use Rattle.theory.specs.Readings.{Exact}
 use Rattle.theory.specs.Tables.{WellFormed}
 use Rattle.levels.specs.Groups.{Group, height}
-use Rattle.levels.specs.Laws.Clear.{Clear, clear-choice, clear-group, group-clear, set-some}
-use Rattle.levels.specs.Laws.Heights.{height-at, le-height}
+use Rattle.levels.specs.Laws.Clear.{Clear, clear-choice, clear-group, height-from, part-clear, part-fits, part-image}
+use Rattle.levels.specs.Laws.Heights.{le-height}
+use Rattle.levels.specs.Laws.LinkIndex.{far-of, index-link, link-index}
 use Rattle.levels.specs.Laws.Rest.{at-least-link, at-least-rest, in-rest, link-far, rest-fits, rest-in, rest-ones, rest-rest}
 use Rattle.levels.specs.Laws.Sets.{from-bit, other}
-use Rattle.levels.specs.Sides.{linkOf, rest}
+use Rattle.levels.specs.Sides.{Part, linkOf, rest}
 use Rattle.leveling.specs.Laws.ThreePoint.{low}
 use Rattle.leveling.specs.ThreePoint.{ThreePoint}
-
--- ## Which divisions are links of the exact tree: the inner ones with index above 0
-
-module _ (L : ℕ) (d : ℕ → ℕ → ℕ) (n : ℕ) (T : List Row) (c : WellFormed L d n) (x : Exact L d n T) where
-  pub index-link : (R : ℕ) → FarSide n R → AtLeast d n (bit R) 1 → List·Memᴰ R (fars T)
-  index-link R f p =
-      let b = far-image n R f in
-      let more = low-clipped L d n (bit R) c 1 {a = 0} {b = b .0} (omega (arith, b .1), f .near) (b .1, b .2) p in
-      subst (λ (U : List Row). List·Memᴰ R (fars U)) (sym (unique L d n c T (x .tree) (x .meets)))
-      (rw (fars-measured L d n) (rows-mem L d n c R f (index-drawn L d n R (omega (arith, more)))))
-
-  pub link-index : (R : ℕ) → List·Memᴰ R (fars T) → inner n R ≡ true → AtLeast d n (bit R) 1
-  link-index R m e =
-      go (drawn-cases L d n R (fars-drawn L d n c R (subst (λ (U : List Row). List·Memᴰ R (fars U)) (unique L d n c T (x .tree) (x .meets)) m)))
-    where
-      go : (inner n R ≡ false) ⊎ (0 < clipped L d n (bit R)) → AtLeast d n (bit R) 1
-      go (inl o) = absurd (true≢false (sym e ∙ o))
-      go (inr h) = drawn-low L d n c R h
-
--- ## With the three-point condition
 
 module _ (L : ℕ) (d : ℕ → ℕ → ℕ) (n : ℕ) (c : WellFormed L d n) (t : ThreePoint d n) where
   pub clear-low : (S : ℕ) → Clear d n S → AtLeast d n (bit S) 1
@@ -68,24 +44,13 @@ module _ (L : ℕ) (d : ℕ → ℕ → ℕ) (n : ℕ) (c : WellFormed L d n) (t
         );
   }
 
-  -- the height of a set is an entry of each of its images
-  pub height-from : (S i : ℕ) → i < n → holds S i ≡ true → (j : ℕ) × (j < n) × (holds S j ≡ true) × (d i j ≡ height d n S)
-  height-from S i hi si =
-      let r = height-at d n S i hi si in
-      let a = le-height d n S i (r .0) hi (r .2) si (r .4) in
-      let b = le-height d n S i (r .1) hi (r .3) si (r .5) in
-      cases (leb (height d n S) (d i (r .0)))
-      (λ e. (r .0, r .2, r .4, omega (arith, a, leb-true (height d n S) (d i (r .0)) e)))
-      (λ e. (r .1, r .3, r .5,
-      omega (arith, b, r .6, leb-false (height d n S) (d i (r .0)) e, low t (r .2) (r .3) hi, c .same (r .2) hi, c .same (r .3) hi)))
-
   -- of the two sides of a division with index above 0 the one that is not higher is clear: an entry between them that is not above its
   -- height would let no choice with the two heights gain
   pub lower-clear : (S : ℕ) → S < 2 ^ n → AtLeast d n (bit S) 1 → height d n S ≤ height d n (rest n S) → Clear d n S
   lower-clear S f p q = record {
     below = λ {i} {j} {k} hi hj hk si sj sk.
-        let u = height-from S i hi si in
-        let v = height-from (rest n S) k hk (in-rest n S f k hk sk) in
+        let u = height-from L d n c t S i hi si in
+        let v = height-from L d n c t (rest n S) k hk (in-rest n S f k hk sk) in
         let sv = rest-in n S f (v .0) (v .1) (v .2) in
         let near : d i k ≤ height d n S → d (u .0) k ≤ height d n S =
         λ e. omega (arith, e, low t (u .1) hk hi, c .same (u .1) hi, c .same hk hi, u .3) in
@@ -129,30 +94,56 @@ module _ (L : ℕ) (d : ℕ → ℕ → ℕ) (n : ℕ) (c : WellFormed L d n) (t
           let o = other n n (rest n R) (rest-fits n R) others in
           inr (clear-group L d n c (rest n R) (rest-fits n R) others g (o .0) (o .1) (bit-holds (rest n R) (o .0) (o .3)))
 
-  -- ## Its tree
+  -- ## The tree
 
   module _ (T : List Row) (x : Exact L d n T) where
-    pub clear-link : (S i : ℕ) → S < 2 ^ n → Clear d n S → i < n → holds S i ≡ true → (S ≡ 2 ^ n - 1 → ⊥) → List·Memᴰ (linkOf n S) (fars T)
-    clear-link S i f g hi si ne =
-        index-link L d n T c x (linkOf n S) (link-far n S f (omega (arith, hi)) (omega (arith, from-bit i S (holds-true S i si), pow-pos i)) ne)
-        (at-least-link n S f L d 1 c (clear-low S g))
+    -- 1. Every group, and every image, is one side of a link.
+    pub part-link : (S : ℕ) → Part d n S → (S ≡ 2 ^ n - 1 → ⊥) → List·Memᴰ (linkOf n S) (fars T)
+    part-link S p ne =
+        let r = part-image d n S p in
+        let f = part-fits d n S p in
+        let some : 0 < S = omega (arith, from-bit (r .0) S (holds-true S (r .0) (r .2)), pow-pos (r .0)) in
+        index-link L d n T c x (linkOf n S) (link-far n S f (omega (arith, r .1)) some ne) (at-least-link n S f L d 1 c (clear-low S (part-clear L d n c t S p)))
 
-    -- 1. A group is one side of a link.
-    pub group-link : (S : ℕ) → Group d n S → (S ≡ 2 ^ n - 1 → ⊥) → List·Memᴰ (linkOf n S) (fars T)
-    group-link S g ne =
-        let o = other n n S (g .is .fits) (g .two) in
-        clear-link S (o .0) (g .is .fits) (group-clear L d n c t S g) (o .1) (bit-holds S (o .0) (o .3)) ne
+    -- where it has image 0, the near side
+    pub near-link : (S : ℕ) → Part d n S → (S ≡ 2 ^ n - 1 → ⊥) → holds S 0 ≡ true → List·Memᴰ (rest n S) (fars T)
+    near-link S p ne e = rw e at (part-link S p ne)
 
-    -- 2. An inner link has a group on one of its sides.
-    pub link-group : (R : ℕ) → FarSide n R → inner n R ≡ true → List·Memᴰ R (fars T) → Group d n R ⊎ Group d n (rest n R)
-    link-group R f e m = one-group R f e (link-index L d n T c x R m e)
+    -- and else the far side
+    pub far-link : (S : ℕ) → Part d n S → holds S 0 ≡ false → List·Memᴰ S (fars T)
+    far-link S p e =
+        let r = part-image d n S p in
+        rw e at (part-link S p (λ q. omega (arith, holds-false S 0 e, ap (λ (z : ℕ). bit z 0) q, bit-full n 0 (omega (arith, r .1)))))
 
-    -- Both at once, of every inner division.
-    pub inner-link : (R : ℕ) → FarSide n R → inner n R ≡ true → List·Memᴰ R (fars T) ↔ (Group d n R ⊎ Group d n (rest n R))
-    inner-link R f e = (link-group R f e, back)
+    -- 2. Every inner link has a group on one of its sides.
+    pub link-group : (R : ℕ) → List·Memᴰ R (fars T) → inner n R ≡ true → Group d n R ⊎ Group d n (rest n R)
+    link-group R m e = one-group R (far-of L d n T c x R m) e (link-index L d n T c x R m e)
+
+    -- every other one has one image there
+    pub link-part : (R : ℕ) → List·Memᴰ R (fars T) → Part d n R ⊎ Part d n (rest n R)
+    link-part R m = cases (inner n R) (λ e. group (link-group R m e)) (λ e. image (not-inner-own n R (far-of L d n T c x R m) e))
       where
-        back : Group d n R ⊎ Group d n (rest n R) → List·Memᴰ R (fars T)
-        back (inl g) = index-link L d n T c x R f (clear-low R (group-clear L d n c t R g))
-        back (inr g) =
-            index-link L d n T c x R f (rw (rest-rest n R (f .fits)) at
-            (at-least-rest n (rest n R) (rest-fits n R) L d 1 c (clear-low (rest n R) (group-clear L d n c t (rest n R) g))))
+        group : Group d n R ⊎ Group d n (rest n R) → Part d n R ⊎ Part d n (rest n R)
+        group (inl g) = inl (inl g)
+        group (inr g) = inr (inl g)
+
+        image : (i : ℕ) × (i < n) × (R ≡ own n i) → Part d n R ⊎ Part d n (rest n R)
+        image (zero, h, e) = inr (inr (0, h, omega (arith, e, far-of L d n T c x R m .some)))
+        image (suc i, h, e) = inl (inr (suc i, h, e))
+
+    -- so of all divisions exactly those are links
+    pub part-far : (R : ℕ) → FarSide n R → Part d n R ⊎ Part d n (rest n R) → List·Memᴰ R (fars T)
+    part-far R f (inl p) = index-link L d n T c x R f (clear-low R (part-clear L d n c t R p))
+    part-far R f (inr p) =
+        index-link L d n T c x R f
+        (rw (rest-rest n R (f .fits)) at (at-least-rest n (rest n R) (rest-fits n R) L d 1 c (clear-low (rest n R) (part-clear L d n c t (rest n R) p))))
+
+    pub links-are : (R : ℕ) → FarSide n R → List·Memᴰ R (fars T) ↔ (Part d n R ⊎ Part d n (rest n R))
+    links-are R f = (link-part R, part-far R f)
+
+    pub inner-are : (R : ℕ) → FarSide n R → inner n R ≡ true → List·Memᴰ R (fars T) ↔ (Group d n R ⊎ Group d n (rest n R))
+    inner-are R f e = (λ m. link-group R m e, λ g. part-far R f (of g))
+      where
+        of : Group d n R ⊎ Group d n (rest n R) → Part d n R ⊎ Part d n (rest n R)
+        of (inl g) = inl (inl g)
+        of (inr g) = inr (inl g)

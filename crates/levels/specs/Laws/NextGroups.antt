@@ -6,10 +6,9 @@ use mathlib.Core.Logic.{inl, inr, _⊎_}
 use mathlib.Core.Path.{ap, sym, _∙_, _≡_}
 use Prim.Native.Nat.{ℕ, _*_, _+_, _-_, _<_, _^_, _≤_}
 use native.Mathlib.Omega.{arith}
-use lib.Pow.{pow-lt, pow-pos}
 use borrow.Author.Tests.{not-true}
 use Rattle.ground.specs.Bits.{bit}
-use Rattle.ground.specs.Laws.Bits.{bit-pow, bit-some}
+use Rattle.ground.specs.Laws.Bits.{bit-some}
 use Rattle.ground.specs.Laws.Least.{leastOn-at, leastOn-le}
 use Rattle.ground.specs.Laws.Tests.{and-l, and-not-not, and-r}
 use Rattle.theory.specs.FarSides.{Within, holds}
@@ -20,13 +19,12 @@ use Rattle.theory.specs.Tables.{WellFormed}
 use Rattle.levels.specs.Balls.{ball}
 use Rattle.levels.specs.Groups.{Group, height}
 use Rattle.levels.specs.Laws.Balls.{ball-group, ball-in, ball-under, group-ball, in-ball}
-use Rattle.levels.specs.Laws.Clear.{Clear, clear-part, only, part-clear}
+use Rattle.levels.specs.Laws.Clear.{Clear, clear-part, only, part-clear, part-fits, part-image}
 use Rattle.levels.specs.Laws.Groups.{holds-ext}
 use Rattle.levels.specs.Laws.Heights.{height-le, le-height}
 use Rattle.levels.specs.Laws.LinkCosts.{alone-cost, alone-or-both, both-cost}
 use Rattle.levels.specs.Laws.Rest.{in-rest, rest-fits, rest-in}
-use Rattle.levels.specs.Laws.Sets.{other}
-use Rattle.levels.specs.Sides.{Next, Part, linkOf, rest}
+use Rattle.levels.specs.Sides.{NextGroup, Part, linkOf, rest}
 use Rattle.leveling.specs.ThreePoint.{ThreePoint}
 
 -- an image that R has beyond S
@@ -37,15 +35,6 @@ beyond n S R f g w ne = go (find n (λ k. holds R k && not (holds S k)))
         → (k : ℕ) × (k < n) × (holds R k ≡ true) × (holds S k ≡ false)
     go (inl r) = (r .0, r .1, and-l (holds R (r .0)) (not (holds S (r .0))) (r .2), not-true (holds S (r .0)) (and-r (holds R (r .0)) (not (holds S (r .0))) (r .2)))
     go (inr h) = absurd (ne (holds-ext n R S g f (λ k l e. and-not-not (holds R k) (holds S k) (h k l) e) w))
-
--- a group or one image is no empty set, and has no image beyond n
-pub part-fits : (d : ℕ → ℕ → ℕ) (n S : ℕ) → Part d n S → S < 2 ^ n
-part-fits d n S (inl g) = g .is .fits
-part-fits d n S (inr r) = rw (r .2) (pow-lt (r .1))
-
-pub part-image : (d : ℕ → ℕ → ℕ) (n S : ℕ) → Part d n S → (i : ℕ) × (i < n) × (holds S i ≡ true)
-part-image d n S (inl g) = let o = other n n S (g .is .fits) (g .two) in (o .0, o .1, bit-holds S (o .0) (o .3))
-part-image d n S (inr r) = (r .0, r .1, rw (r .2) (bit-holds (2 ^ r .0) (r .0) (bit-pow (r .0))))
 
 -- one image alone has height 0
 pub image-height : (L : ℕ) (d : ℕ → ℕ → ℕ) (n x : ℕ) → WellFormed L d n → height d n (2 ^ x) ≡ 0
@@ -71,7 +60,7 @@ module _ (L : ℕ) (d : ℕ → ℕ → ℕ) (n : ℕ) (c : WellFormed L d n) (t
     reach-more e = false≢true (sym sk ∙ ap (λ (x : ℕ). holds x k) (sym e) ∙ ball-in d n i (d i k) k hk (omega arith))
 
   -- it exists
-  pub next-exists : (S ≡ 2 ^ n - 1 → ⊥) → (P : ℕ) × Next d n S P
+  pub next-exists : (S ≡ 2 ^ n - 1 → ⊥) → (P : ℕ) × NextGroup d n S P
   next-exists ne =
       let r = part-image d n S p in
       let i = r .0 in
@@ -97,7 +86,7 @@ module _ (L : ℕ) (d : ℕ → ℕ → ℕ) (n : ℕ) (c : WellFormed L d n) (t
             ));
       })
 
-  module _ (P : ℕ) (x : Next d n S P) where
+  module _ (P : ℕ) (x : NextGroup d n S P) where
     -- no entry between the sides is below its height
     pub next-le : (i k : ℕ) → i < n → k < n → holds S i ≡ true → holds S k ≡ false → height d n P ≤ d i k
     next-le i k hi hk si sk =

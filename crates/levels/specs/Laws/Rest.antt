@@ -1,18 +1,18 @@
 -- The other images of a set: an image is in them exactly when it is not in the set, and what a link has on its sides. Assumes nothing.
-use mathlib.Core.Bool.{false, false≢true, not, true}
-use mathlib.Core.Path.{ap, sym, _∙_, _≡_}
-use Prim.Native.Nat.{suc, zero, ℕ, _+_, _-_, _/_, _<_, _^_, _≤_}
+use mathlib.Core.Bool.{false, not, true}
+use mathlib.Core.Path.{ap, _≡_}
+use Prim.Native.Nat.{suc, zero, ℕ, _+_, _-_, _/_, _<_, _^_}
 use native.Mathlib.Omega.{arith}
 use lib.Count.{ones, ones-step}
 use lib.Pow.{pow-pos}
 use borrow.Table.Steps.{cases}
 use Rattle.ground.specs.Bits.{bit}
 use Rattle.ground.specs.Laws.Ones.{ones-none}
-use Rattle.theory.specs.FarSides.{FarSide, holds}
+use Rattle.theory.specs.FarSides.{FarSide, holds, own}
 use Rattle.theory.specs.Index.{AtLeast}
 use Rattle.theory.specs.Laws.Nested.{bit-holds, bit-holds-not, holds-false, holds-true}
 use Rattle.theory.specs.Tables.{WellFormed}
-use Rattle.levels.specs.Sides.{linkOf, rest, without}
+use Rattle.levels.specs.Sides.{linkOf, rest}
 
 pub rest-fits : (n S : ℕ) → rest n S < 2 ^ n
 rest-fits n S = omega (arith, pow-pos n)
@@ -71,3 +71,8 @@ module _ (n S : ℕ) (f : S < 2 ^ n) where
 
   pub at-least-link : (L : ℕ) (d : ℕ → ℕ → ℕ) (v : ℕ) → WellFormed L d n → AtLeast d n (bit S) v → AtLeast d n (bit (linkOf n S)) v
   at-least-link L d v c p = cases (holds S 0) (λ e. rw e (at-least-rest L d v c p)) (λ e. rw e p)
+
+-- one image and the others: its own link
+pub link-own : (n i : ℕ) → i < n → linkOf n (2 ^ i) ≡ own n i
+link-own n zero h = omega arith
+link-own n (suc i) h = rw (bit-holds-not (2 ^ suc i) 0 (omega arith))
