@@ -11,7 +11,7 @@ use Rattle.theory.specs.Readings.{Exact}
 use Rattle.theory.specs.Tables.{WellFormed}
 use Rattle.levels.specs.Groups.{Group, height}
 use Rattle.levels.specs.Laws.Links.{far-link, inner-are, link-group, links-are, near-link}
-use Rattle.levels.specs.Laws.NextGroups.{cost-alone, cost-both, image-height, next-exists}
+use Rattle.levels.specs.Laws.NextGroups.{cost-alone, cost-both, image-height, next-all, next-exists}
 use Rattle.levels.specs.Laws.Rest.{link-own}
 use Rattle.levels.specs.Sides.{NextGroup, Part, linkOf, rest}
 use Rattle.leveling.specs.ThreePoint.{ThreePoint}
@@ -29,7 +29,8 @@ pub record LevelTree (d : ℕ → ℕ → ℕ) (n : ℕ) (T : List Row) : Type 0
   -- that has S on one side is the height of P less the height of S
   pub next : (S : ℕ) → Part d n S → (S ≡ 2 ^ n - 1 → ⊥) → (P : ℕ) × NextGroup d n S P
   pub cost : (S P : ℕ) → Part d n S → NextGroup d n S P → (Part d n (rest n S) → ⊥) → costOf T (linkOf n S) + height d n S ≡ height d n P
-  -- except where the other images are a group or one image too: one link stands for both, with the difference to either
+  -- except where the other images are a group or one image too: then P is all images, and this one link has both differences
+  pub top : (S P : ℕ) → Part d n S → NextGroup d n S P → Part d n (rest n S) → P ≡ 2 ^ n - 1
   pub cost-top : (S P : ℕ) → Part d n S → NextGroup d n S P → Part d n (rest n S)
       → costOf T (linkOf n S) + height d n S + height d n (rest n S) ≡ 2 * height d n P
   -- the link of one image is its own link
@@ -45,6 +46,7 @@ level-tree L d n T c t x = record {
   links = links-are L d n c t T x;
   next = next-exists L d n c t;
   cost = λ S P p q. cost-alone L d n c t S p P q T x;
+  top = λ S P p q. next-all L d n c t S p P q;
   cost-top = λ S P p q. cost-both L d n c t S p P q T x;
   own-link = λ i h. link-own n i h;
   own-height = λ i. image-height L d n i c;

@@ -25,18 +25,21 @@ use Rattle.levels.specs.Sides.{Part}
 use Rattle.leveling.specs.Laws.ThreePoint.{low}
 use Rattle.leveling.specs.ThreePoint.{ThreePoint}
 
+-- S is clear of the other images: an image inside is nearer to all images inside than to any outside
 pub record Clear (d : ℕ → ℕ → ℕ) (n S : ℕ) : Type 0 where
   pub below : {i j k : ℕ} → i < n → j < n → k < n → holds S i ≡ true → holds S j ≡ true → holds S k ≡ false → d i j < d i k
 
--- one image
+-- the set of one image holds no other
 pub only : (x i : ℕ) → holds (2 ^ x) i ≡ true → i ≡ x
-only x i e = cases (eqb i x) (λ t. eqb-true i x t) (λ t. absurd (omega (arith, holds-true (2 ^ x) i e, bit-pow-other x i (λ q. eqb-false i x t (sym q)))))
+only x i e =
+    cases (eqb i x) (λ t. eqb-true i x t)
+    (λ t. absurd (omega (arith, holds-true (2 ^ x) i e, bit-pow-other x i (λ q. eqb-false i x t (sym q)))))
 
--- a set with an image that is not the empty one
+-- a set that holds an image
 pub set-some : (S i : ℕ) → holds S i ≡ true → 1 ≤ ones S
 set-some S i e = ones-in i S (holds-true S i e)
 
--- a group or one image is no empty set, and has no image beyond n
+-- a group or one image has no image beyond n, and is not empty
 pub part-fits : (d : ℕ → ℕ → ℕ) (n S : ℕ) → Part d n S → S < 2 ^ n
 part-fits d n S (inl g) = g .is .fits
 part-fits d n S (inr r) = rw (r .2) (pow-lt (r .1))
@@ -59,7 +62,7 @@ module _ (L : ℕ) (d : ℕ → ℕ → ℕ) (n : ℕ) (c : WellFormed L d n) wh
         );
   }
 
-  -- a clear set of two or more images is a group: whoever has no entry above its height with one of its images is in it
+  -- a clear set of two or more images is a group: with any other image it would have an entry above its height
   pub clear-group : (S : ℕ) → S < 2 ^ n → 2 ≤ ones S → Clear d n S → (i : ℕ) → i < n → holds S i ≡ true → Group d n S
   clear-group S f two g i hi si =
       let r = height-at d n S i hi si in
@@ -97,7 +100,8 @@ module _ (L : ℕ) (d : ℕ → ℕ → ℕ) (n : ℕ) (c : WellFormed L d n) wh
     part-clear S (inr r) = rw (r .2) (image-clear (r .0) (r .1))
 
     -- an image outside has one entry with all images inside
-    pub clear-same : (S : ℕ) → Clear d n S → (i j k : ℕ) → i < n → j < n → k < n → holds S i ≡ true → holds S j ≡ true → holds S k ≡ false → d i k ≡ d j k
+    pub clear-same : (S : ℕ) → Clear d n S → (i j k : ℕ) → i < n → j < n → k < n
+        → holds S i ≡ true → holds S j ≡ true → holds S k ≡ false → d i k ≡ d j k
     clear-same S g i j k hi hj hk si sj sk =
         omega (
           arith,
@@ -110,7 +114,7 @@ module _ (L : ℕ) (d : ℕ → ℕ → ℕ) (n : ℕ) (c : WellFormed L d n) wh
           low t hj hk hi,
         )
 
-    -- how much the two sums of a choice differ: more than the lesser entry is above the one inside
+    -- every choice gains: the entry of the two outside is at most the larger of the two between, and that of the two inside below the other
     pub clear-choice : (S : ℕ) → Clear d n S → (i j k l : ℕ) → i < n → j < n → k < n → l < n
         → holds S i ≡ true → holds S j ≡ true → holds S k ≡ false → holds S l ≡ false → 1 + d i j + d k l ≤ d i k + d j l
     clear-choice S g i j k l hi hj hk hl si sj sk sl =
@@ -132,5 +136,9 @@ module _ (L : ℕ) (d : ℕ → ℕ → ℕ) (n : ℕ) (c : WellFormed L d n) wh
         let b = le-height d n S i (r .1) hi (r .3) si (r .5) in
         cases (leb (height d n S) (d i (r .0)))
         (λ e. (r .0, r .2, r .4, omega (arith, a, leb-true (height d n S) (d i (r .0)) e)))
-        (λ e. (r .1, r .3, r .5,
-        omega (arith, b, r .6, leb-false (height d n S) (d i (r .0)) e, low t (r .2) (r .3) hi, c .same (r .2) hi, c .same (r .3) hi)))
+        (λ e. (
+          r .1,
+          r .3,
+          r .5,
+          omega (arith, b, r .6, leb-false (height d n S) (d i (r .0)) e, low t (r .2) (r .3) hi, c .same (r .2) hi, c .same (r .3) hi),
+        ))

@@ -21,7 +21,6 @@ use Rattle.levels.specs.Groups.{height}
 use Rattle.levels.specs.Laws.Clear.{Clear, clear-same, height-from}
 use Rattle.levels.specs.Laws.Heights.{le-height}
 use Rattle.levels.specs.Laws.LinkIndex.{link-cost}
-
 use Rattle.levels.specs.Laws.Rest.{in-rest, not-in-rest, rest-in, rest-not-in}
 use Rattle.levels.specs.Sides.{linkOf, rest}
 use Rattle.leveling.specs.Laws.ThreePoint.{low}
@@ -35,6 +34,7 @@ module _ (L : ℕ) (d : ℕ → ℕ → ℕ) (n : ℕ) (c : WellFormed L d n) (t
   under : height d n S < d i k
   under = let u = height-from L d n c t S i hi si in omega (arith, g .below hi (u .1) hk si (u .2) sk, u .3)
 
+  -- so much every choice gains: the entry of the two outside is at most the larger of the two between
   alone-low : AtLeast d n (bit S) (d i k - height d n S)
   alone-low = record {
     low = λ {a} {a′} {b} {b′} ha ha′ hb hb′.
@@ -60,7 +60,7 @@ module _ (L : ℕ) (d : ℕ → ℕ → ℕ) (n : ℕ) (c : WellFormed L d n) (t
 
   module _ (o : Clear d n (rest n S)) where
     -- where the other images are clear too, all entries between the sides are that one, and their height is below it
-    between : (a b : ℕ) → a < n → b < n → holds S a ≡ false → holds S b ≡ true → d a b ≡ d i k
+    pub between : (a b : ℕ) → a < n → b < n → holds S a ≡ false → holds S b ≡ true → d a b ≡ d i k
     between a b ha hb na sb =
         omega (
           arith,
@@ -76,6 +76,7 @@ module _ (L : ℕ) (d : ℕ → ℕ → ℕ) (n : ℕ) (c : WellFormed L d n) (t
         let u = height-from L d n c t (rest n S) k hk (in-rest n S f k hk sk) in
         omega (arith, o .below hk (u .1) hi (in-rest n S f k hk sk) (u .2) (not-in-rest n S f i hi si), u .3, c .same hi hk)
 
+    -- and so much every choice gains
     both-low : AtLeast d n (bit S) (2 * d i k - height d n S - height d n (rest n S))
     both-low = record {
       low = λ {a} {a′} {b} {b′} ha ha′ hb hb′.
@@ -99,33 +100,30 @@ module _ (L : ℕ) (d : ℕ → ℕ → ℕ) (n : ℕ) (c : WellFormed L d n) (t
         let u = height-from L d n c t S i hi si in
         let v = height-from L d n c t (rest n S) k hk (in-rest n S f k hk sk) in
         let sv = rest-in n S f (v .0) (v .1) (v .2) in
-        let e = link-cost L d n c T x S (2 * d i k - height d n S - height d n (rest n S)) f both-low i (u .0) k (v .0) hi (u .1) hk (v .1) si (u .2) sk sv
+        let w = 2 * d i k - height d n S - height d n (rest n S) in
+        let e = link-cost L d n c T x S w f both-low i (u .0) k (v .0) hi (u .1) hk (v .1) si (u .2) sk sv
         (omega (arith, under, rest-under, u .3, v .3, between (v .0) (u .0) (v .1) (u .1) sv (u .2), c .same (v .1) (u .1))) in
         omega (arith, e, under, rest-under)
 
-  -- an image l that is as far from k as from i, or the other images are clear
+  -- an image l outside is as far from k as from i; or none is, and then all of them are as far from i as k is, and nearer to k: the other
+  -- images are clear
   pub alone-or-both : ((l : ℕ) × (l < n) × (holds S l ≡ false) × (d k l ≡ d i l)) ⊎ Clear d n (rest n S)
   alone-or-both = go (find n (λ l. holds (rest n S) l && eqb (d k l) (d i l)))
     where
-      go : ((l : ℕ) × (l < n) × ((holds (rest n S) l && eqb (d k l) (d i l)) ≡ true)) ⊎ ((l : ℕ) → l < n → (holds (rest n S) l && eqb (d k l) (d i l)) ≡ false)
+      go : ((l : ℕ) × (l < n) × ((holds (rest n S) l && eqb (d k l) (d i l)) ≡ true))
+          ⊎ ((l : ℕ) → l < n → (holds (rest n S) l && eqb (d k l) (d i l)) ≡ false)
           → ((l : ℕ) × (l < n) × (holds S l ≡ false) × (d k l ≡ d i l)) ⊎ Clear d n (rest n S)
       go (inl r) =
-          inl (r .0, r .1, rest-in n S f (r .0) (r .1) (and-l (holds (rest n S) (r .0)) (eqb (d k (r .0)) (d i (r .0))) (r .2)),
-          eqb-true (d k (r .0)) (d i (r .0)) (and-r (holds (rest n S) (r .0)) (eqb (d k (r .0)) (d i (r .0))) (r .2)))
+          inl (
+            r .0,
+            r .1,
+            rest-in n S f (r .0) (r .1) (and-l (holds (rest n S) (r .0)) (eqb (d k (r .0)) (d i (r .0))) (r .2)),
+            eqb-true (d k (r .0)) (d i (r .0)) (and-r (holds (rest n S) (r .0)) (eqb (d k (r .0)) (d i (r .0))) (r .2)),
+          )
       go (inr w) = inr (record {
         below = λ {i = a} {j = b} {k = j} ha hb hj ra rb rj.
-            let na = rest-in n S f a ha ra in
-            let sj = rest-not-in n S f j hj rj in
-            omega (
-              arith,
-              nearer w a ha ra,
-              nearer w b hb rb,
-              low t ha hb hk,
-              c .same ha hk,
-              c .same hb hk,
-              clear-same L d n c t S g i j a hi hj ha si sj na,
-              c .same ha hj,
-            );
+            let e = clear-same L d n c t S g i j a hi hj ha si (rest-not-in n S f j hj rj) (rest-in n S f a ha ra) in
+            omega (arith, nearer w a ha ra, nearer w b hb rb, low t ha hb hk, c .same ha hk, c .same hb hk, e, c .same ha hj);
       })
         where
           nearer : ((l : ℕ) → l < n → (holds (rest n S) l && eqb (d k l) (d i l)) ≡ false) → (l : ℕ) → l < n → holds (rest n S) l ≡ true
@@ -136,6 +134,7 @@ module _ (L : ℕ) (d : ℕ → ℕ → ℕ) (n : ℕ) (c : WellFormed L d n) (t
               let e : d i l ≡ d i k = omega (arith, q, ne, low t hk hl hi, low t hi hl hk, c .same hk hi, c .same hl hi, c .same hl hk) in
               (omega (arith, e, ne, low t hk hl hi, c .same hk hi, c .same hl hi), e)
 
+  -- with such an l the least gain is attained
   pub alone-cost : (T : List Row) → Exact L d n T → (l : ℕ) → l < n → holds S l ≡ false → d k l ≡ d i l → costOf T (linkOf n S) + height d n S ≡ d i k
   alone-cost T x l hl sl e =
       let u = height-from L d n c t S i hi si in

@@ -31,7 +31,12 @@ use Rattle.levels.specs.Sides.{Part, linkOf, rest}
 use Rattle.leveling.specs.Laws.ThreePoint.{low}
 use Rattle.leveling.specs.ThreePoint.{ThreePoint}
 
+group-part : (d : ℕ → ℕ → ℕ) (n R : ℕ) → Group d n R ⊎ Group d n (rest n R) → Part d n R ⊎ Part d n (rest n R)
+group-part d n R (inl g) = inl (inl g)
+group-part d n R (inr g) = inr (inl g)
+
 module _ (L : ℕ) (d : ℕ → ℕ → ℕ) (n : ℕ) (c : WellFormed L d n) (t : ThreePoint d n) where
+  -- a clear set is one side of a division with index above 0
   pub clear-low : (S : ℕ) → Clear d n S → AtLeast d n (bit S) 1
   clear-low S g = record {
     low = λ {a} {a′} {b} {b′} ha ha′ hb hb′.
@@ -44,8 +49,8 @@ module _ (L : ℕ) (d : ℕ → ℕ → ℕ) (n : ℕ) (c : WellFormed L d n) (t
         );
   }
 
-  -- of the two sides of a division with index above 0 the one that is not higher is clear: an entry between them that is not above its
-  -- height would let no choice with the two heights gain
+  -- of the two sides of a division with index above 0 the one that is not higher is clear: where an entry between them is not above its
+  -- height, the choice of that entry's images and of one on either side at the height from them gains nothing
   pub lower-clear : (S : ℕ) → S < 2 ^ n → AtLeast d n (bit S) 1 → height d n S ≤ height d n (rest n S) → Clear d n S
   lower-clear S f p q = record {
     below = λ {i} {j} {k} hi hj hk si sj sk.
@@ -70,7 +75,7 @@ module _ (L : ℕ) (d : ℕ → ℕ → ℕ) (n : ℕ) (c : WellFormed L d n) (t
         (λ e. omega (arith, leb-false (d i k) (height d n S) e, le-height d n S i j hi hj si sj));
   }
 
-  -- so one of the two sides is a group
+  -- so one of the two sides is clear, and of an inner division it is a group
   one-clear : (R : ℕ) → FarSide n R → AtLeast d n (bit R) 1 → Clear d n R ⊎ Clear d n (rest n R)
   one-clear R f p =
       let e = rest-rest n R (f .fits) in
@@ -103,13 +108,14 @@ module _ (L : ℕ) (d : ℕ → ℕ → ℕ) (n : ℕ) (c : WellFormed L d n) (t
         let r = part-image d n S p in
         let f = part-fits d n S p in
         let some : 0 < S = omega (arith, from-bit (r .0) S (holds-true S (r .0) (r .2)), pow-pos (r .0)) in
-        index-link L d n T c x (linkOf n S) (link-far n S f (omega (arith, r .1)) some ne) (at-least-link n S f L d 1 c (clear-low S (part-clear L d n c t S p)))
+        index-link L d n T c x (linkOf n S) (link-far n S f (omega (arith, r .1)) some ne)
+        (at-least-link n S f L d 1 c (clear-low S (part-clear L d n c t S p)))
 
-    -- where it has image 0, the near side
+    -- the near side where it has image 0
     pub near-link : (S : ℕ) → Part d n S → (S ≡ 2 ^ n - 1 → ⊥) → holds S 0 ≡ true → List·Memᴰ (rest n S) (fars T)
     near-link S p ne e = rw e at (part-link S p ne)
 
-    -- and else the far side
+    -- and the far side where it has not
     pub far-link : (S : ℕ) → Part d n S → holds S 0 ≡ false → List·Memᴰ S (fars T)
     far-link S p e =
         let r = part-image d n S p in
@@ -119,14 +125,11 @@ module _ (L : ℕ) (d : ℕ → ℕ → ℕ) (n : ℕ) (c : WellFormed L d n) (t
     pub link-group : (R : ℕ) → List·Memᴰ R (fars T) → inner n R ≡ true → Group d n R ⊎ Group d n (rest n R)
     link-group R m e = one-group R (far-of L d n T c x R m) e (link-index L d n T c x R m e)
 
-    -- every other one has one image there
+    -- and every other link has one image there
     pub link-part : (R : ℕ) → List·Memᴰ R (fars T) → Part d n R ⊎ Part d n (rest n R)
-    link-part R m = cases (inner n R) (λ e. group (link-group R m e)) (λ e. image (not-inner-own n R (far-of L d n T c x R m) e))
+    link-part R m =
+        cases (inner n R) (λ e. group-part d n R (link-group R m e)) (λ e. image (not-inner-own n R (far-of L d n T c x R m) e))
       where
-        group : Group d n R ⊎ Group d n (rest n R) → Part d n R ⊎ Part d n (rest n R)
-        group (inl g) = inl (inl g)
-        group (inr g) = inr (inl g)
-
         image : (i : ℕ) × (i < n) × (R ≡ own n i) → Part d n R ⊎ Part d n (rest n R)
         image (zero, h, e) = inr (inr (0, h, omega (arith, e, far-of L d n T c x R m .some)))
         image (suc i, h, e) = inl (inr (suc i, h, e))
@@ -135,15 +138,11 @@ module _ (L : ℕ) (d : ℕ → ℕ → ℕ) (n : ℕ) (c : WellFormed L d n) (t
     pub part-far : (R : ℕ) → FarSide n R → Part d n R ⊎ Part d n (rest n R) → List·Memᴰ R (fars T)
     part-far R f (inl p) = index-link L d n T c x R f (clear-low R (part-clear L d n c t R p))
     part-far R f (inr p) =
-        index-link L d n T c x R f
-        (rw (rest-rest n R (f .fits)) at (at-least-rest n (rest n R) (rest-fits n R) L d 1 c (clear-low (rest n R) (part-clear L d n c t (rest n R) p))))
+        let q = at-least-rest n (rest n R) (rest-fits n R) L d 1 c (clear-low (rest n R) (part-clear L d n c t (rest n R) p)) in
+        index-link L d n T c x R f (rw (rest-rest n R (f .fits)) at q)
 
     pub links-are : (R : ℕ) → FarSide n R → List·Memᴰ R (fars T) ↔ (Part d n R ⊎ Part d n (rest n R))
     links-are R f = (link-part R, part-far R f)
 
     pub inner-are : (R : ℕ) → FarSide n R → inner n R ≡ true → List·Memᴰ R (fars T) ↔ (Group d n R ⊎ Group d n (rest n R))
-    inner-are R f e = (λ m. link-group R m e, λ g. part-far R f (of g))
-      where
-        of : Group d n R ⊎ Group d n (rest n R) → Part d n R ⊎ Part d n (rest n R)
-        of (inl g) = inl (inl g)
-        of (inr g) = inr (inl g)
+    inner-are R f e = (λ m. link-group R m e, λ g. part-far R f (group-part d n R g))

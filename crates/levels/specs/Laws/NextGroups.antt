@@ -6,9 +6,11 @@ use mathlib.Core.Logic.{inl, inr, _⊎_}
 use mathlib.Core.Path.{ap, sym, _∙_, _≡_}
 use Prim.Native.Nat.{ℕ, _*_, _+_, _-_, _<_, _^_, _≤_}
 use native.Mathlib.Omega.{arith}
+use lib.Pow.{pow-pos}
 use borrow.Author.Tests.{not-true}
+use borrow.Table.Steps.{cases}
 use Rattle.ground.specs.Bits.{bit}
-use Rattle.ground.specs.Laws.Bits.{bit-some}
+use Rattle.ground.specs.Laws.Bits.{bit-full, bit-some}
 use Rattle.ground.specs.Laws.Least.{leastOn-at, leastOn-le}
 use Rattle.ground.specs.Laws.Tests.{and-l, and-not-not, and-r}
 use Rattle.theory.specs.FarSides.{Within, holds}
@@ -22,7 +24,7 @@ use Rattle.levels.specs.Laws.Balls.{ball-group, ball-in, ball-under, gro
 use Rattle.levels.specs.Laws.Clear.{Clear, clear-part, only, part-clear, part-fits, part-image}
 use Rattle.levels.specs.Laws.Groups.{holds-ext}
 use Rattle.levels.specs.Laws.Heights.{height-le, le-height}
-use Rattle.levels.specs.Laws.LinkCosts.{alone-cost, alone-or-both, both-cost}
+use Rattle.levels.specs.Laws.LinkCosts.{alone-cost, alone-or-both, between, both-cost}
 use Rattle.levels.specs.Laws.Rest.{in-rest, rest-fits, rest-in}
 use Rattle.levels.specs.Sides.{NextGroup, Part, linkOf, rest}
 use Rattle.leveling.specs.ThreePoint.{ThreePoint}
@@ -33,7 +35,9 @@ beyond n S R f g w ne = go (find n (λ k. holds R k && not (holds S k)))
   where
     go : ((k : ℕ) × (k < n) × ((holds R k && not (holds S k)) ≡ true)) ⊎ ((k : ℕ) → k < n → (holds R k && not (holds S k)) ≡ false)
         → (k : ℕ) × (k < n) × (holds R k ≡ true) × (holds S k ≡ false)
-    go (inl r) = (r .0, r .1, and-l (holds R (r .0)) (not (holds S (r .0))) (r .2), not-true (holds S (r .0)) (and-r (holds R (r .0)) (not (holds S (r .0))) (r .2)))
+    go (inl r) =
+        let k = r .0 in
+        (k, r .1, and-l (holds R k) (not (holds S k)) (r .2), not-true (holds S k) (and-r (holds R k) (not (holds S k)) (r .2)))
     go (inr h) = absurd (ne (holds-ext n R S g f (λ k l e. and-not-not (holds R k) (holds S k) (h k l) e) w))
 
 -- one image alone has height 0
@@ -68,23 +72,25 @@ module _ (L : ℕ) (d : ℕ → ℕ → ℕ) (n : ℕ) (c : WellFormed L d n) (t
       let out = holds-false S (o .0) (rest-in n S fits (o .0) (o .1) (bit-holds (rest n S) (o .0) (o .2))) in
       let q = leastOn-at (bit S) 0 (d i (o .0)) (d i) n (o .0) (o .1, out) (omega arith) in
       let k = q .0 in
-      let sk = bit-holds-not S k (q .1 .1) in
-      (ball d n i (d i k), record {
-        group = reach i k (r .1) (q .1 .0) (r .2) sk;
-        contains = reach-contains i k (r .1) (q .1 .0) (r .2) sk;
-        more = reach-more i k (r .1) (q .1 .0) (r .2) sk;
-        least = λ R g w u j hj sj.
-            let b = beyond n S R fits (g .is .fits) w u in
-            ap (λ (x : ℕ). holds x j) (group-ball L d n c t R g i (r .1) (w i (r .1) (r .2)))
-            ∙ ball-in d n i (height d n R) j hj
-            (omega (
-              arith,
-              in-ball d n i (d i k) j hj sj,
-              q .2,
-              leastOn-le (bit S) 0 (d i (o .0)) (d i) n (b .0) (b .1, holds-false S (b .0) (b .3)),
-              le-height d n R i (b .0) (r .1) (b .1) (w i (r .1) (r .2)) (b .2),
-            ));
-      })
+      let sk = bit-holds-not S k (q .1 .1) in (
+        ball d n i (d i k),
+        record {
+          group = reach i k (r .1) (q .1 .0) (r .2) sk;
+          contains = reach-contains i k (r .1) (q .1 .0) (r .2) sk;
+          more = reach-more i k (r .1) (q .1 .0) (r .2) sk;
+          least = λ R g w u j hj sj.
+              let b = beyond n S R fits (g .is .fits) w u in
+              ap (λ (x : ℕ). holds x j) (group-ball L d n c t R g i (r .1) (w i (r .1) (r .2)))
+              ∙ ball-in d n i (height d n R) j hj
+              (omega (
+                arith,
+                in-ball d n i (d i k) j hj sj,
+                q .2,
+                leastOn-le (bit S) 0 (d i (o .0)) (d i) n (b .0) (b .1, holds-false S (b .0) (b .3)),
+                le-height d n R i (b .0) (r .1) (b .1) (w i (r .1) (r .2)) (b .2),
+              ));
+        },
+      )
 
   module _ (P : ℕ) (x : NextGroup d n S P) where
     -- no entry between the sides is below its height
@@ -99,6 +105,25 @@ module _ (L : ℕ) (d : ℕ → ℕ → ℕ) (n : ℕ) (c : WellFormed L d n) (t
         let b = beyond n S P fits (x .group .is .fits) (x .contains) (x .more) in
         (b .0, b .1, b .3, omega (arith, next-le i (b .0) hi (b .1) si (b .3), le-height d n P i (b .0) hi (b .1) (x .contains i hi si) (b .2)))
 
+    near : (i k : ℕ) → i < n → holds S i ≡ true → d i k ≡ height d n P → (l : ℕ) → l < n → holds S l ≡ false → d i k ≤ d i l
+    near i k hi si same l hl sl = omega (arith, same, next-le i l hi hl si sl)
+
+    -- where the other images are a group or one image too, all images are the next group
+    pub next-all : Part d n (rest n S) → P ≡ 2 ^ n - 1
+    next-all o =
+        holds-ext n P (2 ^ n - 1) (x .group .is .fits) (omega (arith, pow-pos n)) (λ l hl e. bit-holds (2 ^ n - 1) l (bit-full n l hl))
+        (λ l hl e. cases (holds S l) (x .contains l hl) (outside l hl))
+      where
+        outside : (l : ℕ) → l < n → holds S l ≡ false → holds P l ≡ true
+        outside l hl sl =
+            let r = part-image d n S p in
+            let i = r .0 in
+            let q = next-entry i (r .1) (r .2) in
+            let e = between L d n c t S i (q .0) fits clear (r .1) (q .1) (r .2) (q .2) (near i (q .0) (r .1) (r .2) (q .3))
+            (part-clear L d n c t (rest n S) o) l i hl (r .1) sl (r .2) in
+            ap (λ (z : ℕ). holds z l) (group-ball L d n c t P (x .group) i (r .1) (x .contains i (r .1) (r .2)))
+            ∙ ball-in d n i (height d n P) l hl (omega (arith, e, q .3, c .same (r .1) hl))
+
     -- 3. The doubled cost of the link that has S on one side.
     module _ (T : List Row) (e : Exact L d n T) where
       pub cost-alone : (Part d n (rest n S) → ⊥) → costOf T (linkOf n S) + height d n S ≡ height d n P
@@ -106,20 +131,18 @@ module _ (L : ℕ) (d : ℕ → ℕ → ℕ) (n : ℕ) (c : WellFormed L d n) (t
           let r = part-image d n S p in
           let q = next-entry (r .0) (r .1) (r .2) in
           go (r .0) (q .0) (r .1) (q .1) (r .2) (q .2) (q .3)
+          (alone-or-both L d n c t S (r .0) (q .0) fits clear (r .1) (q .1) (r .2) (q .2) (near (r .0) (q .0) (r .1) (r .2) (q .3)))
         where
-          go : (i k : ℕ) → i < n → k < n → holds S i ≡ true → holds S k ≡ false → d i k ≡ height d n P → costOf T (linkOf n S) + height d n S ≡ height d n P
-          go i k hi hk si sk same = split (alone-or-both L d n c t S i k fits clear hi hk si sk near)
-            where
-              near : (l : ℕ) → l < n → holds S l ≡ false → d i k ≤ d i l
-              near l hl sl = omega (arith, same, next-le i l hi hl si sl)
-
-              split : ((l : ℕ) × (l < n) × (holds S l ≡ false) × (d k l ≡ d i l)) ⊎ Clear d n (rest n S) → costOf T (linkOf n S) + height d n S ≡ height d n P
-              split (inl l) = alone-cost L d n c t S i k fits clear hi hk si sk near T e (l .0) (l .1) (l .2) (l .3) ∙ same
-              split (inr o) = absurd (none (clear-part L d n c (rest n S) (rest-fits n S) o k hk (in-rest n S fits k hk sk)))
+          go : (i k : ℕ) → i < n → k < n → holds S i ≡ true → holds S k ≡ false → d i k ≡ height d n P
+              → ((l : ℕ) × (l < n) × (holds S l ≡ false) × (d k l ≡ d i l)) ⊎ Clear d n (rest n S)
+              → costOf T (linkOf n S) + height d n S ≡ height d n P
+          go i k hi hk si sk same (inl l) =
+              alone-cost L d n c t S i k fits clear hi hk si sk (near i k hi si same) T e (l .0) (l .1) (l .2) (l .3) ∙ same
+          go i k hi hk si sk same (inr o) = absurd (none (clear-part L d n c (rest n S) (rest-fits n S) o k hk (in-rest n S fits k hk sk)))
 
       pub cost-both : Part d n (rest n S) → costOf T (linkOf n S) + height d n S + height d n (rest n S) ≡ 2 * height d n P
       cost-both o =
           let r = part-image d n S p in
           let q = next-entry (r .0) (r .1) (r .2) in
-          both-cost L d n c t S (r .0) (q .0) fits clear (r .1) (q .1) (r .2) (q .2) (λ l hl sl. omega (arith, q .3, next-le (r .0) l (r .1) hl (r .2) sl))
+          both-cost L d n c t S (r .0) (q .0) fits clear (r .1) (q .1) (r .2) (q .2) (near (r .0) (q .0) (r .1) (r .2) (q .3))
           (part-clear L d n c t (rest n S) o) T e ∙ ap (λ (v : ℕ). 2 * v) (q .3)

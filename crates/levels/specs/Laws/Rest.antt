@@ -55,7 +55,8 @@ module _ (n S : ℕ) (f : S < 2 ^ n) where
     low = λ {a} {a′} {b} {b′} ha ha′ hb hb′.
         omega (
           arith,
-          p .low {a = b} {a′ = b′} {b = a} {b′ = a′} (hb .0, omega (arith, rest-bit n S b f (hb .0), hb .1)) (hb′ .0, omega (arith, rest-bit n S b′ f (hb′ .0), hb′ .1))
+          p .low {a = b} {a′ = b′} {b = a} {b′ = a′}
+              (hb .0, omega (arith, rest-bit n S b f (hb .0), hb .1)) (hb′ .0, omega (arith, rest-bit n S b′ f (hb′ .0), hb′ .1))
               (ha .0, omega (arith, rest-bit n S a f (ha .0), ha .1)) (ha′ .0, omega (arith, rest-bit n S a′ f (ha′ .0), ha′ .1)),
           c .same (ha .0) (hb .0),
           c .same (ha′ .0) (hb′ .0),
