@@ -1,8 +1,8 @@
 #!/usr/bin/env bash
-# run_listing.sh PROGRAM [FILE]: what listing.sh, listing_last_n.sh, newick.sh and term.sh share. Runs the program PROGRAM on the stored
-# cost table or tables in FILE, or on standard input. The program is proved and built first if it is not there, which takes minutes and says
-# on standard error how far it is. It is x86-64 code: elsewhere it runs under an emulator. Status 0 if the program ran, 1 if it was not
-# proved, 2 if the file, the kit or the emulator is missing.
+# run_listing.sh PROGRAM [FILE]: what listing.sh, listing_last_n.sh, newick.sh, listing_levels.sh and term.sh share. Runs the program
+# PROGRAM on the stored cost table or tables in FILE, or on standard input. The program is proved and built first if it is not there, which
+# takes minutes and says on standard error how far it is. It is x86-64 code: elsewhere it runs under an emulator. Status 0 if the program
+# ran, 1 if it was not proved, 2 if the file, the kit or the emulator is missing.
 set -euo pipefail
 [ $# = 1 ] || [ $# = 2 ] || { echo "usage: run_listing.sh PROGRAM [FILE]" >&2; exit 2; }
 name=$1
