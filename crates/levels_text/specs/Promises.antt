@@ -13,7 +13,7 @@ use Rattle.leveling.specs.Check.{levelsCheck}
 use Rattle.leveling.specs.Promises.{levels-passed}
 use Rattle.leveling.specs.ThreePoint.{ThreePoint}
 use Rattle.levels.specs.Groups.{groups, heights}
-use Rattle.levels.specs.Promises.{LevelReading, level-reading}
+use Rattle.levels.specs.Reading.{LevelReading, level-reading}
 use Rattle.bits.specs.declared.Edition.{Edition}
 use Rattle.cost_forms.specs.Form.{costBytes, costForm}
 use Rattle.stored_costs.specs.Laws.Enough.{table-said}
@@ -40,7 +40,7 @@ groupsSaid s = groupsText (imagesSaid s) (groups (costSaid s) (imagesSaid s)) (h
 pub record GroupsListed (s : List ℕ) : Type 0 where
   pub table : CostTable limit (imagesSaid s) (tableSaid s)
   pub levels : ThreePoint (costSaid s) (imagesSaid s)
-  pub reading : LevelReading (costSaid s) (imagesSaid s)
+  pub reading : LevelReading limit (costSaid s) (imagesSaid s) (groups (costSaid s) (imagesSaid s)) (heights (costSaid s) (imagesSaid s))
   pub shown : levelsText s ≡ groupsSaid s
 
 module _ (s : List ℕ) where
