@@ -2,3 +2,6 @@
 pub mod ThreePoint
 pub mod Sorted
 pub mod Scan
+-- Tests of all numbers below a bound, and the condition image by image.
+pub mod Below
+pub mod Joins

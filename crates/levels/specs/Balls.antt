@@ -8,7 +8,7 @@ use Rattle.ground.specs.Bits.{num}
 use Rattle.ground.specs.Counts.{one-if}
 use Rattle.ground.specs.Filters.{filter}
 use Rattle.ground.specs.Ranges.{from, gather}
-use Rattle.levels.specs.Below.{every, some}
+use Rattle.leveling.specs.Below.{every, some}
 
 -- the images below n whose entry with image i is at most h
 unfoldable pub ball : (ℕ → ℕ → ℕ) → ℕ → ℕ → ℕ → ℕ

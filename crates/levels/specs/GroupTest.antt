@@ -7,7 +7,7 @@ use lib.Dec.{eqb, leb}
 use Rattle.ground.specs.Bits.{bit}
 use Rattle.ground.specs.Counts.{one-if}
 use Rattle.theory.specs.FarSides.{holds}
-use Rattle.levels.specs.Below.{every, some}
+use Rattle.leveling.specs.Below.{every, some}
 
 -- image k has an entry of at most h with every image of S
 abbrev pub near : (ℕ → ℕ → ℕ) → ℕ → ℕ → ℕ → ℕ → Bool

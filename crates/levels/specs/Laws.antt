@@ -1,5 +1,4 @@
 -- Sets of images, groups and heights, on every well-formed table.
-pub mod Below
 pub mod Sets
 pub mod Groups
 pub mod Heights
@@ -8,6 +7,13 @@ pub mod Balls
 pub mod Smallest
 pub mod Count
 pub mod Determined
+-- The exact tree of a table with levels.
+pub mod Rest
+pub mod Clear
+pub mod LinkIndex
+pub mod Links
+pub mod LinkCosts
+pub mod NextGroups
 -- How the code finds them and stores them.
 pub mod Listed
 pub mod Members

@@ -16,6 +16,7 @@ use Rattle.leveling.specs.ThreePoint.{ThreePoint}
 use Rattle.levels.specs.Groups.{Group, Smallest, groups, height, heights}
 use Rattle.levels.specs.Laws.Count.{groups-most}
 use Rattle.levels.specs.Laws.Groups.{groups-between, groups-mem}
+use Rattle.levels.specs.Links.{LevelTree, level-tree}
 use Rattle.levels.specs.Laws.Smallest.{all-group, groups-nested, smallest-exists, smallest-height}
 
 pub record LevelReading (L : ℕ) (d : ℕ → ℕ → ℕ) (n : ℕ) (l v : List ℕ) : Type 0 where
@@ -31,8 +32,9 @@ pub record LevelReading (L : ℕ) (d : ℕ → ℕ → ℕ) (n : ℕ) (l v : Lis
   -- the entry of two different images is the height of the smallest group that holds both
   pub smallest : (i j : ℕ) → i < n → j < n → (i ≡ j → ⊥) → (S : ℕ) × Smallest d n i j S
   pub entry : (i j : ℕ) → i < n → j < n → (i ≡ j → ⊥) → (S : ℕ) → Smallest d n i j S → height d n S ≡ d i j
-  -- the exact reading accepts the table
+  -- the exact reading accepts the table, and the sides of its tree's links are the groups and the images (Links.antt)
   pub tree : (T : List Row) × Exact L d n T
+  pub links : (T : List Row) → Exact L d n T → LevelTree d n T
 
 pub level-reading : (L : ℕ) (d : ℕ → ℕ → ℕ) (n : ℕ) → 2 ≤ n → WellFormed L d n → ThreePoint d n → LevelReading L d n (groups d n) (heights d n)
 level-reading L d n h c t = record {
@@ -45,4 +47,5 @@ level-reading L d n h c t = record {
   smallest = λ i j hi hj ne. (_, smallest-exists L d n c t i j hi hj ne);
   entry = smallest-height L d n c t;
   tree = exact-reading L d n h c .accepted .0 (four L d n c t);
+  links = λ T x. level-tree L d n T c t x;
 }

@@ -7,17 +7,13 @@ use Prim.Native.Nat.{suc, zero, ℕ, _+_, _<_}
 use native.Mathlib.Omega.{arith}
 use Rattle.ground.specs.Ascending.{Between}
 use Rattle.ground.specs.Filters.{filter}
-use Rattle.ground.specs.Laws.Ascending.{between-filter}
+use Rattle.ground.specs.Laws.Ascending.{between-filter, from-between}
 use Rattle.ground.specs.Laws.Filters.{filter-mem, mem-filter}
 use Rattle.ground.specs.Laws.Maps.{map-mem, mem-map}
 use Rattle.ground.specs.Laws.Ranges.{mem-from}
 use Rattle.ground.specs.Ranges.{from}
 use Rattle.theory.specs.FarSides.{holds}
 use Rattle.levels_text.specs.Lines.{groupImages}
-
-from-between : (i m : ℕ) → Between i (from i m) (i + m)
-from-between i zero = omega arith
-from-between i (suc m) = let e : i + suc m ≡ suc i + m = omega arith in rw e (omega arith, from-between (suc i) m)
 
 suc-between : (m k : ℕ) (l : List ℕ) → Between m l k → Between (suc m) (map suc l) (suc k)
 suc-between m k [] b = omega arith

@@ -3,7 +3,7 @@ use mathlib.Core.Bool.{Bool, true}
 use mathlib.Core.List.{List, List·Memᴰ, List·Memᴰ·cases-cons, List·Memᴰ·head, List·Memᴰ·not-nil, List·Memᴰ·tail, [], map, _++_, _∷_}
 use mathlib.Core.Logic.{inl, inr, _⊎_}
 use mathlib.Core.Path.{ap₂, refl, subst, sym, _≡_}
-use Prim.Native.Nat.{suc, ℕ, _+_, _<_, _≤_}
+use Prim.Native.Nat.{suc, zero, ℕ, _+_, _<_, _≤_}
 use native.Mathlib.Nat.{add-suc}
 use native.Mathlib.Omega.{arith}
 use lib.ListN.{length}
@@ -11,6 +11,7 @@ use borrow.Table.Steps.{cases}
 use Rattle.ground.specs.Filters.{Each, filter}
 use Rattle.ground.specs.Laws.Filters.{filter-none}
 use Rattle.ground.specs.Ascending.{Between}
+use Rattle.ground.specs.Ranges.{from}
 
 pub between-append : (m k h : ℕ) (l r : List ℕ) → Between m l k → Between k r h → Between m (l ++ r) h
 between-append m k h [] [] p q = omega arith
@@ -30,6 +31,11 @@ between-map c m k (x ∷ l) p = (omega arith, rw (← (add-suc c x)) (between-ma
 pub between-from : (m n k : ℕ) (l : List ℕ) → m ≤ n → Between n l k → Between m l k
 between-from m n k [] h p = omega arith
 between-from m n k (x ∷ l) h p = (omega arith, p .1)
+
+-- a range ascends
+pub from-between : (i m : ℕ) → Between i (from i m) (i + m)
+from-between i zero = omega arith
+from-between i (suc m) = (omega arith, let e : i + suc m ≡ suc i + m = omega arith in rw e (from-between (suc i) m))
 
 pub between-filter : (p : ℕ → Bool) (m k : ℕ) (l : List ℕ) → Between m l k → Between m (filter p l) k
 between-filter p m k [] b = b

@@ -10,7 +10,7 @@ use lib.Dec.{eqb, leb}
 use borrow.Author.Tests.{eq-eqb, eqb-false, eqb-true, le-leb, leb-true}
 use borrow.Table.Steps.{cases}
 use Rattle.ground.specs.Ascending.{Between}
-use Rattle.ground.specs.Laws.Ascending.{between-filter}
+use Rattle.ground.specs.Laws.Ascending.{between-filter, from-between}
 use Rattle.ground.specs.Bits.{bit, num}
 use Rattle.ground.specs.Laws.Bits.{bit-ext, num-bit, num-lt}
 use Rattle.ground.specs.Counts.{one-if}
@@ -22,10 +22,10 @@ use Rattle.ground.specs.Ranges.{from}
 use Rattle.theory.specs.FarSides.{Within, holds}
 use Rattle.theory.specs.Laws.Nested.{bit-holds, holds-false, holds-true}
 use Rattle.theory.specs.Tables.{WellFormed}
-use Rattle.levels.specs.Below.{some}
+use Rattle.leveling.specs.Below.{some}
 use Rattle.levels.specs.GroupTest.{isGroup, isLargest, near}
 use Rattle.levels.specs.Groups.{AtMost, Group, Largest, groups}
-use Rattle.levels.specs.Laws.Below.{every-at, every-is, some-at, some-is}
+use Rattle.leveling.specs.Laws.Below.{every-at, every-is, some-at, some-is}
 
 -- ## A set given by a test
 
@@ -121,10 +121,6 @@ module _ (L : ℕ) (d : ℕ → ℕ → ℕ) (n : ℕ) (c : WellFormed L d n) (h
               ap (λ (x : ℕ). holds x k) (sym same) ∙ set-holds n (with-image S k) k l ∙ or-r (holds S k) (eqb k k) (eq-eqb k k refl)
 
 -- ## The list
-
-from-between : (i m : ℕ) → Between i (from i m) (i + m)
-from-between i zero = omega arith
-from-between i (suc m) = let e : i + suc m ≡ suc i + m = omega arith in (omega arith, rw e (from-between (suc i) m))
 
 module _ (L : ℕ) (d : ℕ → ℕ → ℕ) (n : ℕ) where
   pub groups-between : Between 0 (groups d n) (2 ^ n)

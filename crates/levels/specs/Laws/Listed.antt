@@ -23,10 +23,10 @@ use Rattle.theory.specs.FarSides.{holds}
 use Rattle.theory.specs.Laws.Nested.{bit-holds, holds-false, holds-true}
 use Rattle.theory.specs.Tables.{WellFormed}
 use Rattle.levels.specs.Balls.{ball, found, foundAt, foundHeights, isLevel, levelsAt}
-use Rattle.levels.specs.Below.{every, some}
+use Rattle.leveling.specs.Below.{every, some}
 use Rattle.levels.specs.Groups.{Group, groups, height, heights}
 use Rattle.levels.specs.Laws.Balls.{ball-fits, ball-group, ball-height, ball-in, group-ball, group-entry, in-ball}
-use Rattle.levels.specs.Laws.Below.{every-at, every-is, last-at, some-at, some-is}
+use Rattle.leveling.specs.Laws.Below.{every-at, every-is, last-at, some-at, some-is}
 use Rattle.levels.specs.Laws.Groups.{groups-between, groups-mem, holds-ext}
 use Rattle.levels.specs.Laws.Sets.{fits-below, from-bit, other, within-lt}
 use Rattle.leveling.specs.ThreePoint.{ThreePoint}

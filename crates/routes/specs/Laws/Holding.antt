@@ -9,7 +9,7 @@ use lib.ListN.{getD, length}
 use borrow.Author.Tests.{eqb-false, eqb-true, ltb-false, ltb-true}
 use borrow.Table.Steps.{cases}
 use Rattle.ground.specs.Ascending.{Between}
-use Rattle.ground.specs.Laws.Ascending.{between-ext, between-filter, between-from}
+use Rattle.ground.specs.Laws.Ascending.{between-ext, between-filter, between-from, from-between}
 use Rattle.ground.specs.Laws.Bits.{bit-above, bit-pow}
 use Rattle.ground.specs.Filters.{Each, filter}
 use Rattle.ground.specs.Laws.Filters.{each-cons, each-nil, filter-mem, mem-filter}
@@ -63,10 +63,6 @@ module _ (L n N : ℕ) (l v : List ℕ) (t : Links L n N l v) (i : ℕ) (hi : i 
       (contains-holds n (getD l (u - 1) 0) (getD l p 0) i hi (upper-contains l p h (f .0)) s′) q (omega arith) y z))
 
 -- ## Routes
-
-from-between : (i m : ℕ) → Between i (from i m) (i + m)
-from-between i zero = omega arith
-from-between i (suc m) = (omega arith, let e : i + suc m ≡ suc i + m = omega arith in rw e (from-between (suc i) m))
 
 -- the own link of an image other than 0 holds it, and no smaller far side does
 pub own-holds : (n i : ℕ) → 0 < i → holds (own n i) i ≡ true
