@@ -392,12 +392,6 @@ static void do_replay(void) {
 
 /* ---- levels ---- */
 
-static size_t images_in(uint64_t set) {
-    size_t count = 0;
-    for (; set; set &= set - 1) count++;
-    return count;
-}
-
 /* The first group that holds both images, counted from 0; as many as there are, if none does. Of groups that are nested the smallest comes
  * first. */
 static size_t first_with(size_t groups, const uint64_t *members, size_t i, size_t j) {
@@ -408,11 +402,12 @@ static size_t first_with(size_t groups, const uint64_t *members, size_t i, size_
 
 /*
  * The groups of a table, and its exact reading beside them. The last group is all images; two groups are nested or disjoint; the entry of
- * two images is the height of the smallest group that holds both. The table has a tree, each other group is one side of a row of it, and
- * each inner row has a group on one side.
+ * two images is the height of the smallest group that holds both. The table has a tree, each other group and each image is one side of a
+ * row of it, and the smallest group around it is so much higher as the row costs, or as both sides make it cost together.
  */
 static void hold_groups(size_t n, const uint32_t *t, size_t groups, const uint64_t *members, const uint32_t *heights) {
     const uint64_t all = UINT64_MAX >> (KEMOTUIKI_IMAGES - n);
+    uint32_t costs[KEMOTUIKI_ROWS] = {0};
     Rows w;
     if (groups < 1 || groups > n - 1 || members[groups - 1] != all) {
         fault("the last group is not all images");
@@ -423,20 +418,23 @@ static void hold_groups(size_t n, const uint32_t *t, size_t groups, const uint64
             uint64_t common = members[k] & members[m];
             if (members[m] >= members[k] || (common && common != members[m])) fault("two groups are neither nested nor disjoint");
         }
+    for (size_t k = 0; k < groups; k++)
+        if (!(members[k] & (members[k] - 1))) fault("a group of fewer than two images");
     for (size_t i = 0; i < n; i++)
         for (size_t j = 0; j < i; j++)
             if (heights[first_with(groups, members, i, j)] != t[i * n + j]) fault("an entry is not the height of the smallest group");
     lend_rows(&w, 2 * n - 3, 2 * n - 3);
     KemotuikiRows s = kemotuiki_exact(n, t, n * n, ROWS(w));
     if (s.number) fault("a table with levels has no tree");
-    for (size_t k = 0, m; k + 1 < groups; k++) {
-        for (m = 0; m < s.rows && w.fars[m] != (members[k] & 1 ? all ^ members[k] : members[k]);) m++;
-        if (m == s.rows || images_in(members[k]) < 2) fault("a group is no side of a row");
+    for (size_t k = 0; k + 1 < n + groups; k++) {
+        uint64_t part = k < n ? (uint64_t)1 << k : members[k - n];
+        size_t around = 0, m = 0;
+        while (around < groups && (part & ~members[around] || part == members[around])) around++;
+        while (m < s.rows && w.fars[m] != (part & 1 ? all ^ part : part)) m++;
+        if (around == groups || m == s.rows) fault("a group is no side of a row");
+        else costs[m] += heights[around] - (k < n ? 0 : heights[k - n]);
     }
-    for (size_t m = 0, k; m < s.rows; m++) {
-        for (k = 0; k < groups && members[k] != w.fars[m] && members[k] != (all ^ w.fars[m]);) k++;
-        if (k == groups && images_in(w.fars[m]) > 1 && images_in(w.fars[m]) < n - 1) fault("an inner row has a group on neither side");
-    }
+    if (memcmp(costs, w.costs, s.rows * 4)) fault("a row costs something else than the heights of its ends differ by");
     settle_rows(&w, s.rows);
 }
 

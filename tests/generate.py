@@ -19,6 +19,7 @@ the seeds below.
 """
 
 import functools
+import itertools
 import os
 import sys
 
@@ -44,8 +45,8 @@ LONGEST_READ = 11800
 LONGEST_REPORT = 27000
 LONGEST_LENT = 1100
 LARGEST_FILE = 400000
-LARGEST_ANSWERS = 1340000
-LARGEST_TOTAL = 5532000
+LARGEST_ANSWERS = 1342000
+LARGEST_TOTAL = 5549000
 FEWEST_CASES = 2500
 FEWEST_OF_EACH_REFUSAL = 8
 FEWEST_IN_EACH_FORM = 5
@@ -103,8 +104,10 @@ MANY_EVENTS = 62
 # With so many images in its first table a report meets every refusal of a later table but 19.
 EVERY_REPORT = (3, 9, 33, 64)
 
-# With so many images the levels have every answer but 1, and each of the tables that are looked for below.
+# With so many images the levels have every answer but 1, and each of the tables that are looked for below; with so
+# many also tables in which each other order of three images would find others first.
 EVERY_LEVEL = (3, 9, 33, 64)
+EVERY_ORDER = 9
 
 # Bytes that a report has in front as the case before has them are not written again, if they are so many.
 FEWEST_KEPT = 100
@@ -2990,6 +2993,33 @@ def tables_without_levels(dice):
     yield 64, with_entry(64, t, 63, 64, 3)
 
 
+# Orders in which a search could go through three images, other than the dictionary's: which of them it takes first, next
+# and last.
+OTHER_ORDERS = ((0, 2, 1), (1, 0, 2), (1, 2, 0), (2, 0, 1), (2, 1, 0))
+
+
+def other_orders_met(n, t):
+    """The orders by which others are the first three that fail. For few images only."""
+    d = law.square(n, t)
+    failing = [three for three in itertools.combinations(range(1, n + 1), 3) if not law.three_point_holds(d, *three)]
+    return {order for order in OTHER_ORDERS
+            if failing and min(failing) != min(failing, key=lambda three: [three[place] for place in order])}
+
+
+def found_by_order(dice):
+    """Tables in which the first three that fail are others in another order, each order in turn; and two sets of three
+    images that alone fail, of which the one with image 1 has the higher others."""
+    for n in (6, EVERY_ORDER):
+        for order in OTHER_ORDERS:
+            t = all_ones(n)
+            while order not in other_orders_met(n, t):
+                t = law.moved_entries(dice, n, leveled(dice, n, dice.one_of(["balanced", "two", "uneven"])), dice.between(1, 3))
+            yield n, t
+    for n, low, high in ((6, (2, 3, 4), (1, 5, 6)), (33, (2, 3, 4), (1, 32, 33)), (64, (30, 31, 32), (1, 33, 64))):
+        one, other = [law.with_failing_three(n, *three) for three in (low, high)]
+        yield n, [min(entries) for entries in zip(one, other)]
+
+
 def leveled_or_not(dice, n, faults):
     """A table with levels; where it is to have none, one that is so in another way each time."""
     if "levels" not in faults:
@@ -3007,7 +3037,8 @@ def levels_cases(dice):
         return far_places(dice, room1), places(dice, room2)
 
     for source in (example_tables(), ((3, t) for t in all_small_tables()), zero_tables(dice), leveled_tables(dice),
-                   tables_without_levels(dice), large_zeros(dice, (33, "lower row"), (64, "between"))):
+                   tables_without_levels(dice), found_by_order(dice),
+                   large_zeros(dice, (33, "lower row"), (64, "between"))):
         for n, t in source:
             yield (n, t, *outputs(n))
     for n in BAD_N:
@@ -3045,6 +3076,7 @@ def levels_met(n, t, answer):
         words = {(n - 2, n - 1, n): "last three", (1, 2, 3): "first three"}
         met |= {"without levels"} | ({words[three]} if three in words else set())
         met |= {"image 1 is well"} if three[0] > 1 else set()
+        met |= other_orders_met(n, t) if n == EVERY_ORDER else set()
         met |= {"wired"} if law.first_failing_four(n, tuple(t)) is None else set()
     if answer[0] == 0:
         found = law.level_groups(n, tuple(t))
@@ -3061,6 +3093,7 @@ def check_levels(levels):
         met = {(n, number) for number in (0, 2, 3, 4, 5, 6, 20, 21)}
         words = {"without levels", "wired", "one group", "all groups", "with image 1", "without image 1", "limit"}
         words |= {"first three", "last three", "image 1 is well"} if n > 3 else {"first three"}
+        words |= set(OTHER_ORDERS) if n == EVERY_ORDER else set()
         met |= {(n, word) for word in words}
         assert met <= levels, met - levels
 

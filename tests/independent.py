@@ -3320,10 +3320,24 @@ def cut_by(n, members):
     return 2 ** n - 1 - members if holds(members, 1) else members
 
 
+def rows_of_groups(n, groups_found):
+    """The rows of the tree that groups make: each of them but the full one, and each image, hangs on the smallest group
+    that contains it and more, by a link whose doubled cost is what that one is higher. Where the full group has two
+    parts alone, their links are one."""
+    rows = {}
+    for part, height in [(2 ** i, 0) for i in range(n)] + groups_found:
+        above = [group for group in groups_found if group[0] & part == part != group[0]]
+        if above:
+            far = cut_by(n, part)
+            rows[far] = rows.get(far, 0) + min(above, key=lambda group: ones(group[0]))[1] - height
+    return sorted(rows.items())
+
+
 def hold_groups(n, t, found):
     """Groups that the levels call answers, held to document 02 and to the exact reading: the full set is the last of
     them, two of them are nested or disjoint, the entry of two images is the height of the smallest that holds both,
-    the groups but the full one are sides of the exact tree, and its inner far sides are cut off by groups."""
+    the groups but the full one are sides of the exact tree, its inner far sides are cut off by groups, and its rows
+    are those of the tree that the groups make."""
     d, full = square(n, t), 2 ** n - 1
     assert 1 <= len(found) <= n - 1 and found[-1] == (full, max(t)) and found == sorted(found)
     assert not any(crosses(one, other) for one, _ in found for other, _ in found)
@@ -3337,6 +3351,7 @@ def hold_groups(n, t, found):
     assert isinstance(rows, list), (n, t, rows)
     cuts = {cut_by(n, members) for members, _ in found if members != full}
     assert cuts <= {far for far, _ in rows} and {far for far, _ in rows if is_inner(n, far)} <= cuts
+    assert rows == rows_of_groups(n, found)
 
 
 def levels_hold(n, t):
