@@ -3013,7 +3013,8 @@ def found_by_order(dice):
         for order in OTHER_ORDERS:
             t = all_ones(n)
             while order not in other_orders_met(n, t):
-                t = law.moved_entries(dice, n, leveled(dice, n, dice.one_of(["balanced", "two", "uneven"])), dice.between(1, 3))
+                t = leveled(dice, n, dice.one_of(["balanced", "two", "uneven"]))
+                t = law.moved_entries(dice, n, t, dice.between(1, 3))
             yield n, t
     for n, low, high in ((6, (2, 3, 4), (1, 5, 6)), (33, (2, 3, 4), (1, 32, 33)), (64, (30, 31, 32), (1, 33, 64))):
         one, other = [law.with_failing_three(n, *three) for three in (low, high)]
