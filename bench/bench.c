@@ -1,7 +1,7 @@
 /*
- * Times the archive against plain.c, call by call, in one run: the two take turns. Both answers are compared first. Prints five
+ * Times the archive against plain.c, call by call, in one run: the two take turns. Both answers are compared first. Prints six
  * tables in Markdown: all calls on random trees, the measured reading on trees of every shape, both engines of the exact reading,
- * images that leave, and term reports.
+ * images that leave, term reports, and the reading of levels.
  */
 #include <stdio.h>
 #include <stdlib.h>
@@ -9,6 +9,7 @@
 
 #include "engines.h"
 #include "kemotuiki.h"
+#include "levels.h"
 #include "plain.h"
 #include "race.h"
 #include "replays.h"
@@ -211,6 +212,7 @@ int main(void) {
         engines(printing);
         replays(printing);
         reports(printing);
+        levels(printing);
     }
     return 0;
 }

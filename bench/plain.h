@@ -9,6 +9,8 @@ int plain_measured_before(size_t n, const uint32_t *t, size_t t_count, uint64_t 
 int plain_exact(size_t n, const uint32_t *t, size_t t_count, uint64_t *fars, uint32_t *costs, size_t room, size_t *rows);
 int plain_exact_all_fours(size_t n, const uint32_t *t, size_t t_count, uint64_t *fars, uint32_t *costs, size_t room, size_t *rows);
 int plain_exact_grafted(size_t n, const uint32_t *t, size_t t_count, uint64_t *fars, uint32_t *costs, size_t room, size_t *rows);
+int plain_levels(size_t n, const uint32_t *t, size_t t_count, uint64_t *members, uint32_t *heights, size_t room, size_t *groups);
+int plain_levels_all_threes(size_t n, const uint32_t *t, size_t t_count, uint64_t *members, uint32_t *heights, size_t room, size_t *groups);
 int plain_compare(size_t n, const uint32_t *first, size_t first_count, const uint32_t *second, size_t second_count, size_t v[5]);
 int plain_consensus(size_t n, size_t number, const uint32_t *tables, size_t tables_count, uint64_t *fars, uint32_t *costs, size_t room,
                     size_t *rows);

@@ -59,10 +59,32 @@ static uint32_t any(size_t i, size_t j) {
     return 1 + dice(1000000);
 }
 
+static uint32_t latest(size_t i, size_t j) {
+    (void)i;
+    return 20 * (uint32_t)j;
+}
+
 void caterpillar(size_t n, uint32_t *t) { fill(n, t, along); }
 void star(size_t n, uint32_t *t) { fill(n, t, even); }
 void balanced(size_t n, uint32_t *t) { fill(n, t, halves); }
 void random_table(size_t n, uint32_t *t) { fill(n, t, any); }
+void nested_levels(size_t n, uint32_t *t) { fill(n, t, latest); }
+
+/* group[i] is the lowest image of image i's group. */
+void random_levels(size_t n, uint32_t *t) {
+    size_t group[64];
+    for (size_t i = 0; i < n; i++) group[i] = i, t[i * n + i] = 0;
+    for (uint32_t height = 20; height < 20 * n; height += 20) {
+        size_t a, b;
+        do a = group[dice(n)], b = group[dice(n)];
+        while (a == b);
+        for (size_t i = 0; i < n; i++)
+            for (size_t j = 0; j < n; j++)
+                if (group[i] == a && group[j] == b) t[i * n + j] = t[j * n + i] = height;
+        for (size_t i = 0; i < n; i++)
+            if (group[i] == a || group[i] == b) group[i] = a < b ? a : b;
+    }
+}
 
 void raise(size_t n, uint32_t *t) {
     for (size_t i = 0; i < n; i++)

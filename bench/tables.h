@@ -10,4 +10,6 @@ void caterpillar(size_t n, uint32_t *t);  /* every switch on one path, image 1 a
 void star(size_t n, uint32_t *t);         /* one switch */
 void balanced(size_t n, uint32_t *t);     /* images in halves, quarters, eighths */
 void random_table(size_t n, uint32_t *t); /* entries from 1 to 1,000,000 that no wiring gives */
+void nested_levels(size_t n, uint32_t *t); /* each image joins the group of all images before it */
+void random_levels(size_t n, uint32_t *t); /* two groups or images at a time are joined by chance, each higher than the last */
 void raise(size_t n, uint32_t *t);        /* each entry by 0, 1 or 2 */

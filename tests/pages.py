@@ -101,7 +101,8 @@ def main():
     rows = re.findall(r"^\| (`[\w`, ]+`) \|", read("README.md").split("| Crate | What it has |")[1], re.MULTILINE)
     named = [name for row in rows for name in re.findall(r"`(\w+)`", row)]
     check(f"README.md: its table of crates against crates.txt: {sorted(set(named) ^ set(crates))}", sorted(named) == sorted(crates))
-    check("README.md: the rings of examples/ring.txt", read("examples/ring.txt") in read("README.md"))
+    for name in ("ring", "levels"):
+        check(f"README.md: what examples/{name}.txt has", read(f"examples/{name}.txt") in read("README.md"))
     print(f"pages: {checks} checks, {failures} failed")
     return 1 if failures else 0
 
