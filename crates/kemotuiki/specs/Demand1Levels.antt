@@ -19,5 +19,6 @@ pub levels : (n : ℕ) (t g v g′ v′ : List ℕ) (r : KemotuikiLevels) → Le
     → Refusals (ofTable 0 (1 ∷ 2 ∷ 3 ∷ 4 ∷ 5 ∷ 6 ∷ 20 ∷ 21 ∷ [])) (callSteps limit n t (length g) (length v)) (r .head) (g ∷ v ∷ []) (g′ ∷ v′ ∷ [])
 levels n t g v g′ v′ r p =
     let c = levelsChecks limit n t (length g) (length v) in
-    by-check (λ (k : KemotuikiLevels). k .head) ofLevels written.Refused (λ q. refl) c _ refl refl (call-order limit n t (length g) (length v)) (p .answered)
+    by-check (λ (k : KemotuikiLevels). k .head) ofLevels written.Refused (λ q. refl) c _ refl refl (call-order limit n t (length g) (length v))
+    (p .answered)
     (λ q u. ap₂ (λ (a b : List ℕ). a ∷ b ∷ []) (p .group-left ∙ sym (front-stops c _ g u)) (p .height-left ∙ sym (front-stops c _ v u)))

@@ -1,7 +1,7 @@
 -- What the promise of the reading of levels says of a call, which found g and v in its two lent slices and left g′ and v′: what an accepted
 -- one left, when it is accepted, that a refused one altered nothing, and that no second answer meets the promise. Assumes nothing.
 use mathlib.Core.List.{List}
-use mathlib.Core.Path.{ap, ap₂, refl, subst, sym, _∙_, _≡_}
+use mathlib.Core.Path.{ap, ap₂, refl, sym, _∙_, _≡_}
 use Prim.Native.Nat.{ℕ, _<_}
 use native.Mathlib.Omega.{arith}
 use lib.ListN.{drop, length, length-map, take}
@@ -62,11 +62,13 @@ module _ (L n : ℕ) (t g v : List ℕ) where
           left-answer (a .0) (a .1) r g′ v′ (same r _ (rw e at (l .answered))) (rw e at (l .group-left)) (rw e at (l .height-left))
 
   -- every table with levels is read
-  pub levels-reads : LevelsAsked L n t (length g) (length v) → ThreePoint (cost t n) n → levelsOutcome L n t g v .answer ≡ Places (length (groups (cost t n) n))
+  pub levels-reads : LevelsAsked L n t (length g) (length v) → ThreePoint (cost t n) n
+      → levelsOutcome L n t g v .answer ≡ Places (length (groups (cost t n) n))
   levels-reads a p = rw (asked-passed L n t (length g) (length v) a p)
 
   -- and every other cost table is refused with the first three images that show why
-  pub levels-refuses : (q : Refusal) → LevelsAsked L n t (length g) (length v) → levelsOutcome L n t g v .answer ≡ written.Refused q → FirstFailing (cost t n) n q
+  pub levels-refuses : (q : Refusal) → LevelsAsked L n t (length g) (length v) → levelsOutcome L n t g v .answer ≡ written.Refused q
+      → FirstFailing (cost t n) n q
   levels-refuses q a e = go (levelsCheck (cost t n) n) refl (rw (asked-checks L n t (length g) (length v) a) at e)
     where
       go : (c : Check) → levelsCheck (cost t n) n ≡ c → placesIf c (length (groups (cost t n) n)) ≡ written.Refused q → FirstFailing (cost t n) n q
@@ -77,12 +79,14 @@ module _ (L n : ℕ) (t g v : List ℕ) where
   pub levels-unaltered : (q : Refusal) (g′ v′ : List ℕ) → LeftLevels (levelsOutcome L n t g v) (written.Refused q) g′ v′ → (g′ ≡ g) × (v′ ≡ v)
   levels-unaltered q g′ v′ = go (levelsChecks L n t (length g) (length v)) refl
     where
-      go : (c : Check) → levelsChecks L n t (length g) (length v) ≡ c → LeftLevels (levelsOutcome L n t g v) (written.Refused q) g′ v′ → (g′ ≡ g) × (v′ ≡ v)
+      go : (c : Check) → levelsChecks L n t (length g) (length v) ≡ c → LeftLevels (levelsOutcome L n t g v) (written.Refused q) g′ v′
+          → (g′ ≡ g) × (v′ ≡ v)
       go Passed e l = absurd (let w = rw e at (l .answered) in let z : _≡_ {A = ℕ} 0 1 = cc in omega arith)
       go (Refused p) e l = (rw e at (l .group-left), rw e at (l .height-left))
 
 -- no second answer meets the promise
-pub left-levels-once : {A : Type 0} {o : LevelsOutcome A} {a b : A} {g h v w : List ℕ} → LeftLevels o a g v → LeftLevels o b h w → (a ≡ b) × (g ≡ h) × (v ≡ w)
+pub left-levels-once : {A : Type 0} {o : LevelsOutcome A} {a b : A} {g h v w : List ℕ} → LeftLevels o a g v → LeftLevels o b h w
+    → (a ≡ b) × (g ≡ h) × (v ≡ w)
 left-levels-once p q = (p .answered ∙ sym (q .answered), p .group-left ∙ sym (q .group-left), p .height-left ∙ sym (q .height-left))
 
 -- Two tables with the same groups and heights are the same, so calls that left the same were asked about the same table.

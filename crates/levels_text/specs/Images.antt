@@ -3,7 +3,7 @@ use mathlib.Core.Bool.{true}
 use mathlib.Core.List.{List, List·Memᴰ, [], map, _∷_}
 use mathlib.Core.Logic.{_↔_}
 use mathlib.Core.Path.{ap, _∙_, _≡_}
-use Prim.Native.Nat.{suc, zero, ℕ, _+_, _<_}
+use Prim.Native.Nat.{suc, ℕ, _+_, _<_}
 use native.Mathlib.Omega.{arith}
 use Rattle.ground.specs.Ascending.{Between}
 use Rattle.ground.specs.Filters.{filter}

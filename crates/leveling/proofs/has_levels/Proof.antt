@@ -35,8 +35,12 @@ loop-again : tie.Need-loop-again Inv-loop μ-loop
 loop-again c =
     let s = c .before .before .before .before .before .before in
     let l = c .before .before .before .before .loop in
-    let h = c .before .before .before .loop-test .taken in
-    (search needs, search needs, three-more limit _ _ (s .pre .formed) _ _ h (c .before .before .nearest .ensures) (l .inv .2) (sym (c .before .joins .ensures) ∙ c .if1 .taken))
+    let h = c .before .before .before .loop-test .taken in (
+      search needs,
+      search needs,
+      three-more limit _ _ (s .pre .formed) _ _ h (c .before .before .nearest .ensures) (l .inv .2)
+          (sym (c .before .joins .ensures) ∙ c .if1 .taken),
+    )
 
 returns : tie.Need-returns Inv-loop μ-loop
 returns c =
@@ -47,7 +51,10 @@ returns c =
     )
 
 returns-2 : tie.Need-returns-2 Inv-loop μ-loop
-returns-2 c = let i = c .before .loop .inv in (λ e. three-end limit _ _ (c .before .before .before .pre .formed) _ (i .1) (c .loop-test .left) (i .2), λ t. refl)
+returns-2 c = let i = c .before .loop .inv in (
+  λ e. three-end limit _ _ (c .before .before .before .pre .formed) _ (i .1) (c .loop-test .left) (i .2),
+  λ t. refl,
+)
 
 pub has-levels-spec : {M : Type 1} → statement M
 has-levels-spec =

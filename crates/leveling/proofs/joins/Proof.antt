@@ -30,8 +30,11 @@ loop-less c = search needs
 
 loop-again : tie.Need-loop-again Inv-loop μ-loop
 loop-again c =
-    let a = c .before .before .before .before .before .args in
-    (search needs, joins-more (cost (a .t .now) (a .n)) (a .j) (a .p) _ (c .before .before .before .loop .inv .1) (c .before .joins-at .ensures) (c .if1 .taken))
+    let a = c .before .before .before .before .before .args in (
+      search needs,
+      joins-more (cost (a .t .now) (a .n)) (a .j) (a .p) _ (c .before .before .before .loop .inv .1) (c .before .joins-at .ensures)
+          (c .if1 .taken),
+    )
 
 returns : tie.Need-returns Inv-loop μ-loop
 returns c =

@@ -1,6 +1,5 @@
 -- `leveling::nearer` meets its contract. Assumes nothing.
 use borrow.Author.Needs.{needs}
-use Rattle.theory.specs.Tables.{cost}
 use Rattle.leveling.specs.Laws.Joins.{nearer-left, nearer-taken}
 use Rattle.leveling.proofs.nearer.Statement.{statement}
 use Rattle.leveling.proofs.nearer.Tie as tie

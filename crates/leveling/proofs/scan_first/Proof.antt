@@ -28,7 +28,8 @@ enum-told c = search needs
 
 returns : tie.Need-returns Inv-loop μ-loop
 returns c =
-    all-stops _ _ _ (search needs) (c .before .before .before .before .loop .inv .1) (c .enum-told .given .1) (c .before .before .scan-second .ensures)
+    all-stops _ _ _ (search needs) (c .before .before .before .before .loop .inv .1) (c .enum-told .given .1)
+    (c .before .before .scan-second .ensures)
 
 enum-told-2 : tie.Need-enum-told-2 Inv-loop μ-loop
 enum-told-2 c = search needs
@@ -40,8 +41,11 @@ loop-less : tie.Need-loop-less Inv-loop μ-loop
 loop-less c = search needs
 
 loop-again : tie.Need-loop-again Inv-loop μ-loop
-loop-again c =
-    (search needs, all-goes _ _ _ (search needs) (c .before .before .before .before .loop .inv .1) (c .enum-told2 .given .1) (c .before .before .scan-second .ensures))
+loop-again c = (
+  search needs,
+  all-goes _ _ _ (search needs) (c .before .before .before .before .loop .inv .1) (c .enum-told2 .given .1)
+      (c .before .before .scan-second .ensures),
+)
 
 returns-2 : tie.Need-returns-2 Inv-loop μ-loop
 returns-2 c = all-ends _ _ _ (search needs) (c .before .loop .inv .1)

@@ -1,7 +1,7 @@
 -- Image by image: the condition holds of one image more exactly when that image joins by the one that is nearest to it. Assumes nothing.
-use mathlib.Core.Bool.{Bool, cond, false, true}
+use mathlib.Core.Bool.{Bool, false, true}
 use mathlib.Core.Path.{ap, sym, _∙_, _≡_}
-use Prim.Native.Nat.{max, suc, ℕ, _+_, _<_, _≤_}
+use Prim.Native.Nat.{max, ℕ, _+_, _<_, _≤_}
 use native.Mathlib.Omega.{arith}
 use lib.Dec.{eqb, ltb}
 use borrow.Author.Tests.{eq-eqb, eqb-false, eqb-true, le-ltb, lt-ltb, ltb-false, ltb-true}
@@ -11,7 +11,7 @@ use Rattle.theory.specs.Tables.{WellFormed}
 use Rattle.leveling.specs.Below.{every}
 use Rattle.leveling.specs.Joins.{Nearest, joins, joinsAt, nearer}
 use Rattle.leveling.specs.Laws.Below.{every-at, every-ends, every-is, every-more, every-none, every-stops}
-use Rattle.leveling.specs.Laws.ThreePoint.{NoneAbove, low, three-point}
+use Rattle.leveling.specs.Laws.ThreePoint.{low, three-point}
 use Rattle.leveling.specs.ThreePoint.{ThreePoint}
 
 -- ## The nearest image, one image more at a time
@@ -29,7 +29,8 @@ module _ (d : ℕ → ℕ → ℕ) (j : ℕ) where
       take : (x : ℕ) → r ≡ x → x < i + 1 → d j x ≤ d j i → d j x ≤ d j p → Nearest d j (i + 1) r
       take x q l a b = rw q (record {
         before = l;
-        least = λ k m. cases (eqb k i) (λ s. omega (arith, ap (d j) (eqb-true k i s), a)) (λ s. omega (arith, b, h .least k (omega (arith, eqb-false k i s, m))));
+        least = λ k m. cases (eqb k i) (λ s. omega (arith, ap (d j) (eqb-true k i s), a))
+            (λ s. omega (arith, b, h .least k (omega (arith, eqb-false k i s, m))));
       })
 
   pub nearest-end : (i : ℕ) {p : ℕ} → i ≤ j → j ≤ i → Nearest d j i p → Nearest d j j p
@@ -87,12 +88,14 @@ module _ (L : ℕ) (d : ℕ → ℕ → ℕ) (n : ℕ) (c : WellFormed L d n) wh
     three-joins t = every-is j (joinsAt d j p) (λ i l.
         let hi : i < n = omega arith in
         let hp : p < n = omega (arith, near .before) in
-        eq-eqb (d j i) (max (d p i) (d j p)) (omega (arith, near .least i l, low t hj hi hp, low t hp hi hj, c .same hi hp, c .same hj hi, c .same hj hp)))
+        eq-eqb (d j i) (max (d p i) (d j p))
+        (omega (arith, near .least i l, low t hj hi hp, low t hp hi hj, c .same hi hp, c .same hj hi, c .same hj hp)))
 
     -- where the images before j have it and j joins, the images up to j have it
     pub three-more : ThreePoint d j → joins d j p ≡ true → ThreePoint d (j + 1)
     unfolding joins joinsAt
-    three-more t e = three-point L d (j + 1) (well-formed-less L d (j + 1) n (omega arith) c) (record { low = λ {i = a} {j = b} {k} ha hb hk. go a b k ha hb hk })
+    three-more t e = three-point L d (j + 1) (well-formed-less L d (j + 1) n (omega arith) c)
+        (record { low = λ {i = a} {j = b} {k} ha hb hk. go a b k ha hb hk })
       where
         joined : (i : ℕ) → i < j → d j i ≡ max (d p i) (d j p)
         joined i l = eqb-true (d j i) (max (d p i) (d j p)) (every-at j (joinsAt d j p) e i l)

@@ -3,7 +3,7 @@
 use mathlib.Core.Bool.{cond, false, false≢true, true}
 use mathlib.Core.List.{List·Memᴰ, []}
 use mathlib.Core.Logic.{_↔_}
-use mathlib.Core.Path.{ap, refl, subst, sym, _∙_, _≡_}
+use mathlib.Core.Path.{refl, subst, sym, _∙_, _≡_}
 use Prim.Native.Nat.{ℕ, _+_, _-_, _<_, _≤_}
 use native.Mathlib.Omega.{arith}
 use lib.Dec.{eqb, leb, ltb}

@@ -40,9 +40,11 @@ four L d n c t = four-point d n (λ i j hi hj. c .same hi hj) (record { low = λ
     go {i} {j} {k} {l} hi hj hk hl =
         cases (leb (d k l) (d i j))
         (λ e. wider (d i j) (d k l) (d i k) (d j l) (d i l) (d j k) (leb-true (d k l) (d i j) e)
-        (low t hi hj hk) (low t hi hj hl) (omega (arith, low t hk hl hi, c .same hk hi, c .same hl hi)) (omega (arith, low t hk hl hj, c .same hk hj, c .same hl hj)))
+        (low t hi hj hk) (low t hi hj hl) (omega (arith, low t hk hl hi, c .same hk hi, c .same hl hi))
+        (omega (arith, low t hk hl hj, c .same hk hj, c .same hl hj)))
         (λ e. omega (
           arith,
           wider (d k l) (d i j) (d i k) (d j l) (d j k) (d i l) (omega (arith, leb-false (d k l) (d i j) e))
-              (omega (arith, low t hk hl hi, c .same hk hi, c .same hl hi)) (omega (arith, low t hk hl hj, c .same hk hj, c .same hl hj)) (low t hi hj hk) (omega (arith, low t hi hj hl)),
+              (omega (arith, low t hk hl hi, c .same hk hi, c .same hl hi)) (omega (arith, low t hk hl hj, c .same hk hj, c .same hl hj))
+              (low t hi hj hk) (omega (arith, low t hi hj hl)),
         ))

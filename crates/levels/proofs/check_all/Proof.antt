@@ -73,7 +73,8 @@ returns-3 c =
 check-levels-requires : tie.Need-check-levels-requires
 check-levels-requires c κs =
     let e = c .before .before .before .before .before .before .before in
-    table-of limit _ _ (sym (e .before .before .check-size .ensures) ∙ e .enum-told .given .1) (sym (c .before .before .check-costs .ensures) ∙ c .enum-told5 .given .1)
+    table-of limit _ _ (sym (e .before .before .check-size .ensures) ∙ e .enum-told .given .1)
+    (sym (c .before .before .check-costs .ensures) ∙ c .enum-told5 .given .1)
 
 returns-4 : tie.Need-returns-4
 unfolding levelsChecks

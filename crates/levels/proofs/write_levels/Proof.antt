@@ -10,7 +10,9 @@ use Rattle.levels.proofs.write_levels.Statement.{statement}
 use Rattle.levels.proofs.write_levels.Tie as tie
 
 abbrev Inv-loop : tie.InvT-loop
-Inv-loop n t members₀ heights₀ place₀ k₀ members heights place k = (k ≤ n) × WrittenTo limit (cost t n) n k members₀ heights₀ members heights place × (length members ≡ length members₀) × (length heights ≡ length heights₀)
+Inv-loop n t members₀ heights₀ place₀ k₀ members heights place k =
+    (k ≤ n) × WrittenTo limit (cost t n) n k members₀ heights₀ members heights place × (length members ≡ length members₀)
+    × (length heights ≡ length heights₀)
 
 abbrev μ-loop : tie.MeasureT-loop
 μ-loop n t members₀ heights₀ place₀ k₀ members heights place k = n - k
@@ -47,8 +49,10 @@ loop-again c =
     let l = c .before .before .before .before .before .before .before .before .loop in
     let d = cost (s .args .t .now) (s .args .n) in
     let h = c .before .before .before .before .before .before .before .loop-test .taken in
-    let w = written-more limit d (s .args .n) (p .0 .formed) (p .1) (s .args .members .now) (s .args .heights .now) (p .2) (p .3) _ _ _ _ _ _ _ (l .inv .1) h (c .before .before .before .before .put-levels .ensures) in
-    let e = written-lengths limit d (s .args .n) (p .0 .formed) (p .1) (s .args .members .now) (s .args .heights .now) (p .2) (p .3) _ _ _ _ w (omega (arith, h)) in
+    let w = written-more limit d (s .args .n) (p .0 .formed) (p .1) (s .args .members .now) (s .args .heights .now) (p .2) (p .3) _ _ _ _ _ _ _
+    (l .inv .1) h (c .before .before .before .before .put-levels .ensures) in
+    let e = written-lengths limit d (s .args .n) (p .0 .formed) (p .1) (s .args .members .now) (s .args .heights .now) (p .2) (p .3) _ _ _ _ w
+    (omega (arith, h)) in
     (omega (arith, h), w, e .0, e .1)
 
 same-length : tie.Need-same-length Inv-loop μ-loop
@@ -62,7 +66,8 @@ returns c =
     let s = c .before .before .before .before .before in
     let p = s .pre in
     let i = c .before .loop .inv in
-    written-end limit (cost (s .args .t .now) (s .args .n)) (s .args .n) (p .0 .formed) (p .1) (s .args .members .now) (s .args .heights .now) (p .2) (p .3) _ _ _ _ (i .0) (c .loop-test .left) (i .1)
+    written-end limit (cost (s .args .t .now) (s .args .n)) (s .args .n) (p .0 .formed) (p .1) (s .args .members .now) (s .args .heights .now) (p .2)
+    (p .3) _ _ _ _ (i .0) (c .loop-test .left) (i .1)
 
 pub write-levels-spec : {M : Type 1} → statement M
 write-levels-spec =

@@ -74,7 +74,8 @@ module _ (L : ℕ) (d : ℕ → ℕ → ℕ) (n : ℕ) (c : WellFormed L d n) (t
       omega (
         arith,
         height-le d n (ball d n i (d i j)) (d i j) (ball-under i (d i j) hi),
-        le-height d n (ball d n i (d i j)) i j hi hj (ball-in d n i (d i j) i hi (omega (arith, c .self hi))) (ball-in d n i (d i j) j hj (omega arith)),
+        le-height d n (ball d n i (d i j)) i j hi hj (ball-in d n i (d i j) i hi (omega (arith, c .self hi)))
+            (ball-in d n i (d i j) j hj (omega arith)),
       )
 
   module _ (S : ℕ) (g : Group d n S) (i : ℕ) (hi : i < n) (si : holds S i ≡ true) where
@@ -98,7 +99,8 @@ module _ (L : ℕ) (d : ℕ → ℕ → ℕ) (n : ℕ) (c : WellFormed L d n) (t
         (λ e. as-far (r .1) (r .3) (r .5)
         (omega (arith, r .6, leb-false (d (r .0) (r .1)) (d i (r .0)) e, low t (r .2) (r .3) hi, c .same (r .2) hi, c .same (r .3) hi)))
       where
-        as-far : (x : ℕ) → x < n → holds S x ≡ true → height d n S ≤ d i x → (j : ℕ) × (j < n) × (j ≡ i → ⊥) × (holds S j ≡ true) × (d i j ≡ height d n S)
+        as-far : (x : ℕ) → x < n → holds S x ≡ true → height d n S ≤ d i x
+            → (j : ℕ) × (j < n) × (j ≡ i → ⊥) × (holds S j ≡ true) × (d i j ≡ height d n S)
         as-far x hx sx q =
             cases (eqb x i)
             (λ e.

@@ -75,7 +75,8 @@ module _ (L : ℕ) (d : ℕ → ℕ → ℕ) (n : ℕ) (c : WellFormed L d n) (t
         let q = leastOn-at (λ i. 0) 0 (d 0 j) (λ i. d i j) j 0 (omega arith, refl) (omega arith) in
         omega (arith, q .2, none-nearer (q .0) (q .1 .0), leastOn-le (λ i. 0) 0 (d 0 j) (λ i. d i j) j a (l, refl))
 
-  from-lowest : (a : ℕ) → a < n → holds S a ≡ true → ((j : ℕ) → j < a → holds S j ≡ false) → (j : ℕ) × (0 < j) × (j < n) × (S ≡ ball d n j (nearest d j))
+  from-lowest : (a : ℕ) → a < n → holds S a ≡ true → ((j : ℕ) → j < a → holds S j ≡ false)
+      → (j : ℕ) × (0 < j) × (j < n) × (S ≡ ball d n j (nearest d j))
   from-lowest a ha sa lowest =
       let e = group-entry L d n c t S g a ha sa in
       let r = first-at n (farFrom d n S a) (e .0) (e .1) (far-is a (e .0) (e .3) (e .4) (e .2)) in
@@ -114,7 +115,8 @@ length-among c m k N l b h =
     omega (
       arith,
       sum-count c m k N l b,
-      sum-length (λ y. count N (λ i. eqb (c i) y)) l (λ x e. let r = h x e in count-one N (λ i. eqb (c i) x) (r .0) (r .1) (eq-eqb (c (r .0)) x (r .2))),
+      sum-length (λ y. count N (λ i. eqb (c i) y)) l (λ x e. let r = h x e in count-one N (λ i. eqb (c i) x) (r .0) (r .1)
+          (eq-eqb (c (r .0)) x (r .2))),
     )
 
 -- at most n - 1 groups

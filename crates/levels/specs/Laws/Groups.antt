@@ -3,7 +3,7 @@ use mathlib.Core.Bool.{Bool, false, false≢true, not, true, _||_}
 use mathlib.Core.List.{List·Memᴰ}
 use mathlib.Core.Logic.{_↔_}
 use mathlib.Core.Path.{ap, refl, sym, _∙_, _≡_}
-use Prim.Native.Nat.{suc, zero, ℕ, _+_, _<_, _^_, _≤_}
+use Prim.Native.Nat.{ℕ, _+_, _<_, _^_, _≤_}
 use native.Mathlib.Omega.{arith}
 use lib.Count.{ones}
 use lib.Dec.{eqb, leb}
@@ -47,7 +47,8 @@ pub set-holds : (n : ℕ) (p : ℕ → Bool) (k : ℕ) → k < n → holds (setO
 set-holds n p k h = rw (set-bit n p k h) (cases (p k) (λ e. rw e) (λ e. rw e))
 
 -- sets with the same images are the same
-pub holds-ext : (n S R : ℕ) → S < 2 ^ n → R < 2 ^ n → ((k : ℕ) → k < n → holds S k ≡ true → holds R k ≡ true) → ((k : ℕ) → k < n → holds R k ≡ true → holds S k ≡ true) → S ≡ R
+pub holds-ext : (n S R : ℕ) → S < 2 ^ n → R < 2 ^ n → ((k : ℕ) → k < n → holds S k ≡ true → holds R k ≡ true)
+    → ((k : ℕ) → k < n → holds R k ≡ true → holds S k ≡ true) → S ≡ R
 holds-ext n S R f g p q =
     bit-ext n S R f g (λ k h.
     cases (holds S k) (λ e. holds-true S k e ∙ sym (holds-true R k (p k h e)))
@@ -91,7 +92,8 @@ module _ (L : ℕ) (d : ℕ → ℕ → ℕ) (n : ℕ) (c : WellFormed L d n) (h
       at k l =
           cases (near d n h S k)
           (λ t. rw t (holds-true S k (inside t)))
-          (λ t. rw t (holds-false S k (cases (holds S k) (λ s. absurd (false≢true (sym t ∙ le-near d n h S k (λ i m si. g .under i k m l si s)))) (λ s. s))))
+          (λ t. rw t (holds-false S k (cases (holds S k) (λ s. absurd (false≢true (sym t ∙ le-near d n h S k (λ i m si. g .under i k m l si s))))
+          (λ s. s))))
         where
           R : ℕ
           R = setOf n (with-image S k)
@@ -125,7 +127,8 @@ module _ (L : ℕ) (d : ℕ → ℕ → ℕ) (n : ℕ) (c : WellFormed L d n) (h
 module _ (L : ℕ) (d : ℕ → ℕ → ℕ) (n : ℕ) where
   pub groups-between : Between 0 (groups d n) (2 ^ n)
   unfolding groups
-  groups-between = let e : 0 + 2 ^ n ≡ 2 ^ n = omega arith in between-filter (isGroup d n) 0 (2 ^ n) (from 0 (2 ^ n)) (rw e at (from-between 0 (2 ^ n)))
+  groups-between = let e : 0 + 2 ^ n ≡ 2 ^ n = omega arith in between-filter (isGroup d n) 0 (2 ^ n) (from 0 (2 ^ n))
+      (rw e at (from-between 0 (2 ^ n)))
 
   pub groups-mem : (c : WellFormed L d n) (S : ℕ) → List·Memᴰ S (groups d n) ↔ Group d n S
   unfolding groups

@@ -46,7 +46,9 @@ module _ (d : ℕ → ℕ → ℕ) (n k : ℕ) where
   unfolding levelsAt
   levels-more a e =
       let q : 0 + a ≡ a = omega arith in
-      ap (filter (isLevel d n k)) (from-last 0 a ∙ ap (λ x. from 0 a ++ (x ∷ [])) q) ∙ filter-append (isLevel d n k) (from 0 a) (a ∷ []) ∙ ap (λ l. levelsAt d n k a ++ l) (rw e)
+      ap (filter (isLevel d n k)) (from-last 0 a ∙ ap (λ x. from 0 a ++ (x ∷ [])) q)
+      ∙ filter-append (isLevel d n k) (from 0 a) (a ∷ [])
+      ∙ ap (λ l. levelsAt d n k a ++ l) (rw e)
 
   -- no fewer up to a greater height
   pub levels-fewer : (a b : ℕ) → a ≤ b → length (levelsAt d n k a) ≤ length (levelsAt d n k b)
@@ -55,7 +57,13 @@ module _ (d : ℕ → ℕ → ℕ) (n k : ℕ) where
     where
       go : (m : ℕ) → b ≡ a + m → length (levelsAt d n k a) ≤ length (levelsAt d n k b)
       go m e =
-          rw (e, from-split 0 a m, filter-append (isLevel d n k) (from 0 a) (from (0 + a) m), length-append (filter (isLevel d n k) (from 0 a)) (filter (isLevel d n k) (from (0 + a) m)))
+          rw (
+            e,
+            from-split 0 a m,
+            filter-append (isLevel d n k) (from 0 a) (from (0 + a) m),
+            length-append (filter (isLevel d n k) (from 0 a))
+                (filter (isLevel d n k) (from (0 + a) m)),
+          )
           (omega arith)
 
 gather-more : {A : Type 0} (f : ℕ → List A) (i m : ℕ) → gather (from i (suc m)) f ≡ gather (from i m) f ++ f (i + m)

@@ -58,13 +58,15 @@ module _ (d : ℕ → ℕ → ℕ) (n k h : ℕ) where
   ball-top : isLevel d n k h ≡ true → ball d n k h < 2 ^ suc k
   ball-top e =
       fits-below n (suc k) (ball d n k h) (ball-fits d n k h) (λ i l m.
-      holds-false (ball d n k h) i (cases (holds (ball d n k h) i) (λ s. absurd (omega (arith, in-ball d n k h i m s, level-after d n k h e i (omega arith) m))) (λ s. s)))
+      holds-false (ball d n k h) i (cases (holds (ball d n k h) i)
+      (λ s. absurd (omega (arith, in-ball d n k h i m s, level-after d n k h e i (omega arith) m))) (λ s. s)))
 
   -- so the images after k need not be looked at
   pub ball-last : k < n → isLevel d n k h ≡ true → ball d (suc k) k h ≡ ball d n k h
   ball-last l e =
       holds-ext (suc k) (ball d (suc k) k h) (ball d n k h) (ball-fits d (suc k) k h) (ball-top e)
-      (λ i m s. ball-in d n k h i (omega arith) (in-ball d (suc k) k h i m s)) (λ i m s. ball-in d (suc k) k h i m (in-ball d n k h i (omega arith) s))
+      (λ i m s. ball-in d n k h i (omega arith) (in-ball d (suc k) k h i m s))
+      (λ i m s. ball-in d (suc k) k h i m (in-ball d n k h i (omega arith) s))
 
 -- f of the numbers from x on that pass p, ascending, where f grows on them
 between-levels : (f : ℕ → ℕ) (p : ℕ → Bool) (hi : ℕ) → ((x : ℕ) → p x ≡ true → f x < hi) → ((x y : ℕ) → x < y → p x ≡ true → p y ≡ true → f x < f y)
@@ -104,11 +106,13 @@ module _ (L : ℕ) (d : ℕ → ℕ → ℕ) (n : ℕ) (c : WellFormed L d n) wh
   gather-between m i zero l = let e : i + 0 ≡ i = omega arith in rw e (omega arith)
   gather-between m i (suc s) l =
       let e : i + suc s ≡ suc i + s = omega arith in
-      rw e (between-append (2 ^ i) (2 ^ suc i) (2 ^ (suc i + s)) (foundAt d n m i) (gather (from (suc i) s) (foundAt d n m)) (at-between i (omega arith) m) (gather-between m (suc i) s (omega arith)))
+      rw e (between-append (2 ^ i) (2 ^ suc i) (2 ^ (suc i + s)) (foundAt d n m i) (gather (from (suc i) s) (foundAt d n m))
+      (at-between i (omega arith) m) (gather-between m (suc i) s (omega arith)))
 
   pub found-between : Between 0 (found L d n) (2 ^ n)
   unfolding found
-  found-between = let e : 0 + n ≡ n = omega arith in between-from 0 1 (2 ^ n) (gather (from 0 n) (foundAt d n (suc L))) (omega arith) (rw e at (gather-between (suc L) 0 n (omega arith)))
+  found-between = let e : 0 + n ≡ n = omega arith in between-from 0 1 (2 ^ n) (gather (from 0 n) (foundAt d n (suc L))) (omega arith)
+      (rw e at (gather-between (suc L) 0 n (omega arith)))
 
   module _ (t : ThreePoint d n) where
     level-group : (k h : ℕ) → k < n → isLevel d n k h ≡ true → Group d n (ball d n k h) × (height d n (ball d n k h) ≡ h)
@@ -137,15 +141,19 @@ module _ (L : ℕ) (d : ℕ → ℕ → ℕ) (n : ℕ) (c : WellFormed L d n) wh
             let s = group-ball L d n c t S g k (r .1) (r .2) in
             let v = level-is d n k (height d n S) (e .0) (before (e .0) k (e .1) (e .2) (e .3) (r .3)) (e .4) (after k (r .3) s) in
             mem-gather (foundAt d n (suc L)) (mem-from 0 n k (omega arith) (omega (arith, r .1)))
-            (Memᴰ·cast s (mem-map (ball d n k) (mem-filter (isLevel d n k) (height d n S) v (from 0 (suc L)) (mem-from 0 (suc L) (height d n S) (omega arith) (omega (arith, e .4, c .small (r .1) (e .1)))))))
+            (Memᴰ·cast s (mem-map (ball d n k) (mem-filter (isLevel d n k) (height d n S) v (from 0 (suc L))
+            (mem-from 0 (suc L) (height d n S) (omega arith) (omega (arith, e .4, c .small (r .1) (e .1)))))))
           where
             before : (j k : ℕ) → j < n → (j ≡ k → ⊥) → holds S j ≡ true → ((i : ℕ) → k < i → i < n → holds S i ≡ false) → j < k
-            before j k hj ne sj last = cases (leb j k) (λ q. omega (arith, leb-true j k q, ne)) (λ q. absurd (false≢true (sym (last j (leb-false j k q) hj) ∙ sj)))
+            before j k hj ne sj last = cases (leb j k) (λ q. omega (arith, leb-true j k q, ne))
+                (λ q. absurd (false≢true (sym (last j (leb-false j k q) hj) ∙ sj)))
 
-            after : (k : ℕ) → ((i : ℕ) → k < i → i < n → holds S i ≡ false) → S ≡ ball d n k (height d n S) → (i : ℕ) → k < i → i < n → height d n S < d k i
+            after : (k : ℕ) → ((i : ℕ) → k < i → i < n → holds S i ≡ false) → S ≡ ball d n k (height d n S) → (i : ℕ) → k < i → i < n
+                → height d n S < d k i
             after k last s i l m =
                 cases (leb (d k i) (height d n S))
-                (λ q. absurd (false≢true (sym (last i l m) ∙ ap (λ (x : ℕ). holds x i) s ∙ ball-in d n k (height d n S) i m (leb-true (d k i) (height d n S) q))))
+                (λ q. absurd (false≢true (sym (last i l m) ∙ ap (λ (x : ℕ). holds x i) s ∙ ball-in d n k (height d n S) i m
+                (leb-true (d k i) (height d n S) q))))
                 (λ q. leb-false (d k i) (height d n S) q)
 
     -- what the code finds are the groups
@@ -154,7 +162,8 @@ module _ (L : ℕ) (d : ℕ → ℕ → ℕ) (n : ℕ) (c : WellFormed L d n) wh
         between-ext 0 (2 ^ n) (found L d n) (groups d n) found-between (groups-between L d n)
         (λ S m. groups-mem L d n c S .1 (found-mem S .0 m)) (λ S m. found-mem S .1 (groups-mem L d n c S .0 m))
 
-    gather-heights : (i s : ℕ) → i + s ≤ n → map (height d n) (gather (from i s) (foundAt d n (suc L))) ≡ gather (from i s) (λ k. levelsAt d n k (suc L))
+    gather-heights : (i s : ℕ) → i + s ≤ n
+        → map (height d n) (gather (from i s) (foundAt d n (suc L))) ≡ gather (from i s) (λ k. levelsAt d n k (suc L))
     unfolding levelsAt
     gather-heights i zero l = refl
     gather-heights i (suc s) l =

@@ -1,12 +1,13 @@
--- A member sum one image more at a time, as the loop of `near` has it. Assumes nothing.
+-- A member sum one image more at a time, as the loop of `level_at` has it. Assumes nothing.
 use mathlib.Core.Bool.{Bool, false, true}
-use mathlib.Core.Path.{ap, refl, _≡_}
+use mathlib.Core.Path.{ap, refl, _∙_, _≡_}
 use Prim.Native.Nat.{suc, zero, ℕ, _*_, _+_, _<_, _^_, _≤_}
 use native.Mathlib.Nat.{lt-of-lt-of-le}
 use native.Mathlib.Numerals.{add-one}
 use native.Mathlib.Omega.{arith}
 use lib.Dec.{leb}
 use lib.Pow.{pow-mono}
+use borrow.Author.Tests.{le-leb, lt-leb}
 use borrow.Table.Steps.{cases}
 use Rattle.ground.specs.Bits.{num}
 use Rattle.ground.specs.Counts.{one-if}
@@ -29,16 +30,25 @@ module _ (d : ℕ → ℕ → ℕ) (k h : ℕ) where
   unfolding ball
   ball-none = refl
 
-  pub ball-more : (j : ℕ) {s r : ℕ} → s ≡ ball d j k h → r ≡ when (leb (d k j) h) (2 ^ j) → s + r ≡ ball d (j + 1) k h
+  pub ball-more : (j : ℕ) {s r : ℕ} → s ≡ ball d j k h → r ≡ s + when (leb (d k j) h) (2 ^ j) → r ≡ ball d (j + 1) k h
   unfolding ball
-  ball-more j e f = rw (add-one, num-more (λ i. leb (d k i) h) j, e, f)
+  ball-more j e f = f ∙ rw (add-one, num-more (λ i. leb (d k i) h) j, e)
 
-  -- it fits in 64 bits
-  pub ball-room : (j : ℕ) {s r : ℕ} → j < 64 → s ≡ ball d j k h → r ≡ when (leb (d k j) h) (2 ^ j) → s + r < 2 ^ 64
-  ball-room j {s} {r} l e f =
-      let m : 2 ^ (j + 1) ≤ 2 ^ 64 = pow-mono {i = j + 1} {j = 64} (omega arith) in
-      lt-of-lt-of-le (rw (← (ball-more j {s = s} {r = r} e f)) at (ball-fits d (j + 1) k h)) m
+  -- there is place for one image more in 64 bits
+  pub ball-room : (j : ℕ) {s : ℕ} → j < 64 → s ≡ ball d j k h → s + 2 ^ j < 2 ^ 64
+  ball-room j {s} l e =
+      let m : 2 ^ suc j ≤ 2 ^ 64 = pow-mono {i = suc j} {j = 64} (omega arith) in
+      lt-of-lt-of-le (omega (arith, e, ball-fits d j k h)) m
 
   -- all images up to k
   pub ball-end : (j : ℕ) {s : ℕ} → j ≤ suc k → k < j → s ≡ ball d j k h → s ≡ ball d (suc k) k h
   ball-end j l g e = let q : j ≡ suc k = omega arith in rw (← q) e
+
+-- ## One image more, as the code decides it: x is the entry of images k and j, b its bit
+
+module _ (f : ℕ → ℕ) (h j : ℕ) where
+  pub member-taken : (s : ℕ) {x b : ℕ} → x ≡ f j → x ≤ h → b ≡ 2 ^ j → s + b ≡ s + when (leb (f j) h) (2 ^ j)
+  member-taken s e l q = rw (← e, le-leb _ h l) (ap (λ y. s + y) q)
+
+  pub member-left : (s : ℕ) {x : ℕ} → x ≡ f j → h < x → s ≡ s + when (leb (f j) h) (2 ^ j)
+  member-left s e l = rw (← e, lt-leb _ h l) (omega arith)

@@ -10,6 +10,7 @@ use borrow.Table.Steps.{cases}
 use Rattle.ground.specs.Counts.{one-if}
 use Rattle.ground.specs.Least.{On, leastOn, lowerIf}
 use Rattle.ground.specs.Laws.Least.{leastOn-cap, leastOn-is, leastOn-le, leastOn-turn, le-leastOn}
+use Rattle.theory.specs.Tables.{WellFormed}
 use Rattle.levels.specs.Balls.{isLevel}
 use Rattle.levels.specs.Laws.Listed.{level-after, level-before, level-is}
 use Rattle.levels.specs.Next.{afterHeight, nextHeight}
@@ -45,6 +46,12 @@ module _ (L : ℕ) (f : ℕ → ℕ) (k : ℕ) where
 -- ## What the two heights say
 
 module _ (L : ℕ) (d : ℕ → ℕ → ℕ) (n k : ℕ) where
+  -- image k itself is never the next height, so that a loop may go up to it
+  pub next-end : WellFormed L d n → k < n → (h j : ℕ) {m : ℕ} → j ≤ suc k → k < j → m ≡ leastOn j (λ i. one-if (leb (suc h) (d k i))) 1 (suc L) (d k)
+      → m ≡ nextHeight L d k (suc h)
+  unfolding nextHeight leastOn
+  next-end c l h j a b e = let q : j ≡ suc k = omega arith in e ∙ rw (q, c .self l, lt-leb (suc h) 0 (omega arith)) refl
+
   pub next-most : (h : ℕ) → nextHeight L d k h ≤ suc L
   unfolding nextHeight
   next-most h = leastOn-cap (λ j. one-if (leb h (d k j))) 1 (suc L) (d k) k
@@ -60,7 +67,12 @@ module _ (L : ℕ) (d : ℕ → ℕ → ℕ) (n k : ℕ) where
   next-none h x l m =
       cases (isLevel d n k x)
       (λ e. let r = level-before d n k x e in
-      absurd (omega (arith, r .2, leastOn-le (λ j. one-if (leb h (d k j))) 1 (suc L) (d k) k (r .0) (r .1, (rw (le-leb h (d k (r .0)) (omega (arith, r .2))))))))
+      absurd (omega (
+        arith,
+        r .2,
+        leastOn-le (λ j. one-if (leb h (d k j))) 1 (suc L) (d k) k (r .0)
+            (r .1, (rw (le-leb h (d k (r .0)) (omega (arith, r .2))))),
+      )))
       (λ e. e)
 
   pub after-most : afterHeight L d n k ≤ suc L
@@ -76,10 +88,23 @@ module _ (L : ℕ) (d : ℕ → ℕ → ℕ) (n k : ℕ) where
   unfolding nextHeight
   next-level h l = go (leastOn-is (λ j. one-if (leb h (d k j))) 1 (suc L) (d k) k)
     where
-      go : ((a : ℕ) × On k (λ j. one-if (leb h (d k j))) 1 a × (leastOn k (λ j. one-if (leb h (d k j))) 1 (suc L) (d k) ≡ d k a)) ⊎ (leastOn k (λ j. one-if (leb h (d k j))) 1 (suc L) (d k) ≡ suc L)
+      go : ((a : ℕ) × On k (λ j. one-if (leb h (d k j))) 1 a × (leastOn k (λ j. one-if (leb h (d k j))) 1 (suc L) (d k) ≡ d k a))
+          ⊎ (leastOn k (λ j. one-if (leb h (d k j))) 1 (suc L) (d k) ≡ suc L)
           → isLevel d n k (leastOn k (λ j. one-if (leb h (d k j))) 1 (suc L) (d k)) ≡ true
       go (inl r) = level-is d n k _ (r .0) (r .1 .0) (sym (r .2)) (λ i a b. omega (arith, after-le i a b))
       go (inr e) = absurd (omega (arith, after-most))
+
+  -- two different images do not cost nothing, so 0 is none
+  pub zero-none : WellFormed L d n → k < n → isLevel d n k 0 ≡ false
+  zero-none c l =
+      cases (isLevel d n k 0)
+      (λ e. let r = level-before d n k 0 e in absurd (omega (
+        arith,
+        r .2,
+        c .nonzero {i = k} {j = r .0} l (omega (arith, r .1))
+            (λ q. omega (arith, r .1)),
+      )))
+      (λ e. e)
 
   -- as the code has it
   pub next-here : (x : ℕ) {h cap : ℕ} → h ≡ nextHeight L d k x → cap ≡ afterHeight L d n k → h < cap → isLevel d n k h ≡ true
@@ -94,6 +119,8 @@ module _ (L : ℕ) (d : ℕ → ℕ → ℕ) (n k : ℕ) where
   after-none x l m =
       cases (isLevel d n k x) (λ e. absurd (go e (leastOn-is (λ j. one-if (ltb k j)) 1 (suc L) (d k) n))) (λ e. e)
     where
-      go : isLevel d n k x ≡ true → ((a : ℕ) × On n (λ j. one-if (ltb k j)) 1 a × (leastOn n (λ j. one-if (ltb k j)) 1 (suc L) (d k) ≡ d k a)) ⊎ (leastOn n (λ j. one-if (ltb k j)) 1 (suc L) (d k) ≡ suc L) → ⊥
+      go : isLevel d n k x ≡ true
+          → ((a : ℕ) × On n (λ j. one-if (ltb k j)) 1 a × (leastOn n (λ j. one-if (ltb k j)) 1 (suc L) (d k) ≡ d k a))
+          ⊎ (leastOn n (λ j. one-if (ltb k j)) 1 (suc L) (d k) ≡ suc L) → ⊥
       go e (inl r) = omega (arith, r .2, level-after d n k x e (r .0) (ltb-true k (r .0) (one-if-is (ltb k (r .0)) (r .1 .1))) (r .1 .0))
       go e (inr q) = omega arith

@@ -1,14 +1,13 @@
 -- The entry of two different images is the height of the smallest group that holds both.
 -- The set of all images is a group. Assumes nothing.
 use mathlib.Core.Bool.{false, true, _&&_}
-use mathlib.Core.List.{List·Memᴰ}
 use mathlib.Core.Logic.{inl, inr, _⊎_}
-use mathlib.Core.Path.{ap, subst, sym, _∙_, _≡_}
+use mathlib.Core.Path.{ap, _∙_, _≡_}
 use Prim.Native.Nat.{ℕ, _-_, _<_, _^_, _≤_}
 use native.Mathlib.Omega.{arith}
-use lib.Dec.{eqb, leb}
+use lib.Dec.{leb}
 use lib.Pow.{pow-pos}
-use borrow.Author.Tests.{eqb-false, eqb-true, leb-false, leb-true}
+use borrow.Author.Tests.{leb-false, leb-true}
 use borrow.Table.Steps.{cases}
 use Rattle.ground.specs.Laws.Bits.{bit-full}
 use Rattle.ground.specs.Laws.Ones.{ones-full}
@@ -17,9 +16,9 @@ use Rattle.theory.specs.FarSides.{Nested, Within, holds}
 use Rattle.theory.specs.Laws.Nested.{bit-holds, find, holds-false, holds-true}
 use Rattle.theory.specs.Tables.{WellFormed}
 use Rattle.levels.specs.Balls.{ball}
-use Rattle.levels.specs.Groups.{Group, Smallest, groups, height}
+use Rattle.levels.specs.Groups.{Group, Smallest, height}
 use Rattle.levels.specs.Laws.Balls.{ball-group, ball-height, ball-in, group-ball, in-ball}
-use Rattle.levels.specs.Laws.Groups.{groups-mem, holds-ext}
+use Rattle.levels.specs.Laws.Groups.{holds-ext}
 use Rattle.levels.specs.Laws.Heights.{height-at, le-height}
 use Rattle.levels.specs.Laws.Sets.{within-le}
 use Rattle.leveling.specs.ThreePoint.{ThreePoint}
@@ -27,7 +26,8 @@ use Rattle.leveling.specs.ThreePoint.{ThreePoint}
 -- contained sets are no larger numbers, so the smallest group is the first in the list that holds both
 pub within-number : (n S R : ℕ) → S < 2 ^ n → Within n S R → S ≤ R
 within-number n S R f w =
-    within-le n S R f (λ i l. cases (holds S i) (λ e. omega (arith, holds-true S i e, holds-true R i (w i l e))) (λ e. omega (arith, holds-false S i e)))
+    within-le n S R f (λ i l. cases (holds S i) (λ e. omega (arith, holds-true S i e, holds-true R i (w i l e)))
+    (λ e. omega (arith, holds-false S i e)))
 
 -- ## All images, on every well-formed table
 
@@ -65,7 +65,8 @@ module _ (L : ℕ) (d : ℕ → ℕ → ℕ) (n : ℕ) (c : WellFormed L d n) (t
 
     smallest-one : (S R : ℕ) → Smallest d n i j S → Smallest d n i j R → S ≡ R
     smallest-one S R p q =
-        holds-ext n S R (p .group .is .fits) (q .group .is .fits) (p .least R (q .group) (q .both .0) (q .both .1)) (q .least S (p .group) (p .both .0) (p .both .1))
+        holds-ext n S R (p .group .is .fits) (q .group .is .fits) (p .least R (q .group) (q .both .0) (q .both .1))
+        (q .least S (p .group) (p .both .0) (p .both .1))
 
     -- the entry is the height of the smallest group holding both
     pub smallest-height : (S : ℕ) → Smallest d n i j S → height d n S ≡ d i j

@@ -93,7 +93,8 @@ module _ (L : ℕ) (d : ℕ → ℕ → ℕ) (n : ℕ) where
       written-heights k p g v w l =
           omega (arith, w .counted, room-next k l, front-same (heightsTo L d n k) v₀ (omega (arith, room-next k l)) (w .heights-are))
 
-      pub written-more : (k p r : ℕ) (g v g′ v′ : List ℕ) → WrittenTo L d n k g₀ v₀ g v p → k < n → PutLevels L d n k p g v r g′ v′ → WrittenTo L d n (k + 1) g₀ v₀ g′ v′ r
+      pub written-more : (k p r : ℕ) (g v g′ v′ : List ℕ) → WrittenTo L d n k g₀ v₀ g v p → k < n → PutLevels L d n k p g v r g′ v′
+          → WrittenTo L d n (k + 1) g₀ v₀ g′ v′ r
       written-more k p r g v g′ v′ w l q = record {
         counted =
             omega (
@@ -126,5 +127,8 @@ module _ (L : ℕ) (d : ℕ → ℕ → ℕ) (n : ℕ) where
       pub written-lengths : (k p : ℕ) (g v : List ℕ) → WrittenTo L d n k g₀ v₀ g v p → k ≤ n → (length g ≡ length g₀) × (length v ≡ length v₀)
       written-lengths k p g v w l =
           let m : length (heightsTo L d n k) ≤ n - 1 =
-          omega (arith, heights-fewer k l, ap length heights-all, length-map (groups d n) (height d n), groups-most L d n c t) in
-          (front-same (foundTo L d n k) g₀ (omega (arith, same-count k, m)) (w .groups-are), front-same (heightsTo L d n k) v₀ (omega (arith, m)) (w .heights-are))
+          omega (arith, heights-fewer k l, ap length heights-all, length-map (groups d n) (height d n), groups-most L d n c t) in (
+            front-same (foundTo L d n k) g₀ (omega (arith, same-count k, m)) (w .groups-are),
+            front-same (heightsTo L d n k) v₀ (omega (arith, m))
+                (w .heights-are),
+          )
