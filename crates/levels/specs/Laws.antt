@@ -15,6 +15,7 @@ pub mod Links
 pub mod LinkCosts
 pub mod NextGroups
 -- How the code finds them and stores them.
+pub mod Levels
 pub mod Listed
 pub mod Members
 pub mod Next

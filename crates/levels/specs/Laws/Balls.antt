@@ -14,9 +14,8 @@ use Rattle.theory.specs.Laws.Nested.{bit-holds, holds-true}
 use Rattle.theory.specs.Tables.{WellFormed}
 use Rattle.levels.specs.Balls.{ball}
 use Rattle.levels.specs.Groups.{AtMost, Group, Largest, height}
-use Rattle.levels.specs.Laws.Groups.{holds-ext, set-fits, set-holds}
 use Rattle.levels.specs.Laws.Heights.{height-at, height-le, le-height}
-use Rattle.levels.specs.Laws.Sets.{other}
+use Rattle.levels.specs.Laws.Sets.{holds-ext, other, set-fits, set-holds}
 use Rattle.leveling.specs.Laws.ThreePoint.{low}
 use Rattle.leveling.specs.ThreePoint.{ThreePoint}
 

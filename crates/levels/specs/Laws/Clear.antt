@@ -18,9 +18,8 @@ use Rattle.theory.specs.Laws.Nested.{bit-holds, holds-true}
 use Rattle.theory.specs.Tables.{WellFormed}
 use Rattle.levels.specs.Groups.{Group, height}
 use Rattle.levels.specs.Laws.Balls.{ball-in, group-ball}
-use Rattle.levels.specs.Laws.Groups.{holds-ext}
 use Rattle.levels.specs.Laws.Heights.{height-at, le-height}
-use Rattle.levels.specs.Laws.Sets.{other}
+use Rattle.levels.specs.Laws.Sets.{holds-ext, other}
 use Rattle.levels.specs.Sides.{Part}
 use Rattle.leveling.specs.Laws.ThreePoint.{low}
 use Rattle.leveling.specs.ThreePoint.{ThreePoint}

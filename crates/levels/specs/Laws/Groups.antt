@@ -11,8 +11,7 @@ use borrow.Author.Tests.{eq-eqb, eqb-false, eqb-true, le-leb, leb-true}
 use borrow.Table.Steps.{cases}
 use Rattle.ground.specs.Ascending.{Between}
 use Rattle.ground.specs.Laws.Ascending.{between-filter, from-between}
-use Rattle.ground.specs.Bits.{bit, num}
-use Rattle.ground.specs.Laws.Bits.{bit-ext, num-bit, num-lt}
+use Rattle.ground.specs.Bits.{bit}
 use Rattle.ground.specs.Counts.{one-if}
 use Rattle.ground.specs.Filters.{filter}
 use Rattle.ground.specs.Laws.Filters.{filter-mem, mem-filter}
@@ -26,33 +25,7 @@ use Rattle.leveling.specs.Below.{some}
 use Rattle.levels.specs.GroupTest.{isGroup, isLargest, near}
 use Rattle.levels.specs.Groups.{AtMost, Group, Largest, groups}
 use Rattle.leveling.specs.Laws.Below.{every-at, every-is, some-at, some-is}
-
--- ## A set given by a test
-
--- the images below n that pass p
-abbrev pub setOf : ℕ → (ℕ → Bool) → ℕ
-setOf n p = num n (λ k. one-if (p k))
-
-one-if-lt : (b : Bool) → one-if b < 2
-one-if-lt true = omega arith
-one-if-lt false = omega arith
-
-pub set-fits : (n : ℕ) (p : ℕ → Bool) → setOf n p < 2 ^ n
-set-fits n p = num-lt n (λ k. one-if (p k)) (λ k. one-if-lt (p k))
-
-pub set-bit : (n : ℕ) (p : ℕ → Bool) (k : ℕ) → k < n → bit (setOf n p) k ≡ one-if (p k)
-set-bit n p k h = num-bit n (λ k. one-if (p k)) (λ k. one-if-lt (p k)) k h
-
-pub set-holds : (n : ℕ) (p : ℕ → Bool) (k : ℕ) → k < n → holds (setOf n p) k ≡ p k
-set-holds n p k h = rw (set-bit n p k h) (cases (p k) (λ e. rw e) (λ e. rw e))
-
--- sets with the same images are the same
-pub holds-ext : (n S R : ℕ) → S < 2 ^ n → R < 2 ^ n → ((k : ℕ) → k < n → holds S k ≡ true → holds R k ≡ true)
-    → ((k : ℕ) → k < n → holds R k ≡ true → holds S k ≡ true) → S ≡ R
-holds-ext n S R f g p q =
-    bit-ext n S R f g (λ k h.
-    cases (holds S k) (λ e. holds-true S k e ∙ sym (holds-true R k (p k h e)))
-    (λ e. cases (holds R k) (λ t. absurd (false≢true (sym e ∙ q k h t))) (λ t. holds-false S k e ∙ sym (holds-false R k t))))
+use Rattle.levels.specs.Laws.Sets.{holds-ext, set-fits, set-holds, setOf}
 
 -- ## The test of a largest set
 

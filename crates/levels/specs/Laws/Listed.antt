@@ -1,14 +1,14 @@
 -- The groups as the code finds them, by their last image and then by height, are all groups, ascending. A group whose last image is k is
 -- the ball around k of its height; that height is an entry of k with an image before it, and below every entry of k with one after it.
 -- Its number is from 2 ^ k on and below 2 ^ (k + 1), and grows with the height. Assumes nothing.
-use mathlib.Core.Bool.{Bool, false, false≢true, true, _||_}
+use mathlib.Core.Bool.{Bool, false, false≢true, true}
 use mathlib.Core.List.{List, List·Memᴰ, Memᴰ·cast, [], map, _++_, _∷_}
 use mathlib.Core.Logic.{_↔_}
 use mathlib.Core.Path.{ap, ap₂, refl, sym, _∙_, _≡_}
 use Prim.Native.Nat.{suc, zero, ℕ, _+_, _<_, _^_, _≤_}
 use native.Mathlib.Omega.{arith}
-use lib.Dec.{eqb, leb, ltb}
-use borrow.Author.Tests.{eq-eqb, eqb-true, leb-false, leb-true, lt-ltb, ltb-true}
+use lib.Dec.{leb}
+use borrow.Author.Tests.{leb-false, leb-true}
 use borrow.Table.Steps.{cases}
 use Rattle.ground.specs.Ascending.{Between}
 use Rattle.ground.specs.Laws.Ascending.{between-append, between-ext, between-from}
@@ -17,56 +17,20 @@ use Rattle.ground.specs.Filters.{filter}
 use Rattle.ground.specs.Laws.Filters.{filter-mem, mem-filter}
 use Rattle.ground.specs.Laws.Maps.{map-append, map-mem, mem-map}
 use Rattle.ground.specs.Laws.Ranges.{from-mem, gather-mem, mem-from, mem-gather}
-use Rattle.ground.specs.Laws.Tests.{and-l, and-r}
 use Rattle.ground.specs.Ranges.{from, gather}
 use Rattle.theory.specs.FarSides.{holds}
 use Rattle.theory.specs.Laws.Nested.{bit-holds, holds-false, holds-true}
 use Rattle.theory.specs.Tables.{WellFormed}
 use Rattle.levels.specs.Balls.{ball, found, foundAt, foundHeights, isLevel, levelsAt}
-use Rattle.leveling.specs.Below.{every, some}
 use Rattle.levels.specs.Groups.{Group, groups, height, heights}
 use Rattle.levels.specs.Laws.Balls.{ball-fits, ball-group, ball-height, ball-in, group-ball, group-entry, in-ball}
-use Rattle.leveling.specs.Laws.Below.{every-at, every-is, last-at, some-at, some-is}
-use Rattle.levels.specs.Laws.Groups.{groups-between, groups-mem, holds-ext}
-use Rattle.levels.specs.Laws.Sets.{fits-below, from-bit, other, within-lt}
+use Rattle.leveling.specs.Laws.Below.{last-at}
+use Rattle.levels.specs.Laws.Groups.{groups-between, groups-mem}
+use Rattle.levels.specs.Laws.Levels.{ball-top, level-before, level-is}
+use Rattle.levels.specs.Laws.Sets.{from-bit, other, within-lt}
 use Rattle.leveling.specs.ThreePoint.{ThreePoint}
 
--- ## What a level says
-
-module _ (d : ℕ → ℕ → ℕ) (n k h : ℕ) where
-  pub level-before : isLevel d n k h ≡ true → (j : ℕ) × (j < k) × (d k j ≡ h)
-  unfolding isLevel
-  level-before e =
-      let r = some-at k (λ j. eqb (d k j) h) (and-l (some k (λ j. eqb (d k j) h)) (every n (λ j. leb j k || ltb h (d k j))) e) in
-      (r .0, r .1, eqb-true (d k (r .0)) h (r .2))
-
-  pub level-after : isLevel d n k h ≡ true → (j : ℕ) → k < j → j < n → h < d k j
-  unfolding isLevel
-  level-after e j l m =
-      let r = every-at n (λ j. leb j k || ltb h (d k j)) (and-r (some k (λ j. eqb (d k j) h)) (every n (λ j. leb j k || ltb h (d k j))) e) j m in
-      cases (leb j k) (λ q. absurd (omega (arith, leb-true j k q))) (λ q. ltb-true h (d k j) (rw q at r))
-
-  pub level-is : (j : ℕ) → j < k → d k j ≡ h → ((i : ℕ) → k < i → i < n → h < d k i) → isLevel d n k h ≡ true
-  unfolding isLevel
-  level-is j l e p =
-      rw (some-is k (λ j. eqb (d k j) h) j l (eq-eqb (d k j) h e))
-      (every-is n _ (λ i m. cases (leb i k) (λ q. rw q) (λ q. rw (q, lt-ltb h (d k i) (p i (leb-false i k q) m)))))
-
 -- ## One last image: the balls ascend
-
-module _ (d : ℕ → ℕ → ℕ) (n k h : ℕ) where
-  ball-top : isLevel d n k h ≡ true → ball d n k h < 2 ^ suc k
-  ball-top e =
-      fits-below n (suc k) (ball d n k h) (ball-fits d n k h) (λ i l m.
-      holds-false (ball d n k h) i (cases (holds (ball d n k h) i)
-      (λ s. absurd (omega (arith, in-ball d n k h i m s, level-after d n k h e i (omega arith) m))) (λ s. s)))
-
-  -- so the images after k need not be looked at
-  pub ball-last : k < n → isLevel d n k h ≡ true → ball d (suc k) k h ≡ ball d n k h
-  ball-last l e =
-      holds-ext (suc k) (ball d (suc k) k h) (ball d n k h) (ball-fits d (suc k) k h) (ball-top e)
-      (λ i m s. ball-in d n k h i (omega arith) (in-ball d (suc k) k h i m s))
-      (λ i m s. ball-in d (suc k) k h i m (in-ball d n k h i (omega arith) s))
 
 -- f of the numbers from x on that pass p, ascending, where f grows on them
 between-levels : (f : ℕ → ℕ) (p : ℕ → Bool) (hi : ℕ) → ((x : ℕ) → p x ≡ true → f x < hi) → ((x y : ℕ) → x < y → p x ≡ true → p y ≡ true → f x < f y)

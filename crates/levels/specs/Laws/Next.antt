@@ -12,7 +12,7 @@ use Rattle.ground.specs.Least.{On, leastOn, lowerIf}
 use Rattle.ground.specs.Laws.Least.{leastOn-cap, leastOn-is, leastOn-le, leastOn-turn, le-leastOn}
 use Rattle.theory.specs.Tables.{WellFormed}
 use Rattle.levels.specs.Balls.{isLevel}
-use Rattle.levels.specs.Laws.Listed.{level-after, level-before, level-is}
+use Rattle.levels.specs.Laws.Levels.{level-after, level-before, level-is}
 use Rattle.levels.specs.Next.{afterHeight, nextHeight}
 
 one-if-is : (b : Bool) → one-if b ≡ 1 → b ≡ true

@@ -22,7 +22,7 @@ use Rattle.levels.specs.Balls.{ball}
 use Rattle.levels.specs.Groups.{Group, height}
 use Rattle.levels.specs.Laws.Balls.{ball-group, ball-in, ball-under, group-ball, in-ball}
 use Rattle.levels.specs.Laws.Clear.{Clear, clear-part, only, part-clear, part-fits, part-image}
-use Rattle.levels.specs.Laws.Groups.{holds-ext}
+use Rattle.levels.specs.Laws.Sets.{holds-ext}
 use Rattle.levels.specs.Laws.Heights.{height-le, le-height}
 use Rattle.levels.specs.Laws.LinkCosts.{alone-cost, alone-or-both, between, both-cost}
 use Rattle.levels.specs.Laws.Rest.{in-rest, rest-fits, rest-in}

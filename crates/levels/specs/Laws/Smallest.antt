@@ -18,9 +18,8 @@ use Rattle.theory.specs.Tables.{WellFormed}
 use Rattle.levels.specs.Balls.{ball}
 use Rattle.levels.specs.Groups.{Group, Smallest, height}
 use Rattle.levels.specs.Laws.Balls.{ball-group, ball-height, ball-in, group-ball, in-ball}
-use Rattle.levels.specs.Laws.Groups.{holds-ext}
 use Rattle.levels.specs.Laws.Heights.{height-at, le-height}
-use Rattle.levels.specs.Laws.Sets.{within-le}
+use Rattle.levels.specs.Laws.Sets.{holds-ext, within-le}
 use Rattle.leveling.specs.ThreePoint.{ThreePoint}
 
 -- contained sets are no larger numbers, so the smallest group is the first in the list that holds both

@@ -10,7 +10,7 @@ use Rattle.theory.specs.Tables.{WellFormed}
 use Rattle.levels.specs.Balls.{ball, foundAt, isLevel, levelsAt}
 use Rattle.levels.specs.Laws.Putting.{put-more, put-none}
 use Rattle.levels.specs.Laws.LevelList.{levels-fewer, levels-more, levels-none, levels-skip}
-use Rattle.levels.specs.Laws.Listed.{ball-last}
+use Rattle.levels.specs.Laws.Levels.{ball-last}
 use Rattle.levels.specs.Laws.Next.{after-most, after-none, next-least, next-none, zero-none}
 use Rattle.levels.specs.Next.{afterHeight, nextHeight}
 use Rattle.levels.specs.Putting.{PutLevels, putAt}
