@@ -10,7 +10,7 @@ use Rattle.ground.specs.declared.Check.{Check}
 use Rattle.ground.specs.declared.Check.the-variants.{Passed, Refused}
 use Rattle.theory.specs.Tables.{limit}
 use Rattle.figures.specs.Checks.{mostTables}
-use Rattle.report.specs.InOrder.{Stop, report-decides, report-numbers, reportSteps, room-unaltered, stopAt, tableNumbers, tablesIn}
+use Rattle.report.specs.InOrder.{Stop, report-decides, report-numbers, reportSteps, stopAt, tableNumbers, tablesIn}
 use Rattle.report.specs.Outcome.{LeftReport, reportOutcome}
 use Rattle.numbers.specs.Reports.{ofEnd, ofReport}
 use Rattle.numbers.specs.declared.KemotuikiHead.{KemotuikiHead}
@@ -18,6 +18,7 @@ use Rattle.numbers.specs.declared.KemotuikiReport.{KemotuikiReport}
 use Rattle.kemotuiki.specs.Crossing.{crossedReport}
 use Rattle.kemotuiki.specs.Laws.Refusals.{refusals}
 use Rattle.kemotuiki.specs.Refusals.{Refusals}
+use Rattle.report.specs.InOrder as reporting
 
 module _ (bytes f t s f′ t′ s′ : List ℕ) (r : KemotuikiReport) (p : LeftReport (crossedReport ofReport (reportOutcome limit bytes f t s)) r f′ t′ s′) where
   -- 3 with table number 0, then 9, 1, 9, 11, 4, 20, 15, 19 for each table in turn; the buffers are left out, since those of the tables before a
@@ -32,13 +33,13 @@ module _ (bytes f t s f′ t′ s′ : List ℕ) (r : KemotuikiReport) (p : Left
       headOf x = ofEnd (x .0) (x .1)
 
   -- but with table number 0 nothing is altered
-  pub room-unaltered-too : (r .head .number ≡ 0 → ⊥) → r .head .table ≡ 0 → (f′ ≡ f) × (t′ ≡ t) × (s′ ≡ s)
-  room-unaltered-too h z = go (reportOutcome limit bytes f t s .answer .stop) refl
+  pub room-unaltered : (r .head .number ≡ 0 → ⊥) → r .head .table ≡ 0 → (f′ ≡ f) × (t′ ≡ t) × (s′ ≡ s)
+  room-unaltered h z = go (reportOutcome limit bytes f t s .answer .stop) refl
     where
       go : (c : Check) → reportOutcome limit bytes f t s .answer .stop ≡ c → (f′ ≡ f) × (t′ ≡ t) × (s′ ≡ s)
       go Passed e =
           absurd (h (ap (λ (x : KemotuikiReport). x .head .number) (p .answered) ∙ ap (λ c. ofEnd (reportOutcome limit bytes f t s .answer .table) c .number) e))
       go (Refused q) e =
           let k = ap (λ (x : KemotuikiReport). x .head .table) (p .answered) ∙ ap (λ c. ofEnd (reportOutcome limit bytes f t s .answer .table) c .table) e in
-          let u = room-unaltered limit bytes f t s q e (sym k ∙ z) in
+          let u = reporting.room-unaltered limit bytes f t s q e (sym k ∙ z) in
           (p .far-sides ∙ u .0, p .tree-numbers ∙ u .1, p .cost-sums ∙ u .2)
