@@ -280,9 +280,9 @@ KemotuikiRows kemotuiki_exact_grafted(size_t n, const uint32_t *t, size_t t_coun
  * The reading of levels, for rooms that are wired in levels: it accepts a table exactly when of the entries of any three images the
  * largest occurs at least twice. A group is two or more images, a largest set in which every entry is at most some entry of the table,
  * and its height is the largest entry inside it, which is not doubled. The entry of two images is the height of the smallest group that
- * holds both; any two groups are nested or disjoint, and all images together are the last group. Each such table has a tree too: the
- * exact reading accepts it, and every group but the last is one side of a link of that tree. Groups are no link table, and no call over
- * link tables takes them.
+ * holds both, which is the first one written that does; any two groups are nested or disjoint, and all images together are the last.
+ * Each such table has a tree too: the exact reading accepts it, and every group but the last is one side of a link of that tree. Groups
+ * are no link table, and no call over link tables takes them.
  * Answers the groups written, from 1 to n-1: their member sums, ascending, to members, and their heights to heights. Room: n-1 places in
  * each. Refusals 1, 2, 3, 4, 5, 6, 20, 21; 21 names the first three images whose largest entry occurs once.
  */

@@ -1,4 +1,5 @@
 -- What the reading of levels is worth, as document 02 says it: the groups l of a table with levels, and their heights v. Assumes nothing.
+use mathlib.Core.Bool.{true}
 use mathlib.Core.List.{List, List·Memᴰ, map}
 use mathlib.Core.Logic.{_↔_}
 use mathlib.Core.Path.{refl, _≡_}
@@ -7,7 +8,7 @@ use lib.ListN.{length}
 use Rattle.ground.specs.Ascending.{Between}
 use Rattle.ground.specs.Filters.{Each}
 use Rattle.theory.specs.Demands.{exact-reading}
-use Rattle.theory.specs.FarSides.{Nested}
+use Rattle.theory.specs.FarSides.{Nested, holds}
 use Rattle.theory.specs.LinkTables.{Row}
 use Rattle.theory.specs.Readings.{Exact}
 use Rattle.theory.specs.Tables.{WellFormed}
@@ -17,7 +18,7 @@ use Rattle.levels.specs.Groups.{Group, Smallest, groups, height, heights
 use Rattle.levels.specs.Laws.Count.{groups-most}
 use Rattle.levels.specs.Laws.Groups.{groups-between, groups-mem}
 use Rattle.levels.specs.Links.{LevelTree, level-tree}
-use Rattle.levels.specs.Laws.Smallest.{all-group, groups-nested, smallest-exists, smallest-height}
+use Rattle.levels.specs.Laws.Smallest.{all-group, groups-nested, smallest-exists, smallest-height, within-number}
 
 pub record LevelReading (L : ℕ) (d : ℕ → ℕ → ℕ) (n : ℕ) (l v : List ℕ) : Type 0 where
   -- a set is listed exactly when it is a group; the list ascends by member sum
@@ -32,6 +33,8 @@ pub record LevelReading (L : ℕ) (d : ℕ → ℕ → ℕ) (n : ℕ) (l v : Lis
   -- the entry of two different images is the height of the smallest group that holds both
   pub smallest : (i j : ℕ) → i < n → j < n → (i ≡ j → ⊥) → (S : ℕ) × Smallest d n i j S
   pub entry : (i j : ℕ) → i < n → j < n → (i ≡ j → ⊥) → (S : ℕ) → Smallest d n i j S → height d n S ≡ d i j
+  -- which is the first of the list that holds both
+  pub first : (i j S R : ℕ) → Smallest d n i j S → Group d n R → holds R i ≡ true → holds R j ≡ true → S ≤ R
   -- the exact reading accepts the table, and the sides of its tree's links are the groups and the images (Links.antt)
   pub tree : (T : List Row) × Exact L d n T
   pub links : (T : List Row) → Exact L d n T → LevelTree d n T
@@ -46,6 +49,7 @@ level-reading L d n h c t = record {
   nested = λ S a R b. groups-nested L d n c t S R (groups-mem L d n c S .0 a) (groups-mem L d n c R .0 b);
   smallest = λ i j hi hj ne. (_, smallest-exists L d n c t i j hi hj ne);
   entry = smallest-height L d n c t;
+  first = λ i j S R p g ri rj. within-number n S R (p .group .is .fits) (p .least R g ri rj);
   tree = exact-reading L d n h c .accepted .0 (four L d n c t);
   links = λ T x. level-tree L d n T c t x;
 }

@@ -77,6 +77,21 @@ module _ (L : ℕ) (d : ℕ → ℕ → ℕ) (n : ℕ) (c : WellFormed L d n) (t
             (ball-in d n i (d i j) j hj (omega arith)),
       )
 
+  -- the height of a set is an entry of each of its images
+  pub height-from : (S i : ℕ) → i < n → holds S i ≡ true → (j : ℕ) × (j < n) × (holds S j ≡ true) × (d i j ≡ height d n S)
+  height-from S i hi si =
+      let r = height-at d n S i hi si in
+      let a = le-height d n S i (r .0) hi (r .2) si (r .4) in
+      let b = le-height d n S i (r .1) hi (r .3) si (r .5) in
+      cases (leb (height d n S) (d i (r .0)))
+      (λ e. (r .0, r .2, r .4, omega (arith, a, leb-true (height d n S) (d i (r .0)) e)))
+      (λ e. (
+        r .1,
+        r .3,
+        r .5,
+        omega (arith, b, r .6, leb-false (height d n S) (d i (r .0)) e, low t (r .2) (r .3) hi, c .same (r .2) hi, c .same (r .3) hi),
+      ))
+
   module _ (S : ℕ) (g : Group d n S) (i : ℕ) (hi : i < n) (si : holds S i ≡ true) where
     -- B4. A group is the ball of its own height around each of its images.
     pub group-ball : S ≡ ball d n i (height d n S)
@@ -92,18 +107,10 @@ module _ (L : ℕ) (d : ℕ → ℕ → ℕ) (n : ℕ) (c : WellFormed L d n) (t
     -- B5. Its height is the entry of that image with another one in it.
     pub group-entry : (j : ℕ) × (j < n) × (j ≡ i → ⊥) × (holds S j ≡ true) × (d i j ≡ height d n S)
     group-entry =
-        let r = height-at d n S i hi si in
-        cases (leb (d (r .0) (r .1)) (d i (r .0)))
-        (λ e. as-far (r .0) (r .2) (r .4) (omega (arith, r .6, leb-true (d (r .0) (r .1)) (d i (r .0)) e)))
-        (λ e. as-far (r .1) (r .3) (r .5)
-        (omega (arith, r .6, leb-false (d (r .0) (r .1)) (d i (r .0)) e, low t (r .2) (r .3) hi, c .same (r .2) hi, c .same (r .3) hi)))
-      where
-        as-far : (x : ℕ) → x < n → holds S x ≡ true → height d n S ≤ d i x
-            → (j : ℕ) × (j < n) × (j ≡ i → ⊥) × (holds S j ≡ true) × (d i j ≡ height d n S)
-        as-far x hx sx q =
-            cases (eqb x i)
-            (λ e.
-            let o = other n i S (g .is .fits) (g .two) in
-            let so = bit-holds S (o .0) (o .3) in
-            (o .0, o .1, o .2, so, omega (arith, q, ap (d i) (eqb-true x i e), c .self hi, le-height d n S i (o .0) hi (o .1) si so)))
-            (λ e. (x, hx, eqb-false x i e, sx, omega (arith, q, le-height d n S i x hi hx si sx)))
+        let r = height-from S i hi si in
+        cases (eqb (r .0) i)
+        (λ e.
+        let o = other n i S (g .is .fits) (g .two) in
+        let so = bit-holds S (o .0) (o .3) in
+        (o .0, o .1, o .2, so, omega (arith, r .3, ap (d i) (eqb-true (r .0) i e), c .self hi, le-height d n S i (o .0) hi (o .1) si so)))
+        (λ e. (r .0, r .1, eqb-false (r .0) i e, r .2, r .3))

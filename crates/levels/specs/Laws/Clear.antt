@@ -126,18 +126,3 @@ module _ (L : ℕ) (d : ℕ → ℕ → ℕ) (n : ℕ) (c : WellFormed L d n) wh
           c .same hi hk,
           c .same hi hl,
         )
-
-    -- the height of a set is an entry of each of its images
-    pub height-from : (S i : ℕ) → i < n → holds S i ≡ true → (j : ℕ) × (j < n) × (holds S j ≡ true) × (d i j ≡ height d n S)
-    height-from S i hi si =
-        let r = height-at d n S i hi si in
-        let a = le-height d n S i (r .0) hi (r .2) si (r .4) in
-        let b = le-height d n S i (r .1) hi (r .3) si (r .5) in
-        cases (leb (height d n S) (d i (r .0)))
-        (λ e. (r .0, r .2, r .4, omega (arith, a, leb-true (height d n S) (d i (r .0)) e)))
-        (λ e. (
-          r .1,
-          r .3,
-          r .5,
-          omega (arith, b, r .6, leb-false (height d n S) (d i (r .0)) e, low t (r .2) (r .3) hi, c .same (r .2) hi, c .same (r .3) hi),
-        ))

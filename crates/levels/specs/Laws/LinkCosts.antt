@@ -18,7 +18,8 @@ use Rattle.theory.specs.LinkTables.{Row, costOf}
 use Rattle.theory.specs.Readings.{Exact}
 use Rattle.theory.specs.Tables.{WellFormed}
 use Rattle.levels.specs.Groups.{height}
-use Rattle.levels.specs.Laws.Clear.{Clear, clear-same, height-from}
+use Rattle.levels.specs.Laws.Clear.{Clear, clear-same}
+use Rattle.levels.specs.Laws.Balls.{height-from}
 use Rattle.levels.specs.Laws.Heights.{le-height}
 use Rattle.levels.specs.Laws.LinkIndex.{link-cost}
 use Rattle.levels.specs.Laws.Rest.{in-rest, not-in-rest, rest-in, rest-not-in}

@@ -22,7 +22,8 @@ use Rattle.theory.specs.LinkTables.{Row, fars}
 use Rattle.theory.specs.Readings.{Exact}
 use Rattle.theory.specs.Tables.{WellFormed}
 use Rattle.levels.specs.Groups.{Group, height}
-use Rattle.levels.specs.Laws.Clear.{Clear, clear-choice, clear-group, height-from, part-clear, part-fits, part-image}
+use Rattle.levels.specs.Laws.Clear.{Clear, clear-choice, clear-group, part-clear, part-fits, part-image}
+use Rattle.levels.specs.Laws.Balls.{height-from}
 use Rattle.levels.specs.Laws.Heights.{le-height}
 use Rattle.levels.specs.Laws.LinkIndex.{far-of, index-link, link-index}
 use Rattle.levels.specs.Laws.Rest.{at-least-link, at-least-rest, in-rest, link-far, rest-fits, rest-in, rest-ones, rest-rest}
