@@ -10,5 +10,7 @@ pub mod Demand1Leaving
 pub mod Demand1Report
 -- What the readings, the consensus and the replay leave is taken by the calls over link tables as it stands.
 pub mod Onward
+-- The exact reading of a table whose levels were read.
+pub mod BothReadings
 -- What is true of it.
 pub mod Laws
