@@ -1,4 +1,6 @@
 // The rows of a link table that are bad: the first of them. Images and rows are counted from 0.
+#![tactic(auto)]
+
 ghost use Rattle.std.specs.Prelude.{◌≡◌, ◌<◌, ◌≤◌, length};
 ghost use Rattle.ground.specs.First.{first};
 ghost use Rattle.bad_rows.specs.BadRows.{crosses, bad_side, bad_cost, row_before, first_crossed, bad_row};

@@ -1,4 +1,6 @@
 // Link tables written one after another in one form, each into the rest of the lent buffer. Tables are numbered from 1; i counts those already passed.
+#![tactic(auto)]
+
 ghost use Rattle.std.specs.Prelude.{◌≡◌, ◌≤◌, drop, length};
 ghost use Rattle.ground.specs.Outcomes.{Left};
 ghost use Rattle.link_forms.specs.Form.{link_form};

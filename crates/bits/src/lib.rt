@@ -1,4 +1,6 @@
 // Fields of bits taken from a slice of bytes, most significant bit first, of any width up to 64; and what tells one stored form from another.
+#![tactic(auto)]
+
 ghost use Rattle.std.specs.Prelude.{◌≡◌, ◌*◌, ◌+◌, ◌/◌, ◌%◌, ◌^◌, ◌<◌, ◌≤◌, drop, length};
 ghost use Rattle.bits.specs.Kinds.{misplaced};
 ghost use Rattle.bits.specs.Editions.{edition_by, edition_of};

@@ -1,4 +1,6 @@
 // What image k brings to the rows over the first k images: which of them can stay, the sides that are asked for these, and the values.
+#![tactic(auto)]
+
 ghost use Rattle.std.specs.Prelude.{◌≡◌, ◌+◌, ◌-◌, ◌<◌, ◌≤◌, length};
 ghost use Rattle.ground.specs.Counts.{one_if};
 ghost use Rattle.theory.specs.Tables.{limit, cost, CostTable};

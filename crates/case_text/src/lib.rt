@@ -1,5 +1,7 @@
 // The text of the cases: decimal numbers one blank apart, a slice as its length and then its elements. What is read and
 // printed is not promised; it is held to the independent program's text.
+#![tactic(auto)]
+
 pub mod calls;
 
 ghost use Rattle.std.specs.Prelude.{◌≤◌, pos, ◌<ℤ◌};

@@ -1,5 +1,7 @@
 // Runs the cases of data/: for each call its name, and then a line for each case with the answer and what the call left in each
 // lent output. The independent program's text is the file stdout.
+#![tactic(auto)]
+
 mod listing_cases;
 mod text_cases;
 

@@ -1,5 +1,7 @@
 // What one image more, k, brings to all sides of a reading at once. A side is a number whose ones are the images on the other side
 // of k. For an image z the sides that hold z grow, so that one walk up and down them gives each what k brings with z.
+#![tactic(auto)]
+
 ghost use Rattle.std.specs.Prelude.{◌≡◌, ◌+◌, ◌*◌, ◌^◌, ◌<◌, ◌≤◌, min, get_or, length, set};
 ghost use Rattle.ground.specs.Bits.{bit};
 ghost use Rattle.ground.specs.Least.{least_on};

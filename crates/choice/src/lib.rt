@@ -1,5 +1,7 @@
 // The choice between two stored link tables: the one whose inner far sides include all of the other's, the first if both do. Each is read in
 // the form that its own bytes tell. Bytes behind either table are ignored.
+#![tactic(auto)]
+
 ghost use Rattle.std.specs.Prelude.{◌≡◌, ◌≤◌, ◌^◌, length};
 ghost use Rattle.ground.specs.Ascending.{Between};
 ghost use Rattle.ground.specs.Refusals.{refusal};

@@ -1,4 +1,6 @@
 // The rows of a link table that passed its checks: a path cost summed row by row, upper rows, and the climb from row to row.
+#![tactic(auto)]
+
 ghost use Rattle.std.specs.Prelude.{◌≡◌, ◌<◌, ◌≤◌, ◌*◌, ◌+◌, ◌-◌, length, get_or};
 ghost use Rattle.std.proofs.lemmas.List.Edits.{sets};
 ghost use Rattle.ground.specs.Buffers.{over};

@@ -1,5 +1,7 @@
 // Two cost tables compared by their trees. It rests on the promise of the tree part alone: each table is read exactly, and only what
 // that call promises is used.
+#![tactic(auto)]
+
 ghost use Rattle.std.specs.Prelude.{◌≡◌, ◌≤◌, ◌^◌, length};
 ghost use Rattle.ground.specs.Ascending.{Between};
 ghost use Rattle.theory.specs.Tables.{limit};

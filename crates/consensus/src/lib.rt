@@ -1,5 +1,7 @@
 // The links that the trees of a team share. It rests on the promise of the tree part alone: each table is read exactly, and only what
 // that call promises is used. The trees are met one after another, and nothing lent is written before the last table is accepted.
+#![tactic(auto)]
+
 ghost use Rattle.std.specs.Prelude.{◌≡◌, ◌<◌, ◌≤◌, ◌*◌, ◌+◌, ◌-◌, length};
 ghost use Rattle.theory.specs.Outcomes.{LeftRows};
 ghost use Rattle.theory.specs.Tables.{limit};

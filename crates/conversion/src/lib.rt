@@ -1,5 +1,7 @@
 // Stored tables written anew in the form that is asked for. Each conversion reads the table in front of the lent bytes, in either form, and
 // ignores what follows it.
+#![tactic(auto)]
+
 ghost use Rattle.std.specs.Prelude.{◌≡◌, ◌*◌, ◌≤◌, length};
 ghost use Rattle.ground.specs.Buffers.{front};
 ghost use Rattle.ground.specs.Outcomes.{Left};

@@ -1,4 +1,6 @@
 // The entries of a cost table put as fields of bits, row by row. Images are counted from 0.
+#![tactic(auto)]
+
 ghost use Rattle.std.specs.Prelude.{◌≡◌, ◌*◌, ◌+◌, ◌-◌, ◌<◌, ◌≤◌, length};
 ghost use Rattle.ground.specs.Buffers.{front};
 ghost use Rattle.theory.specs.Tables.{cost, CostTable, limit};

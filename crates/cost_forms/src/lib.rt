@@ -1,4 +1,6 @@
 // The forms of the stored cost table: where its rows and entries stand, and a field of it. Images are counted from 0.
+#![tactic(auto)]
+
 ghost use Rattle.std.specs.Prelude.{◌≡◌, ◌+◌, ◌≤◌, length};
 ghost use Rattle.bits.specs.Bits.{FieldWithin, bits, part, value_of};
 ghost use Rattle.bits.specs.Forms.{bytes_for};

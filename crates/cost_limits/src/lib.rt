@@ -1,4 +1,6 @@
 // The checks of a cost table that is to be written under the limit of a form. Images are counted from 0.
+#![tactic(auto)]
+
 ghost use Rattle.std.specs.Prelude.{◌≡◌, ◌+◌, ◌-◌, ◌<◌, ◌≤◌};
 ghost use Rattle.ground.specs.Lowest.{check_all};
 ghost use Rattle.ground.specs.Refusals.{◌then◌};

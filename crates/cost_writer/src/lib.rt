@@ -1,4 +1,6 @@
 // Writing a stored cost table. The functions below the public calls take the form as an argument. Images are counted from 0.
+#![tactic(auto)]
+
 ghost use Rattle.std.specs.Prelude.{length};
 ghost use Rattle.ground.specs.Outcomes.{Left};
 ghost use Rattle.ground.specs.Refusals.{room_check};

@@ -1,4 +1,6 @@
 // One table more in a term report: it gets 7 and is counted apart, or its tree is counted. A table is judged whole before its first store.
+#![tactic(auto)]
+
 ghost use Rattle.std.specs.Prelude.{◌+◌, ◌-◌};
 ghost use Rattle.figures.specs.Tables.{table_of};
 ghost use Rattle.counting.specs.Taking.{SomeTable, SomeTree, TableTaken, TreeTaken};

@@ -1,4 +1,6 @@
 // How far two lists of far sides differ: inner ones of each, common ones, and those in exactly one. Both lists ascend strictly.
+#![tactic(auto)]
+
 ghost use Rattle.std.specs.Prelude.{◌≡◌, ◌≤◌, ◌^◌, length};
 ghost use Rattle.ground.specs.Ascending.{Between};
 ghost use Rattle.theory.specs.Comparison.{common, inners};

@@ -1,4 +1,6 @@
 // The refusals of an event: an image leaves, named by its number, counted from 1.
+#![tactic(auto)]
+
 ghost use Rattle.std.specs.Prelude.{◌≡◌, ◌≤◌};
 ghost use Rattle.events.specs.Checks.{event_check};
 

@@ -1,4 +1,6 @@
 // The far end of a cost table, where the ring of the listing closes: the image farthest from image 1. Images are counted from 0.
+#![tactic(auto)]
+
 ghost use Rattle.std.specs.Prelude.{◌≡◌, ◌<◌};
 ghost use Rattle.theory.specs.Tables.{cost, limit, CostTable};
 ghost use Rattle.far_end.specs.FarEnd.{far_end, farther_of};

@@ -1,4 +1,6 @@
 // The places of a cost table filled from its stored form, in whichever form. Images are counted from 0.
+#![tactic(auto)]
+
 ghost use Rattle.std.specs.Prelude.{◌≡◌, ◌*◌, ◌+◌, ◌<◌, ◌≤◌, length};
 ghost use Rattle.ground.specs.Buffers.{front};
 ghost use Rattle.theory.specs.Tables.{cost};

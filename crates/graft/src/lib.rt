@@ -2,6 +2,8 @@
 // recognition formula of document 001, and one image after another is grafted. It answers as `tree::exact` does on every argument, in
 // a time that grows with n² where the table is accepted. Of the first engine it has the checks before 7, the search for the four
 // images once the formula has failed, and the copy of the rows.
+#![tactic(auto)]
+
 ghost use Rattle.std.specs.Prelude.{true, ◌≡◌, ◌-◌, ◌*◌, ◌≤◌, length};
 ghost use Rattle.ground.specs.Refusals.{places_if};
 ghost use Rattle.theory.specs.Outcomes.{LeftRows};

@@ -1,6 +1,8 @@
 // Grafting: the images are taken in an order, and each is grafted onto the path from the first image to the one placed before. The path
 // is cut where the new image leaves it; what lies behind is closed, that is, put into the table, since no later image changes it. All
 // costs are doubled. Images are counted from 0 but in the order, and places in the order from 0.
+#![tactic(auto)]
+
 ghost use Rattle.std.specs.Prelude.{◌≡◌, suc, ◌+◌, ◌<◌, ◌≤◌, length};
 ghost use Rattle.theory.specs.Tables.{limit, cost, CostTable};
 ghost use Rattle.recognition.specs.Seats.{Seated};

@@ -1,5 +1,7 @@
 // What every crate uses and that says nothing of images: refusals, a range, a bit of a number, the lower of two numbers and their
 // difference, a turn of a merge.
+#![tactic(auto)]
+
 ghost use Rattle.std.specs.Prelude.{◌≡◌, ◌^◌, ◌<◌, min, pos, ◌-ℤ◌};
 ghost use Rattle.ground.specs.Bits.{bit};
 ghost use Rattle.ground.specs.Merges.{advance};

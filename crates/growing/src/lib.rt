@@ -1,4 +1,6 @@
 // One image more: the rows that a reading has with it, from those that it had before. Images are counted from 0.
+#![tactic(auto)]
+
 ghost use Rattle.std.specs.Prelude.{◌≡◌, ◌+◌, ◌<◌, ◌≤◌, length};
 ghost use Rattle.theory.specs.Tables.{limit, cost, CostTable};
 ghost use Rattle.growing.specs.Held.{RowsHeld};

@@ -1,4 +1,6 @@
 // The index of a division, one image more at a time. Images are counted from 0.
+#![tactic(auto)]
+
 ghost use Rattle.std.specs.Prelude.{◌≡◌, ◌*◌, ◌≤◌, pos, ◌-ℤ◌};
 ghost use Rattle.ground.specs.Bits.{bit};
 ghost use Rattle.theory.specs.FarSides.{FarSide};

@@ -1,5 +1,7 @@
 // What one image more brings to the index of a division: the images of both sides in two lists, and the least value over them. Images are
 // counted from 0.
+#![tactic(auto)]
+
 ghost use Rattle.std.specs.Prelude.{◌≡◌, ◌+◌, ◌-◌, ◌*◌, ◌<◌, ◌≤◌, min, get_or, length};
 ghost use Rattle.ground.specs.Bits.{bit};
 ghost use Rattle.theory.specs.OneMore.{brought_fast};

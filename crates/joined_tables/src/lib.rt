@@ -1,4 +1,6 @@
 // The tables of a batch: the checks of the next one, and their stored forms in one form, each written into the rest of the lent buffer.
+#![tactic(auto)]
+
 ghost use Rattle.std.specs.Prelude.{◌≡◌, ◌≤◌, ◌<◌, drop, get_or, length, take};
 ghost use Rattle.ground.specs.Buffers.{front};
 ghost use Rattle.link_forms.specs.Form.{link_bytes, link_form, link_used};

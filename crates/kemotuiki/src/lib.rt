@@ -1,5 +1,7 @@
 // The public calls for C and Fortran. Each is thin: it makes the Rattle call and turns the answer into numbers. A slice crosses as a
 // pointer and a count.
+#![tactic(auto)]
+
 ghost use Rattle.std.specs.Prelude.{◌≡◌};
 ghost use Rattle.ground.specs.Outcomes.{Left};
 ghost use Rattle.theory.specs.Outcomes.{LeftRows};

@@ -1,5 +1,7 @@
 // Images that leave: a trace of events is replayed, and after each one the link table is mended from its own rows. Images are counted
 // from 1 in events, from 0 below.
+#![tactic(auto)]
+
 ghost use Rattle.std.specs.Prelude.{◌≡◌, ◌-◌, ◌*◌, ◌≤◌, length};
 ghost use Rattle.ground.specs.Refusals.{◌then◌};
 ghost use Rattle.ground.specs.declared.Check.TheVariants.{Passed};

@@ -1,5 +1,7 @@
 // The cases of images that leave: n, the cost table of the start, the events, and the two outputs. Each function reads the arguments,
 // makes the call, prints what it answers and leaves, and gives the place behind the case.
+#![tactic(auto)]
+
 use case_text::{
     number_at, show_first, show_next, show_refusal, show32, show64, take8, take32, take64,
 };

@@ -1,5 +1,7 @@
 // The cases of the levels: n, the cost table, and the two outputs; and of their listing: stored bytes. Each function reads the arguments,
 // makes the call, prints what it answers and leaves, and gives the place behind the case.
+#![tactic(auto)]
+
 use case_text::calls::LEVELS;
 use case_text::{
     number_at, show_first, show_written, show8, show32, show64, take8, take32, take64,

@@ -1,4 +1,6 @@
 // Whether a cost table has levels, by the three-point condition. Images are counted from 0.
+#![tactic(auto)]
+
 ghost use Rattle.std.specs.Prelude.{true, ◌↔◌, ◌≡◌, ◌<◌};
 ghost use Rattle.theory.specs.Tables.{limit, cost, CostTable};
 ghost use Rattle.leveling.specs.Check.{levels_check};

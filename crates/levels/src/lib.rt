@@ -1,4 +1,6 @@
 // Level clusters: a cost table read as groups of images, each with its height. Images are counted from 0.
+#![tactic(auto)]
+
 ghost use Rattle.std.specs.Prelude.{◌≡◌, suc, ◌+◌, ◌-◌, ◌^◌, ◌<◌, ◌≤◌, eqb, leb, length};
 ghost use Rattle.ground.specs.Counts.{one_if};
 ghost use Rattle.ground.specs.Least.{lower_if};

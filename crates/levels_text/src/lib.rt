@@ -1,5 +1,7 @@
 // The text that the program `listing_levels` prints: the groups of one stored cost table, in either form, each with its height and its images;
 // or the refusal. Every function that writes answers the place behind its text.
+#![tactic(auto)]
+
 ghost use Rattle.std.specs.Prelude.{◌<◌, ◌≤◌, length};
 ghost use Rattle.theory.specs.Tables.{CostTable, limit};
 ghost use Rattle.listing_text.specs.Listing.{Within};

@@ -1,4 +1,6 @@
 // The forms of the stored link table: where its rows stand, and the places of a table filled from either. Images and rows are counted from 0.
+#![tactic(auto)]
+
 ghost use Rattle.std.specs.Prelude.{◌≡◌, ◌*◌, ◌+◌, ◌-◌, ◌≤◌, length};
 ghost use Rattle.ground.specs.Buffers.{front};
 ghost use Rattle.bits.specs.Bits.{bits, part, value_of};

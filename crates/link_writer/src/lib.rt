@@ -1,4 +1,6 @@
 // Writing a stored link table. The functions below the public calls take the form as an argument. Images and rows are counted from 0.
+#![tactic(auto)]
+
 ghost use Rattle.std.specs.Prelude.{◌≡◌, ◌*◌, ◌≤◌, get_or, length};
 ghost use Rattle.ground.specs.Buffers.{front};
 ghost use Rattle.ground.specs.First.{first};

@@ -1,4 +1,6 @@
 // Link tables: the checks that one passes or is refused by, and the row of an own link. Images and rows are counted from 0 but in refusals.
+#![tactic(auto)]
+
 ghost use Rattle.std.specs.Prelude.{◌≡◌, ◌<◌, ◌≤◌, length};
 ghost use Rattle.ground.specs.First.{first};
 ghost use Rattle.ground.specs.Members.{place_of};

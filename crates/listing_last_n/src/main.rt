@@ -1,5 +1,7 @@
 // Prints the listing whose order ends with image n, for ring scripts that were built on it, of the stored cost table, in either
 // form, that standard input begins with. What was read counts as the input, also where a read fails.
+#![tactic(auto)]
+
 use libc::{STDIN_FILENO, STDOUT_FILENO};
 use listing_text::LONGEST_TABLE;
 

@@ -1,5 +1,7 @@
 // Prints the groups of the stored cost table, in either form, that standard input begins with, each with its height and its images; or the
 // line of its refusal. What was read counts as the input, also where a read fails.
+#![tactic(auto)]
+
 use libc::{STDIN_FILENO, STDOUT_FILENO};
 use listing_text::LONGEST_TABLE;
 

@@ -1,4 +1,6 @@
 // The lines of a listing. Every function takes the place where its text begins and answers the place behind it.
+#![tactic(auto)]
+
 ghost use Rattle.std.specs.Prelude.{◌≤◌, length};
 ghost use Rattle.listing_lines.specs.Lines.{header, order_line, reading_text, refused_line, row_line, row_lines};
 ghost use Rattle.text.specs.Putting.{Fits, Put};

@@ -1,5 +1,7 @@
 // The text of the listing programs: the exact reading of one stored cost table, in either form. The two programs differ in the last image
 // of the order alone. Every function that writes answers the place behind its text.
+#![tactic(auto)]
+
 ghost use Rattle.std.specs.Prelude.{◌≡◌, ◌≤◌, length};
 ghost use Rattle.theory.specs.Tables.{CostTable, limit};
 ghost use Rattle.listing_lines.specs.Lines.{room};

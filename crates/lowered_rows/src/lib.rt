@@ -1,4 +1,6 @@
 // Rows in two local arrays, over one image more: each old row with its cost lowered, put behind those that stay. Images are counted from 0.
+#![tactic(auto)]
+
 ghost use Rattle.std.specs.Prelude.{◌≡◌, ◌-◌, ◌*◌, ◌<◌, ◌≤◌, min, length};
 ghost use Rattle.ground.specs.Counts.{one_if};
 ghost use Rattle.theory.specs.OneMore.{stays};

@@ -1,4 +1,6 @@
 // The link table once an image has left, mended from its own rows. Images are counted from 0.
+#![tactic(auto)]
+
 ghost use Rattle.std.specs.Prelude.{◌≡◌, suc, ◌<◌, ◌^◌, ◌≤◌};
 ghost use Rattle.tree.specs.LocalRows.{rows_in};
 ghost use Rattle.rows.specs.Putting.{PutRoom};

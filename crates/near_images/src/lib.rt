@@ -1,4 +1,6 @@
 // The image that is nearest to a new one, k, as seen from image 0, the images near where the two part, and which rows may stay by them.
+#![tactic(auto)]
+
 ghost use Rattle.std.specs.Prelude.{◌≡◌, ◌+◌, ◌<◌, ◌≤◌, ltb};
 ghost use Rattle.theory.specs.Tables.{limit, cost, CostTable};
 ghost use Rattle.upper_sides.specs.Chains.{pick};

@@ -1,5 +1,7 @@
 // Prints the Newick text of the exact reading of the stored cost table, in either form, that standard input begins with, and a newline; or
 // the line of its refusal. What was read counts as the input, also where a read fails.
+#![tactic(auto)]
+
 use libc::{STDIN_FILENO, STDOUT_FILENO};
 use listing_text::LONGEST_TABLE;
 

@@ -1,4 +1,6 @@
 // What may follow where a Newick text stands, by numbers alone: whether a bracket may open, and an image begin or have a second digit.
+#![tactic(auto)]
+
 ghost use Rattle.std.specs.Prelude.{◌≡◌};
 ghost use Rattle.newick_allowed.specs.Tests.{begun, first_place, grown, more, opened};
 

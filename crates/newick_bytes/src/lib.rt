@@ -1,5 +1,7 @@
 // What the next byte of Newick text makes of what was read. Of that only numbers are kept: how many brackets are open, how many vertices the
 // innermost holds, 3 for more, and the same of those around it, in places that the caller lends. The loop over the bytes is in `newick_scan`.
+#![tactic(auto)]
+
 ghost use Rattle.std.specs.Prelude.{◌≡◌, ◌<◌, ◌≤◌, length};
 ghost use Rattle.newick_bytes.specs.Seen.{Bounded, is_dead_seen, is_done_seen};
 ghost use Rattle.newick_bytes.specs.Next.{blank_next, closed, cost_next, digit_next, ended_next, head_next};

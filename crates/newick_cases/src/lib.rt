@@ -1,5 +1,7 @@
 // The cases of the calls for Newick text: the writer, whose cases begin with a link table, and the reader, whose cases begin with the bytes
 // of a text. Each function reads the arguments, makes its call, prints what it answers and leaves, and gives the place behind the case.
+#![tactic(auto)]
+
 use case_text::calls::WRITE_NEWICK;
 use case_text::{
     number_at, show_first, show_next, show_refusal, show_written, show8, show32, show64, take8,

@@ -1,5 +1,7 @@
 // The line that the program `newick` prints: the Newick text of the exact reading of one stored cost table, in either form, or its refusal.
 // Every function that writes answers the place behind its text.
+#![tactic(auto)]
+
 ghost use Rattle.std.specs.Prelude.{◌≤◌, length};
 ghost use Rattle.theory.specs.LinkTables.{rows_of};
 ghost use Rattle.theory.specs.Tables.{CostTable, limit};

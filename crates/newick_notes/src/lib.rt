@@ -1,4 +1,6 @@
 // What is noted of a Newick text on the way through its bytes: images named, vertices complete with their costs, and brackets that close.
+#![tactic(auto)]
+
 ghost use Rattle.std.specs.Prelude.{◌≡◌, ◌<◌, ◌≤◌};
 ghost use Rattle.newick_text.specs.Noting.{image_bit, lower_place, mark};
 ghost use Rattle.newick_notes.specs.Stacks.{stacks};

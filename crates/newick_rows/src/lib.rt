@@ -1,4 +1,6 @@
 // The rows of a link table put as Newick text, by their upper rows. Rows are counted from 0, upper rows from 1.
+#![tactic(auto)]
+
 ghost use Rattle.std.specs.Prelude.{◌≡◌, ◌≤◌, length, replicate};
 ghost use Rattle.newick_text.specs.LinkTrees.{image_of};
 ghost use Rattle.newick_text.specs.Trees.{listed};

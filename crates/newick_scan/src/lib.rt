@@ -1,5 +1,7 @@
 // Newick text of trees on one way through its bytes: whether it is of the profile, and what it says. Where a text is not of the profile, what
 // was noted of it is of no use.
+#![tactic(auto)]
+
 ghost use Rattle.std.specs.Prelude.{◌≡◌, ◌<◌, ◌≤◌, eqb, length};
 ghost use Rattle.newick_notes.specs.Stacks.{stacks};
 ghost use Rattle.newick_notes.specs.Turns.{Begun};

@@ -1,5 +1,7 @@
 // Every answer of a public call as a struct of numbers, so that it can cross to C and Fortran. Each kind of answer has a struct of its own;
 // all begin with the same head. Every field is a machine word, so that no struct has padding.
+#![tactic(auto)]
+
 ghost use Rattle.std.specs.Prelude.{◌≡◌};
 ghost use Rattle.numbers.specs.Heads.{accepted, refused};
 ghost use Rattle.numbers.specs.Levels.{of_levels};

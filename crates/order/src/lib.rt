@@ -1,4 +1,6 @@
 // The order around the tree: from first to last through all images. Images are counted from 0 below the public call.
+#![tactic(auto)]
+
 ghost use Rattle.std.specs.Prelude.{◌≡◌};
 ghost use Rattle.ground.specs.Outcomes.{Left};
 ghost use Rattle.theory.specs.Tables.{limit};

@@ -1,5 +1,7 @@
 // The images of a cost table in the order around the tree, written from its end: each is the next to the left of the one before. Images are
 // counted from 0.
+#![tactic(auto)]
+
 ghost use Rattle.std.specs.Prelude.{◌≡◌, map, suc, ◌+◌, ◌<◌, ◌≤◌, ◌^◌, ltb, length, set};
 ghost use Rattle.std.specs.Int.Bits.{bit_or};
 ghost use Rattle.ground.specs.Buffers.{front};

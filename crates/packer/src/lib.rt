@@ -1,5 +1,7 @@
 // Packs fields of bits into lent bytes, most significant bit first, of any width up to 64. Bits are gathered in a number that goes by value
 // from field to field; whole bytes leave it as soon as they are full. Each byte is stored once, and none is loaded.
+#![tactic(auto)]
+
 ghost use Rattle.std.specs.Prelude.{[], ◌≡◌, max, ◌%◌, ◌*◌, ◌+◌, ◌-◌, ◌<◌, ◌≤◌, length, set};
 ghost use Rattle.bits.specs.Bits.{bits_of};
 ghost use Rattle.bits.specs.Forms.{bytes_for};

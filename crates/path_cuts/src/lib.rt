@@ -1,5 +1,7 @@
 // A path from the first image, cut where a new image leaves it: how far from the first image that is, and what of the path stays. All costs
 // are doubled. Images are counted from 0 but in the order, and places in the order from 0.
+#![tactic(auto)]
+
 ghost use Rattle.std.specs.Prelude.{◌≡◌, suc, ◌+◌, ◌-◌, ◌<◌, length};
 ghost use Rattle.theory.specs.Tables.{limit, cost, CostTable};
 ghost use Rattle.recognition.specs.Recognition.{placed};

@@ -1,4 +1,6 @@
 // Words, and the places of a refusal behind them; and the two refusals whose places decide their words.
+#![tactic(auto)]
+
 ghost use Rattle.std.specs.Prelude.{◌++◌, ◌∷◌, [], ◌+◌, ◌≤◌, length};
 ghost use Rattle.text.specs.Fields.{fields};
 ghost use Rattle.text.specs.Putting.{Put};

@@ -1,4 +1,6 @@
 // What stands at a bit position of stored bytes, a table in the form that its bytes tell or a field, and where one who reads it then stands.
+#![tactic(auto)]
+
 ghost use Rattle.std.specs.Prelude.{◌≡◌, ◌+◌, ◌/◌, ◌<◌, ◌^◌, ltb};
 ghost use Rattle.ground.specs.Outcomes.{Left};
 ghost use Rattle.theory.specs.Outcomes.{LeftRows};

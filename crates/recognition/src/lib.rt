@@ -1,5 +1,7 @@
 // Document 001's recognition of a tree: the images are taken in the order from 1 with last n, and each new entry is checked by the
 // formula, n²/2 checks in all. Images are counted from 0 but in the order, and places in the order from 0.
+#![tactic(auto)]
+
 ghost use Rattle.std.specs.Prelude.{◌≡◌, ◌+◌, ◌-◌, ◌<◌, max};
 ghost use Rattle.theory.specs.Tables.{limit, cost, CostTable};
 ghost use Rattle.recognition.specs.Recognition.{all_graft, formula, grafts, placed};

@@ -1,4 +1,6 @@
 // The text of a refusal, for those who read it: words, the refusal's places, and in front the table that it is about.
+#![tactic(auto)]
+
 ghost use Rattle.std.specs.Prelude.{◌+◌, ◌≤◌, length};
 ghost use Rattle.ground.specs.Outcomes.{Left};
 ghost use Rattle.text.specs.Putting.{Put};

@@ -1,5 +1,7 @@
 // The term report over up to 500 stored cost tables of one n, read one after another. The figures of the tables before stand in the three
 // lent slices all the time: a table is judged whole before its first store.
+#![tactic(auto)]
+
 ghost use Rattle.std.specs.Prelude.{◌≡◌, ◌+◌, ◌-◌, length};
 ghost use Rattle.theory.specs.Tables.{limit};
 ghost use Rattle.report.specs.Outcome.{LeftReport, outcome, report_outcome, short};

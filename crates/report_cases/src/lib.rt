@@ -1,6 +1,8 @@
 // The cases of the term report: how many bytes of the case before are kept in front, the pieces of bytes behind these, each with how
 // often it stands there, and the three lent slices, each as its length and the number that it is full of. What a call leaves in a slice is
 // printed as the places in front, as many as there are far sides, and how many behind them hold what they held.
+#![tactic(auto)]
+
 ghost use Rattle.io.specs.Counts.{IsPrefixLen};
 
 use case_text::{

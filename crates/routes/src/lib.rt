@@ -1,4 +1,6 @@
 // Path costs, upper rows and routes of a link table, which is checked first.
+#![tactic(auto)]
+
 ghost use Rattle.std.specs.Prelude.{◌≡◌};
 ghost use Rattle.ground.specs.Refusals.{◌then◌};
 ghost use Rattle.ground.specs.Outcomes.{Left};

@@ -1,5 +1,7 @@
 // What is said of a refusal, for those who read it: words, and the refusal's places behind them. No match has more than five arms, since the
 // time of a proof grows faster than the arms.
+#![tactic(auto)]
+
 ghost use Rattle.std.specs.Prelude.{◌+◌, ◌≤◌, length};
 ghost use Rattle.text.specs.Putting.{Put};
 ghost use Rattle.phrases.specs.Said.{saying_text};

@@ -1,4 +1,6 @@
 // The settled examples of document 01, proved of the definitions in specs/Claim.antt. The code says only how many they are.
+#![tactic(auto)]
+
 ghost use Rattle.std.specs.Prelude.{◌≡◌, length};
 ghost use Rattle.settled.specs.Examples.{settled};
 

@@ -1,4 +1,6 @@
 // The rows that two trees share, by one merge.
+#![tactic(auto)]
+
 ghost use Rattle.std.specs.Prelude.{◌≡◌, ◌<◌, ◌≤◌, ◌^◌, length, take};
 ghost use Rattle.ground.specs.Ascending.{Between};
 ghost use Rattle.shared_rows.specs.Merge.{Met, RowKept, met_cost, one_same};

@@ -1,5 +1,7 @@
 // The cases of calls that read stored bytes: the two readers, the choice, and a reader that is held.
 // Each function reads the arguments, makes the call, prints what it answers and leaves, and gives the place behind the case.
+#![tactic(auto)]
+
 pub mod byte_cases;
 pub mod choice_cases;
 pub mod reader_cases;

@@ -1,4 +1,6 @@
 // The stored link table read. The functions below the public calls take the form as an argument. Images and rows are counted from 0.
+#![tactic(auto)]
+
 ghost use Rattle.std.specs.Prelude.{◌≡◌, ◌+◌, ◌≤◌, length, take};
 ghost use Rattle.ground.specs.declared.Check.TheVariants.{Passed};
 ghost use Rattle.theory.specs.Outcomes.{LeftRows};

@@ -1,5 +1,7 @@
 // The text of the listing of a cost table: its exact reading, by either engine, and the order from 1 with a given last image. Every function
 // answers the place behind its text.
+#![tactic(auto)]
+
 ghost use Rattle.std.specs.Prelude.{◌≤◌, length};
 ghost use Rattle.theory.specs.Routes.{uppers};
 ghost use Rattle.theory.specs.Tables.{CostTable, limit};

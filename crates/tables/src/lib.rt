@@ -1,4 +1,6 @@
 // Cost tables: an entry, and the checks that a table passes or is refused by. Images are counted from 0.
+#![tactic(auto)]
+
 ghost use Rattle.std.specs.Prelude.{◌≡◌, ◌+◌, ◌-◌, ◌<◌, ◌≤◌, ◌*◌};
 ghost use Rattle.ground.specs.Lowest.{check_all};
 ghost use Rattle.theory.specs.Tables.{limit, cost, CostTable};

@@ -1,6 +1,8 @@
 // Prints the term report over the stored cost tables, in either form, that standard input holds one behind another, up to 500: figures, a
 // line for each far side seen, and where a table was refused its number and refusal. What was read counts as the input, also where a read
 // fails.
+#![tactic(auto)]
+
 use libc::{STDIN_FILENO, STDOUT_FILENO};
 use term_text::LONGEST_INPUT;
 

@@ -1,5 +1,7 @@
 // The text that the program `term` prints: the term report over the stored cost tables in the bytes. Every function that writes takes the
 // place where its text begins and answers the place behind it.
+#![tactic(auto)]
+
 ghost use Rattle.std.specs.Prelude.{◌++◌, ◌≤◌, length};
 ghost use Rattle.listing_lines.specs.Lines.{row_line, row_lines};
 ghost use Rattle.term_text.specs.Lines.{end_line, figures_line, pairs_line, sides_line};

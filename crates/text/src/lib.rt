@@ -1,5 +1,7 @@
 // Text in a lent slice of bytes: a word, a number by its decimal digits, a number behind a blank. Every function that writes takes the place
 // where its text begins and answers the place behind it.
+#![tactic(auto)]
+
 ghost use Rattle.std.specs.Prelude.{◌∷◌, [], ◌≡◌, ◌<◌, length};
 ghost use Rattle.text.specs.Decimal.{decimal};
 ghost use Rattle.text.specs.Fields.{field, fields};

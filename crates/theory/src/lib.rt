@@ -1,5 +1,7 @@
 // The meaning of everything is in specs/. Here stand only the limits, the check that every call begins with, and the one test
 // that a definition names as code.
+#![tactic(auto)]
+
 ghost use Rattle.std.specs.Prelude.{◌≡◌};
 ghost use Rattle.theory.specs.Checks.{images_check};
 ghost use Rattle.theory.specs.FarSides.{inner};

@@ -1,4 +1,6 @@
 // The two readings of a cost table as a tree. Images are counted from 0.
+#![tactic(auto)]
+
 ghost use Rattle.std.specs.Prelude.{◌≡◌, ◌-◌, ◌*◌, ◌≤◌, length};
 ghost use Rattle.ground.specs.Buffers.{over};
 ghost use Rattle.theory.specs.Outcomes.{LeftRows};

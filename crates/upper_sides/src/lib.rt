@@ -1,5 +1,7 @@
 // Sides in a list such that those that hold an image grow: the upper side of each, and the first side of each image. A side is a number
 // whose ones are the images on the other side of the new one.
+#![tactic(auto)]
+
 ghost use Rattle.std.specs.Prelude.{◌≡◌, ◌+◌, ◌-◌, ◌<◌, ◌≤◌, eqb, length};
 ghost use Rattle.std.specs.Int.Bits.{bit_and};
 ghost use Rattle.std.specs.Int.Count.{count_trailing_zeros};

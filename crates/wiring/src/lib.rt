@@ -1,4 +1,6 @@
 // Whether some wiring gives a cost table, by the four-point condition. Images are counted from 0.
+#![tactic(auto)]
+
 ghost use Rattle.std.specs.Prelude.{◌≡◌, ◌+◌, ◌<◌, ltb};
 ghost use Rattle.theory.specs.FourPoint.{times_largest, fails, four};
 ghost use Rattle.theory.specs.Tables.{limit, cost, CostTable};

@@ -1,5 +1,7 @@
 // The cases of calls that write stored bytes, which all begin with the form: the two writers, the batch, and the two conversions. Each
 // function reads the other arguments, makes its call, prints what it answers and leaves, and gives the place behind the case.
+#![tactic(auto)]
+
 mod batch_cases;
 
 use bits::Edition;

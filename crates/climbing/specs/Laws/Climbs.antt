@@ -76,6 +76,7 @@ climb_between l (suc m) (suc p) h =
 
 -- an ascending list that has its highest element ends with it
 pub ends_with : (m N : ℕ) (l : List ℕ) → Between m l (suc N) → Memᴰ N l → get_or l (length l - 1) 0 ≡ N
+ends_with m N [] b h = elim h [ ]
 ends_with m N (x ∷ []) b (Memᴰ.head e) = sym e
 ends_with m N (x ∷ []) b (Memᴰ.tail t) = absurd (Memᴰ.not-nil t)
 ends_with m N (x ∷ y ∷ l) b (Memᴰ.head e) = absurd (omega (arith, between_mem (suc x) (suc N) (y ∷ l) b.1 y (Memᴰ.head refl)))

@@ -47,6 +47,7 @@ count_within p M lo (suc N) hi h =
     (λ e. rw e (omega (arith, count_within p M lo N hi (λ t l f. h t (omega arith) f))))
 
 pub sum-mem : (x : ℕ) (l : List ℕ) → Memᴰ x l → 1 ≤ sum l (λ y. one_if (eqb x y))
+sum-mem x [] m = elim m [ ]
 sum-mem x (y ∷ l) (Memᴰ.head e) = rw (eq-eqb x y e) (omega arith)
 sum-mem x (y ∷ l) (Memᴰ.tail m) = omega (arith, sum-mem x l m)
 

@@ -9,6 +9,7 @@ use Rattle.ground.specs.Filters.{Each, both, filter, keep}
 
 module _ {A : Type 0} where
   pub mem-filter : (p : A → Bool) (x : A) → p x ≡ true → (l : List A) → Memᴰ x l → Memᴰ x (filter p l)
+  mem-filter p x e [] m = elim m [ ]
   mem-filter p x e (y ∷ l) (Memᴰ.head f) = rw (ap p (sym f) ∙ e) (Memᴰ.head f)
   mem-filter p x e (y ∷ l) (Memᴰ.tail m) =
       let r = mem-filter p x e l m in cases (p y) (λ t. rw t (Memᴰ.tail r)) (λ t. rw t r)

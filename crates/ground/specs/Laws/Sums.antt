@@ -17,6 +17,7 @@ module _ {A : Type 0} where
 
   -- and where one element has e to spare
   pub sum_spare : (f g : A → ℕ) (e : ℕ) (x : A) (l : List A) → Memᴰ x l → Each l (λ y. f y ≤ g y) → f x + e ≤ g x → sum l f + e ≤ sum l g
+  sum_spare f g e x [] m h r = elim m [ ]
   sum_spare f g e x (y ∷ l) (Memᴰ.head s) h r =
       omega (arith, ap f s, ap g s, sum_le f g l (λ z m. h z (Memᴰ.tail m)))
   sum_spare f g e x (y ∷ l) (Memᴰ.tail m) h r =
@@ -32,6 +33,7 @@ module _ {A : Type 0} where
 
   -- one of them is at most their sum
   pub sum_one : (f : A → ℕ) (l : List A) → Each l (λ x. f x ≤ sum l f)
+  sum_one f [] x m = elim m [ ]
   sum_one f (y ∷ l) x (Memᴰ.head e) = omega (arith, ap f e)
   sum_one f (y ∷ l) x (Memᴰ.tail m) = omega (arith, sum_one f l x m)
 

@@ -22,12 +22,14 @@ place_none i x (y ∷ l) = let ih = place_none (suc i) x l in cases (eqb x y) (�
 
 -- and that of a row that is there is one of the rows
 pub place_in : (i x : ℕ) (l : List ℕ) → Memᴰ x l → (i ≤ place_of i x l) × (place_of i x l < i + length l)
+place_in i x [] m = elim m [ ]
 place_in i x (y ∷ l) (Memᴰ.head e) = rw (eq-eqb x y e) (omega arith)
 place_in i x (y ∷ l) (Memᴰ.tail m) =
     let ih = place_in (suc i) x l m in cases (eqb x y) (λ t. rw t (omega arith)) (λ t. rw t (omega arith))
 
 -- and has that far side
 pub place_at : (i x : ℕ) (l : List ℕ) → Memᴰ x l → get_or l (place_of (suc i) x l - suc i) 0 ≡ x
+place_at i x [] m = elim m [ ]
 place_at i x (y ∷ l) (Memᴰ.head e) = let z : suc i - suc i ≡ 0 = omega arith in rw (eq-eqb x y e, z) (sym e)
 place_at i x (y ∷ l) (Memᴰ.tail m) =
     let b = place_in (suc (suc i)) x l m in

@@ -43,6 +43,7 @@ row_at (r ∷ T) zero h = Memᴰ.head refl
 row_at (r ∷ T) (suc k) h = Memᴰ.tail (row_at T k (omega arith))
 
 pub at_row : (T : List Row) (x : Row) → Memᴰ x T → (k : ℕ) × (k < length T) × (x ≡ (get_or (fars T) k 0, get_or (costs T) k 0))
+at_row [] x m = elim m [ ]
 at_row (r ∷ T) x (Memᴰ.head e) = (0, omega arith, e)
 at_row (r ∷ T) x (Memᴰ.tail d) = let k = at_row T x d in (suc k.0, omega (arith, k.1), k.2)
 

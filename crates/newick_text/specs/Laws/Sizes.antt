@@ -35,6 +35,7 @@ size-side (bracket g c r) b = omega (arith, size-side g b.1, b.0, size-side r b.
 
 pub tops-side : (f : Siblings) → Bushy f → Each (tops f) (λ X. X + size f ≤ suc (side f))
 unfolding side tops
+tops-side none b X m = elim m [ ]
 tops-side (image i c r) b X (Memᴰ.head e) = omega (arith, size-side r b, pow_pos (i - 1))
 tops-side (image i c r) b X (Memᴰ.tail d) = omega (arith, tops-side r b X d, pow_pos (i - 1))
 tops-side (bracket g c r) b X (Memᴰ.head e) = omega (arith, size-side r b.2)
@@ -42,6 +43,7 @@ tops-side (bracket g c r) b X (Memᴰ.tail d) = omega (arith, tops-side r b.2 X 
 
 pub tops-some : (f : Siblings) → Bushy f → Each (tops f) (λ X. 0 < X)
 unfolding tops
+tops-some none b X m = elim m [ ]
 tops-some (image i c r) b X (Memᴰ.head e) = omega (arith, pow_pos (i - 1))
 tops-some (image i c r) b X (Memᴰ.tail d) = tops-some r b X d
 tops-some (bracket g c r) b X (Memᴰ.head e) = omega (arith, size-side g b.1, b.0)

@@ -23,6 +23,7 @@ order-size n l a =
     )
 
 mem-some : (x : ℕ) (l : List ℕ) → Memᴰ x l → 0 < length l
+mem-some x [] h = elim h [ ]
 mem-some x (y ∷ l) m = omega arith
 
 module _ (g s d : ℕ → ℕ → ℕ) (n f p q r : ℕ) (hf : f < n) (o : Off g s d n f p q r) (m : List ℕ) (all : AnOrder n m) where

@@ -68,6 +68,7 @@ twice r = (r.0, 2 * (r.1 + 1))
 
 -- a link between i and j costs them something
 raised-path : (T : List Row) (S i j : ℕ) → apart S i j ≡ true → Memᴰ S (fars T) → 0 < path (map raised T) i j
+raised-path [] S i j e m = elim m [ ]
 raised-path (r ∷ T) S i j e (Memᴰ.head q) = rw (← q, e) (omega arith)
 raised-path (r ∷ T) S i j e (Memᴰ.tail m) = omega (arith, raised-path T S i j e m)
 
@@ -119,6 +120,7 @@ module _ (L k : ℕ) (T : List Row) (t : LinkTable L (suc (suc k)) T) where
   }
     where
       one : (T : List Row) (r : Row) → Memᴰ r T → r.1 + 1 ≤ all_costs (map raised T)
+      one [] r m = elim m [ ]
       one (q ∷ T) r (Memᴰ.head e) = omega (arith, ap (λ (x : Row). x.1) e)
       one (q ∷ T) r (Memᴰ.tail m) = omega (arith, one T r m)
 
