@@ -128,7 +128,8 @@ def turn_file(path, moves):
     if path.endswith(".antt"):
         new = "\n".join(turn_line(line, moves, "--") for line in text.split("\n"))
     elif path.endswith(".rt"):
-        new = "\n".join(turn_line(line, moves, "//") for line in text.split("\n"))
+        of_clauses = {old: new for old, new in moves.items() if "-" in old or re.search(r"[A-Z]", old)}
+        new = "\n".join(turn_line(line, of_clauses, "//") for line in text.split("\n"))
     elif path.endswith(".edit"):
         new = "\n".join(turn(line, moves) if line.startswith(("old:", "new:")) else line for line in text.split("\n"))
     else:

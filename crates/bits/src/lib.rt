@@ -7,7 +7,7 @@ ghost use Rattle.bits.specs.Editions.{edition_by, edition_of};
 ghost use Rattle.bits.specs.Bits.{bits, FieldWithin, number_at, part, Turn, value_of};
 
 // How a kind of table is stored: so many bits in front with the mark's value, so many bits for a number, and the limit on an entry.
-#[derive(Drop)]
+#[derive(Clone, Copy)]
 pub struct Form {
     pub head: usize,
     pub mark: u64,
@@ -16,7 +16,7 @@ pub struct Form {
 }
 
 // The two stored forms of each kind of table: the old one, which begins with n, and the new one, which begins with a mark.
-#[derive(Drop)]
+#[derive(Clone, Copy)]
 pub enum Edition {
     Old,
     New,

@@ -63,7 +63,7 @@ pub fn row_count(form: Form, bytes: &[u8]) -> usize
 }
 
 // The far side of the row that begins at the position: its bits are images n down to 2, so the number is half the far side.
-fn far_at_lem(bytes: &[u8], position: usize, n: usize) -> u64
+fn far_at(bytes: &[u8], position: usize, n: usize) -> u64
     requires { (1 ≤ n) × (n ≤ 64) × (position + (n - 1) ≤ 8 * length bytes.now) × (position ≤ last_row_end) }
     ensures { result ≡ 2 * value_of (part (bits bytes.now) position (n - 1)) }
 {
@@ -87,7 +87,7 @@ pub fn fill(form: Form, n: usize, count: usize, bytes: &[u8], fars: &mut [u64], 
     let mut k = 0;
     while k < count {
         let p = row_at(form, n, k);
-        fars[k] = far_at_lem(bytes, p, n);
+        fars[k] = far_at(bytes, p, n);
         costs[k] = cost_at(bytes, p + (n - 1), form.width);
         k += 1;
     }

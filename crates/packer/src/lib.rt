@@ -11,7 +11,7 @@ ghost use Rattle.packer.specs.Start.{start_bits, started};
 use bits::Form;
 
 // So many bytes are stored, and the count upper bits of bits are gathered. Those below them are 0.
-#[derive(Drop)]
+#[derive(Clone, Copy)]
 pub struct Gathered {
     pub at: usize,
     pub count: usize,

@@ -83,7 +83,7 @@ shared-more n m k l r i j a b hi hj =
     let y = get_or r j 0 in
     let e = drop-cons l i 0 hi in
     let f = drop-cons r j 0 hj in
-    rw (← (drop-drop (one_if (leb x y)) i l), ← (drop-drop (one_if (leb y x)) j r), e, f)
+    rw (← (drop-drop (one_if (leb x y)) i l), ← (drop-drop (one_if (leb y x)) j r), f, e)
     (heads (inner n) k x y (drop (suc i) l) (drop (suc j) r) (rw e at (between_drop m k i l a)) (rw f at (between_drop m k j r b)))
 
 -- one turn, what is counted and what is ahead being t

@@ -1,7 +1,7 @@
 -- What is noted is what was read: how a vertex begins, how it is named, how it ends. Assumes nothing.
 use Rattle.std.specs.Prelude.{false, true, List, [], ◌++◌, ◌∷◌, ◌≡◌, ℕ, ◌-◌, ◌≤◌, eqb, leb, ltb, get_or, take}
 use Rattle.std.proofs.Math.Path.{ap, refl}
-use Rattle.std.proofs.Common.{sym, ◌∙◌, arith, le-ltb}
+use Rattle.std.proofs.Common.{subst, sym, ◌∙◌, arith, le-ltb}
 use Rattle.ground.specs.Sums.{when}
 use Rattle.tree.specs.LocalRows.{rows_in}
 use Rattle.newick_text.specs.Trees.{Head, none, size}
@@ -19,7 +19,7 @@ use Rattle.newick_notes.specs.Turns as turns
 use Rattle.newick_notes.specs.Turns.{Completed, closed, fallen_with, named_by}
 use Rattle.newick_scan.specs.Noting.{Kept, Noting, kept}
 use Rattle.newick_scan.specs.Notes.{fallen_open, inside, last_open, marked_open, noted_open, place_open}
-use Rattle.newick_scan.specs.Reading.{Notes}
+use Rattle.newick_scan.specs.Reading.{Held, Notes}
 use Rattle.newick_scan.specs.Laws.Opening.{fallen_open_lem, held_add, held_push, held_top, last_open_lem, marked_open_lem, names_open_lem, noted_open_lem}
 use Rattle.newick_notes.specs.Laws.Storing.{take_more}
 use Rattle.newick_scan.specs.Laws.Telling.{like_told, none_told}
@@ -35,9 +35,9 @@ module _ (b p : ℕ) (x y : Kept) (o : Open) (q : p ≡ place_open o) (h : Notes
         rw (k, n.1, n.2) (like_told _ _ _ _ w _ x.fars x.costs refl refl refl refl (none_told o x h.0)),
         record {
           last = ap (λ (r : Noted). r.last) k;
-          masks = rw (rw (t, h.0.marked) at n.0.masks) (held_push marked_open x.stacks.masks none o (omega (arith, z.masks)) h.1.masks);
-          lasts = rw (rw (t, h.1.last) at n.0.lasts) (held_push last_open x.stacks.lasts none o (omega (arith, z.lasts)) h.1.lasts);
-          places = rw (rw (t, q) at n.0.places) (held_push place_open x.stacks.places none o (omega (arith, z.places)) h.1.places);
+          masks = subst (λ (l : List ℕ). Held marked_open l (within none o)) (sym (rw (t, h.0.marked) at n.0.masks)) (held_push marked_open x.stacks.masks none o (omega (arith, z.masks)) h.1.masks);
+          lasts = subst (λ (l : List ℕ). Held last_open l (within none o)) (sym (rw (t, h.1.last) at n.0.lasts)) (held_push last_open x.stacks.lasts none o (omega (arith, z.lasts)) h.1.lasts);
+          places = subst (λ (l : List ℕ). Held place_open l (within none o)) (sym (rw (t, q) at n.0.places)) (held_push place_open x.stacks.places none o (omega (arith, z.places)) h.1.places);
         },
       )
 

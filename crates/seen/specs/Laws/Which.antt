@@ -27,6 +27,7 @@ some-mem (T ∷ Ts) S e =
     cases (has T S) (λ h. (T, Memᴰ.head refl, is_in-mem S (fars T) h)) (λ h. let r = ih (rw h at e) in (r.0, Memᴰ.tail r.1, r.2))
 
 mem-some : (Ts : List (List Row)) (S : ℕ) (T : List Row) → Memᴰ T Ts → Memᴰ S (fars T) → in_some Ts S ≡ true
+mem-some [] S T m h = elim m [ ]
 mem-some (U ∷ Ts) S T (Memᴰ.head e) h = or_l (has U S) (in_some Ts S) (mem-is_in S (fars U) (rw (← e) h))
 mem-some (U ∷ Ts) S T (Memᴰ.tail m) h = or_r (has U S) (in_some Ts S) (mem-some Ts S T m h)
 

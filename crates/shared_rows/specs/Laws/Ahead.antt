@@ -30,7 +30,7 @@ module _ (k : ℕ) (f v g w : List ℕ) (a : Between 1 f k) (b : Between 1 g k) 
       let q = rest_cons j g w hj (omega arith) in
       let p : Between (suc x) (fars (rest_rows (suc i) f v)) k = rw (rest-fars (suc i) f v ev) (ascends 1 k i f a hi) in
       let t : Between (suc y) (fars (rest_rows (suc j) g w)) k = rw (rest-fars (suc j) g w ew) (ascends 1 k j g b hj) in
-      rw (rest-drop i (advance x y) f v ev, rest-drop j (advance y x) g w ew, r, q)
+      rw (rest-drop i (advance x y) f v ev, rest-drop j (advance y x) g w ew, q, r)
       (sym (merge-turn k (x, get_or v i 0) (y, get_or w j 0) (rest_rows (suc i) f v) (rest_rows (suc j) g w) p t))
 
 -- a turn keeps no more rows than it goes in the rows held
