@@ -4,11 +4,10 @@
 
 pub mod calls;
 
-ghost use Rattle.std.specs.Prelude.{◌≤◌, pos, ◌<ℤ◌};
-ghost use Rattle.io.specs.Counts.{IsPrefixLen};
+ghost use Rattle.std.specs.Prelude.{◌≡◌, ◌≤◌, length, pos, take, ◌<ℤ◌};
 
 use ground::{Answer, Refusal, SignedAnswer, Written};
-use libc::STDOUT_FILENO;
+use std::io;
 
 // A number, and where the next one begins.
 #[derive(Drop)]
@@ -81,7 +80,8 @@ fn narrow8(x: u64) -> u8 {
 
 // A slice of 64-bit elements, put at the front of the lent places.
 pub fn take64(text: &[u8], at: usize, out: &mut [u64]) -> Part
-    ensures { IsPrefixLen result.count out.new }
+    ensures within { result.count ≤ length out.new }
+    ensures front { result.count ≡ length (take result.count out.new) }
 {
     let head = number_at(text, at);
     let count = lesser(head.value as usize, out.len());
@@ -98,7 +98,8 @@ pub fn take64(text: &[u8], at: usize, out: &mut [u64]) -> Part
 
 // A slice of 32-bit elements, put at the front of the lent places.
 pub fn take32(text: &[u8], at: usize, out: &mut [u32]) -> Part
-    ensures { IsPrefixLen result.count out.new }
+    ensures within { result.count ≤ length out.new }
+    ensures front { result.count ≡ length (take result.count out.new) }
 {
     let head = number_at(text, at);
     let count = lesser(head.value as usize, out.len());
@@ -115,7 +116,8 @@ pub fn take32(text: &[u8], at: usize, out: &mut [u32]) -> Part
 
 // A slice of bytes, put at the front of the lent places.
 pub fn take8(text: &[u8], at: usize, out: &mut [u8]) -> Part
-    ensures { IsPrefixLen result.count out.new }
+    ensures within { result.count ≤ length out.new }
+    ensures front { result.count ≡ length (take result.count out.new) }
 {
     let head = number_at(text, at);
     let count = lesser(head.value as usize, out.len());
@@ -131,19 +133,19 @@ pub fn take8(text: &[u8], at: usize, out: &mut [u8]) -> Part
 }
 
 // Prints the number that begins a line.
-pub fn show_first(x: u64) {
-    io::print_decimal(STDOUT_FILENO, x);
+pub fn show_first(rt: &impl Print, x: u64) -> io::Result<()> {
+    rt.print(x)
 }
 
 // Prints a number of a line behind others.
-pub fn show_next(x: u64) {
-    io::write_all(STDOUT_FILENO, b" ");
-    io::print_decimal(STDOUT_FILENO, x);
+pub fn show_next(rt: &impl Print, x: u64) -> io::Result<()> {
+    rt.write_all(b" ")?;
+    rt.print(x)
 }
 
 // Prints the end of a line.
-pub fn show_end() {
-    io::write_all(STDOUT_FILENO, b"\n");
+pub fn show_end(rt: &impl Print) -> io::Result<()> {
+    rt.write_all(b"\n")
 }
 
 // How far a number is below 0. The least of all has no negation, so 1 is added behind.
@@ -154,113 +156,115 @@ fn below_zero(x: i64) -> u64
 }
 
 // Prints a signed number of a line behind others.
-fn show_next_signed(x: i64) {
+fn show_next_signed(rt: &impl Print, x: i64) -> io::Result<()> {
     if x < 0 {
-        io::write_all(STDOUT_FILENO, b" -");
-        io::print_decimal(STDOUT_FILENO, below_zero(x));
-        return;
+        rt.write_all(b" -")?;
+        return rt.print(below_zero(x));
     }
-    show_next(x as u64);
+    show_next(rt, x as u64)
 }
 
 // Prints an element of 32 bits.
-fn show_next32(x: u32) {
-    show_next(x as u64);
+fn show_next32(rt: &impl Print, x: u32) -> io::Result<()> {
+    show_next(rt, x as u64)
 }
 
 // Prints a byte.
-fn show_next8(x: u8) {
-    show_next(x as u64);
+fn show_next8(rt: &impl Print, x: u8) -> io::Result<()> {
+    show_next(rt, x as u64)
 }
 
 // Prints a slice of 64-bit elements.
-pub fn show64(list: &[u64]) {
-    show_next(list.len() as u64);
+pub fn show64(rt: &impl Print, list: &[u64]) -> io::Result<()> {
+    show_next(rt, list.len() as u64)?;
     let mut i = 0;
     while i < list.len() {
-        show_next(list[i]);
+        show_next(rt, list[i])?;
         i += 1;
     }
+    Ok(())
 }
 
 // Prints a slice of 32-bit elements.
-pub fn show32(list: &[u32]) {
-    show_next(list.len() as u64);
+pub fn show32(rt: &impl Print, list: &[u32]) -> io::Result<()> {
+    show_next(rt, list.len() as u64)?;
     let mut i = 0;
     while i < list.len() {
-        show_next32(list[i]);
+        show_next32(rt, list[i])?;
         i += 1;
     }
+    Ok(())
 }
 
 // Prints a slice of bytes.
-pub fn show8(list: &[u8]) {
-    show_next(list.len() as u64);
+pub fn show8(rt: &impl Print, list: &[u8]) -> io::Result<()> {
+    show_next(rt, list.len() as u64)?;
     let mut i = 0;
     while i < list.len() {
-        show_next8(list[i]);
+        show_next8(rt, list[i])?;
         i += 1;
     }
+    Ok(())
 }
 
 // Prints the four places of a refusal.
-fn show_places(r: Refusal) {
-    show_next(r.a as u64);
-    show_next(r.b as u64);
-    show_next(r.c as u64);
-    show_next(r.d as u64);
+fn show_places(rt: &impl Print, r: Refusal) -> io::Result<()> {
+    show_next(rt, r.a as u64)?;
+    show_next(rt, r.b as u64)?;
+    show_next(rt, r.c as u64)?;
+    show_next(rt, r.d as u64)
 }
 
 // Prints a refusal at the beginning of a line.
-pub fn show_refusal(r: Refusal) {
-    show_first(r.number as u64);
-    show_places(r);
+pub fn show_refusal(rt: &impl Print, r: Refusal) -> io::Result<()> {
+    show_first(rt, r.number as u64)?;
+    show_places(rt, r)
 }
 
 // Prints a refusal of a call over several tables, with the table's number, at the beginning of a line.
-pub fn show_table_refusal(table: usize, r: Refusal) {
-    show_first(r.number as u64);
-    show_next(table as u64);
-    show_places(r);
+pub fn show_table_refusal(rt: &impl Print, table: usize, r: Refusal) -> io::Result<()> {
+    show_first(rt, r.number as u64)?;
+    show_next(rt, table as u64)?;
+    show_places(rt, r)
 }
 
 // Prints the answer of a call that gives one number.
-pub fn show_answer(answer: Answer) {
+pub fn show_answer(rt: &impl Print, answer: Answer) -> io::Result<()> {
     match answer {
-        Answer::Refused(r) => show_refusal(r),
+        Answer::Refused(r) => show_refusal(rt, r),
         Answer::Value(v) => {
-            show_first(0);
-            show_next32(v);
+            show_first(rt, 0)?;
+            show_next32(rt, v)
         }
     }
 }
 
 // Prints the answer of a call that gives one signed number.
-pub fn show_signed_answer(answer: SignedAnswer) {
+pub fn show_signed_answer(rt: &impl Print, answer: SignedAnswer) -> io::Result<()> {
     match answer {
-        SignedAnswer::Refused(r) => show_refusal(r),
+        SignedAnswer::Refused(r) => show_refusal(rt, r),
         SignedAnswer::Value(v) => {
-            show_first(0);
-            show_next_signed(v);
+            show_first(rt, 0)?;
+            show_next_signed(rt, v)
         }
     }
 }
 
 // Prints the answer of a call that writes into lent slices.
-pub fn show_written(answer: Written) {
+pub fn show_written(rt: &impl Print, answer: Written) -> io::Result<()> {
     match answer {
-        Written::Refused(r) => show_refusal(r),
+        Written::Refused(r) => show_refusal(rt, r),
         Written::Places(count) => {
-            show_first(0);
-            show_next(count as u64);
+            show_first(rt, 0)?;
+            show_next(rt, count as u64)
         }
     }
 }
 
 // Prints a line of text.
-pub fn show_line(text: &[u8]) {
-    io::write_all(STDOUT_FILENO, text);
-    show_end();
+pub fn show_line(rt: &impl Print, text: &[u8]) -> io::Result<()> {
+    rt.write_all(text)?;
+    show_end(rt)
 }
 
 // Whether two slices of 64-bit elements are the same.
