@@ -2,14 +2,15 @@
 // the line of its refusal. What was read counts as the input, also where a read fails.
 #![tactic(auto)]
 
-use libc::{STDIN_FILENO, STDOUT_FILENO};
+use intake::read_full;
 use listing_text::LONGEST_TABLE;
+use std::io;
 
-fn main() {
+fn main(rt: HostRuntime) -> io::Result<()> {
     let mut input = [0u8; LONGEST_TABLE];
-    let count = io::read_full(STDIN_FILENO, &mut input);
+    let count = read_full(&mut rt.stdin(), &mut input);
     let text = newick_line::newick_line(&input[..count]);
     let length = text.length;
     let bytes = text.bytes;
-    io::write_all(STDOUT_FILENO, &bytes[..length]);
+    rt.write_all(&bytes[..length])
 }

@@ -3,19 +3,20 @@
 // fails.
 #![tactic(auto)]
 
-use libc::{STDIN_FILENO, STDOUT_FILENO};
+use intake::read_full;
+use std::io;
 use term_text::LONGEST_INPUT;
 
 // Reads standard input into the lent places, as far as they go, and prints the report over it.
-fn print_report(input: &mut [u8]) {
-    let count = io::read_full(STDIN_FILENO, input);
+fn print_report(rt: &(impl Input + Print), input: &mut [u8]) -> io::Result<()> {
+    let count = read_full(&mut rt.reader(), input);
     let text = term_text::term_report(&input[..count]);
     let length = text.length;
     let bytes = text.bytes;
-    io::write_all(STDOUT_FILENO, &bytes[..length]);
+    rt.write_all(&bytes[..length])
 }
 
-fn main() {
+fn main(rt: HostRuntime) -> io::Result<()> {
     let mut input = [0u8; LONGEST_INPUT];
-    print_report(&mut input);
+    print_report(&rt, &mut input)
 }
