@@ -3,7 +3,7 @@
 // printed as the places in front, as many as there are far sides, and how many behind them hold what they held.
 #![tactic(auto)]
 
-ghost use Rattle.io.specs.Counts.{IsPrefixLen};
+ghost use Rattle.std.specs.Prelude.{◌≡◌, ◌≤◌, length, take};
 
 use case_text::{
     Part, lesser, narrow32, number_at, show_first, show_next, show_table_refusal, show32, show64,
@@ -12,6 +12,7 @@ use case_text::{
 use figures::Figures;
 use ground::Check;
 use report::TermReport;
+use std::io;
 
 // How long a lent slice is, what it is full of, and where the next number begins.
 #[derive(Drop)]
@@ -22,37 +23,38 @@ struct Lent {
 }
 
 // Prints the refusal of a table or of too short slices, and 0 where there is none.
-fn show_stop(table: usize, stop: Check) {
+fn show_stop(rt: &impl Print, table: usize, stop: Check) -> io::Result<()> {
     match stop {
-        Check::Refused(r) => show_table_refusal(table, r),
-        Check::Passed => show_first(0),
+        Check::Refused(r) => show_table_refusal(rt, table, r),
+        Check::Passed => show_first(rt, 0),
     }
 }
 
 // Prints the figures.
-fn show_figures(figures: Figures) {
-    show_next(figures.images as u64);
-    show_next(figures.tables as u64);
-    show_next(figures.accepted as u64);
-    show_next(figures.apart as u64);
-    show_next(figures.sides as u64);
-    show_next(figures.pairs as u64);
-    show_next(figures.count_sum as u64);
-    show_next(figures.largest_count as u64);
-    show_next(figures.used as u64);
+fn show_figures(rt: &impl Print, figures: Figures) -> io::Result<()> {
+    show_next(rt, figures.images as u64)?;
+    show_next(rt, figures.tables as u64)?;
+    show_next(rt, figures.accepted as u64)?;
+    show_next(rt, figures.apart as u64)?;
+    show_next(rt, figures.sides as u64)?;
+    show_next(rt, figures.pairs as u64)?;
+    show_next(rt, figures.count_sum as u64)?;
+    show_next(rt, figures.largest_count as u64)?;
+    show_next(rt, figures.used as u64)
 }
 
 // Prints the answer of the report. The figures stand behind a refusal too.
-fn show_report(answer: TermReport) {
+fn show_report(rt: &impl Print, answer: TermReport) -> io::Result<()> {
     let stop = answer.stop;
     let figures = answer.figures;
-    show_stop(answer.table, stop);
-    show_figures(figures);
+    show_stop(rt, answer.table, stop)?;
+    show_figures(rt, figures)
 }
 
 // Fills the front of the lent places of 64 bits.
 fn fill64(text: &[u8], at: usize, out: &mut [u64]) -> Lent
-    ensures { IsPrefixLen result.count out.new }
+    ensures within { result.count ≤ length out.new }
+    ensures front { result.count ≡ length (take result.count out.new) }
 {
     let length = number_at(text, at);
     let number = number_at(text, length.next);
@@ -72,7 +74,8 @@ fn fill64(text: &[u8], at: usize, out: &mut [u64]) -> Lent
 
 // Fills the front of the lent places of 32 bits.
 fn fill32(text: &[u8], at: usize, out: &mut [u32]) -> Lent
-    ensures { IsPrefixLen result.count out.new }
+    ensures within { result.count ≤ length out.new }
+    ensures front { result.count ≡ length (take result.count out.new) }
 {
     let length = number_at(text, at);
     let number = number_at(text, length.next);
@@ -116,23 +119,25 @@ fn holding32(list: &[u32], fill: u32) -> usize {
 }
 
 // Prints a slice of 64-bit elements that was full of this number: the places in front, and how many behind them hold it.
-fn show_lent64(list: &[u64], sides: usize, fill: u64) {
+fn show_lent64(rt: &impl Print, list: &[u64], sides: usize, fill: u64) -> io::Result<()> {
     if sides <= list.len() {
-        show64(&list[..sides]);
-        show_next(holding64(&list[sides..], fill) as u64);
+        show64(rt, &list[..sides])?;
+        show_next(rt, holding64(&list[sides..], fill) as u64)?;
     }
+    Ok(())
 }
 
 // The same of 32-bit elements.
-fn show_lent32(list: &[u32], sides: usize, fill: u32) {
+fn show_lent32(rt: &impl Print, list: &[u32], sides: usize, fill: u32) -> io::Result<()> {
     if sides <= list.len() {
-        show32(&list[..sides]);
-        show_next(holding32(&list[sides..], fill) as u64);
+        show32(rt, &list[..sides])?;
+        show_next(rt, holding32(&list[sides..], fill) as u64)?;
     }
+    Ok(())
 }
 
 // A case behind its bytes.
-fn slices_case(bytes: &[u8], text: &[u8], at: usize) -> usize {
+fn slices_case(rt: &impl Print, bytes: &[u8], text: &[u8], at: usize) -> io::Result<usize> {
     let mut sides = [0u64; 1100];
     let far_room = fill64(text, at, &mut sides);
     let far_count = far_room.count;
@@ -146,13 +151,12 @@ fn slices_case(bytes: &[u8], text: &[u8], at: usize) -> usize {
     let sum_count = sum_room.count;
     let sums = &mut totals[..sum_count];
     let answer = report::report(bytes, fars, trees, sums);
-    let figures = answer.figures;
-    let seen = figures.sides;
-    show_report(answer);
-    show_lent64(fars, seen, far_room.fill);
-    show_lent32(trees, seen, narrow32(tree_room.fill));
-    show_lent64(sums, seen, sum_room.fill);
-    sum_room.next
+    let seen = answer.figures.sides;
+    show_report(rt, answer)?;
+    show_lent64(rt, fars, seen, far_room.fill)?;
+    show_lent32(rt, trees, seen, narrow32(tree_room.fill))?;
+    show_lent64(rt, sums, seen, sum_room.fill)?;
+    Ok(sum_room.next)
 }
 
 // Puts bytes behind so many of the output, as far as there are places, and gives how many stand there then.
@@ -208,24 +212,25 @@ fn put_pieces(text: &[u8], at: usize, kept: usize, out: &mut [u8]) -> Part {
 
 // Reads the arguments, makes the call, prints what it answers and leaves, and gives the place behind the case. The given bytes are those of
 // the case before. More bytes than there are places for are no case, and none behind it is run.
-fn report_case(text: &[u8], at: usize, given: &mut [u8]) -> usize {
+fn report_case(rt: &impl Print, text: &[u8], at: usize, given: &mut [u8]) -> io::Result<usize> {
     let kept = number_at(text, at);
     let bytes = put_pieces(text, kept.next, kept.value as usize, given);
     let count = bytes.count;
     if given.len() < count {
-        return text.len();
+        return Ok(text.len());
     }
-    slices_case(&given[..count], text, bytes.next)
+    slices_case(rt, &given[..count], text, bytes.next)
 }
 
 // Runs every case of a text, which has fewer cases than bytes. The bytes of one case stand there for the next.
-pub fn every_report(text: &[u8]) {
+pub fn every_report(rt: &impl Print, text: &[u8]) -> io::Result<()> {
     let mut given = [0u8; 27000];
     let mut left = text.len();
     let mut at = 0;
     while 0 < left && at < text.len() {
-        at = report_case(text, at, &mut given);
-        case_text::show_end();
+        at = report_case(rt, text, at, &mut given)?;
+        case_text::show_end(rt)?;
         left -= 1;
     }
+    Ok(())
 }
