@@ -313,7 +313,7 @@ pub fn same32(one: &[u32], other: &[u32]) -> bool {
 }
 
 // Whether two refusals are the same, places included.
-fn same_refusal(one: Refusal, other: Refusal) -> bool {
+fn same_refusal(one: &Refusal, other: &Refusal) -> bool {
     if one.number != other.number {
         return false;
     }
@@ -321,7 +321,7 @@ fn same_refusal(one: Refusal, other: Refusal) -> bool {
 }
 
 // Whether two calls that write into lent slices answer the same.
-pub fn same_written(one: Written, other: Written) -> bool {
+pub fn same_written(one: &Written, other: &Written) -> bool {
     match one {
         Written::Refused(r) => match other {
             Written::Refused(q) => same_refusal(r, q),
@@ -329,7 +329,7 @@ pub fn same_written(one: Written, other: Written) -> bool {
         },
         Written::Places(count) => match other {
             Written::Refused(_) => false,
-            Written::Places(places) => count == places,
+            Written::Places(places) => *count == *places,
         },
     }
 }
