@@ -23,10 +23,6 @@ loop-i-preserved c =
           (rw c.wide.ensures at c.put_field-place.ensures),
     )
 
-pub shape_of-out : goal.shape_of-out
-shape_of-out c =
-    c.loop-i.invariant.1.size
-
 pub returns : goal.returns
 returns c =
     rest_end (rest_same (fields_end _ _ c.loop-i-test.false) c.loop-i.invariant.1)

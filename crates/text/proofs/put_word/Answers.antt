@@ -1,5 +1,5 @@
 -- `text::put_word` meets its contract: what is left to write loses its first byte in each turn. Assumes nothing.
-use Rattle.std.proofs.Common.{rules, ◌∷◌}
+use Rattle.std.proofs.Common.{[], rules, ◌∷◌}
 use Rattle.text.specs.Laws.Pieces.{drop_none, rest_same, word_turn}
 use Rattle.text.specs.Laws.Putting.{byte_fits, rest_begin, rest_end, rest-step}
 use Rattle.text.proofs.put_word.Goals as goal
@@ -19,10 +19,6 @@ loop-i-preserved c =
       rest-step (_ ∷ []) _ (rest_same (word_turn c.args.word.now c.loop-i.i c.loop-i-test.true) c.loop-i.invariant.1)
           c.requires c.put_byte-place.ensures,
     )
-
-pub shape_of-out : goal.shape_of-out
-shape_of-out c =
-    c.loop-i.invariant.1.size
 
 pub returns : goal.returns
 returns c =

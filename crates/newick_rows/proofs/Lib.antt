@@ -1,0 +1,2 @@
+-- The pieces of a row's text.
+mod Pieces
