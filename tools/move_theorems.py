@@ -43,15 +43,14 @@ class Unit:
     """A declaration with its comment, or a module block with all that it declares."""
 
     def __init__(self):
-        self.lines, self.names, self.is_definition, self.is_theorem = [], [], False, False
+        self.lines, self.names, self.fields, self.is_definition, self.is_theorem = [], [], [], False, False
 
     def text(self):
         return "\n".join(self.lines)
 
     def tokens(self):
         body = "\n".join(line for line in self.lines if not line.lstrip().startswith("--"))
-        found = set(TOKEN.findall(body))
-        return found
+        return set(TOKEN.findall(body)) - set(self.names) - set(self.fields)
 
 
 def parts(name):
@@ -100,6 +99,9 @@ def parse(text):
                     unit.names.append(head[2])
                     unit.is_definition = "abbrev" in head[1] or "unfoldable" in head[1]
                     unit.is_theorem = not unit.is_definition
+            elif unit is None or line.startswith("pub mod "):
+                units.append(as_comment(comment + [line]))
+                comment, unit = [], None
             else:
                 if comment:
                     unit.lines += comment
@@ -111,8 +113,8 @@ def parse(text):
     for unit in units:
         if any(line.startswith("module ") for line in unit.lines):
             for line in unit.lines:
-                inner = re.match(r"^\s+((?:pub |abbrev |unfoldable )*)([^\s:(){},.;\"]+) :(?:\s|$)", line)
-                kind = re.match(r"^\s+((?:pub )?)(record|data) ([^\s:(){},.;\"]+)", line)
+                inner = re.match(r"^  ((?:pub |abbrev |unfoldable )*)([^\s:(){},.;\"]+) :(?:\s|$)", line)
+                kind = re.match(r"^  ((?:pub )?)(record|data) ([^\s:(){},.;\"]+)", line)
                 if kind:
                     unit.names.append(kind[3])
                     unit.is_definition = True
@@ -126,7 +128,7 @@ def parse(text):
             for line in unit.lines:
                 inner = re.match(r"^  (?:pub )?([^\s:(){},.;\"]+) :(?:\s|$)", line)
                 if inner:
-                    unit.names.append(inner[1])
+                    unit.fields.append(inner[1])
     return front, uses, units
 
 
@@ -159,6 +161,8 @@ def main():
     for line in read(sys.argv[1]).split("\n"):
         if line.strip():
             crate, _, file = line.strip().split("/", 2)
+            if not os.path.exists(os.path.join(TOP, "crates", line.strip())):
+                continue
             wanted.setdefault(crate, set()).add(file)
     moved = {}
     rows = []
@@ -202,6 +206,10 @@ def one_crate(crate, wanted, sources, moved):
                 needed[file] |= set(unit.names)
     going = set(wanted)
     while True:
+        for file in going:
+            # what is no law of Laws/ keeps its definitions in specs/, where they are read
+            if not file.startswith("Laws"):
+                needed[file] |= {name for unit in parsed[file][2] if unit.is_definition and not unit.is_theorem for name in unit.names}
         stays = {file: stay_of(parsed[file][2], needed[file]) if file in going else None for file in files}
         more = set()
         again = False
@@ -255,8 +263,10 @@ def one_crate(crate, wanted, sources, moved):
             write(target, files[file])
             moved[(crate, dotted(file))] = None
         else:
+            for unit in left:
+                unit.lines = [re.sub(r"^(abbrev|unfoldable) (?!pub )", r"\1 pub ", re.sub(r"^(record|data) ", r"pub \1 ", line)) for line in unit.lines]
             write(path, layout(front, uses, left))
-            own = f"use Rattle.{crate}.specs.{dotted(file)}.{{{', '.join(n for n in importable(left))}}}"
+            own = f"pub use Rattle.{crate}.specs.{dotted(file)}.{{{', '.join(n for n in importable(left))}}}"
             write(target, layout(front, uses + [own], away))
             moved[(crate, dotted(file))] = set(importable_all(away))
         rows.append([crate, file, ", ".join(gone_names), ", ".join(kept_names)])
@@ -335,10 +345,8 @@ def follow(crates, moved):
                     return it[0]
                 at = f"{it[1]}Rattle.{it[2]}.proofs.{it[4]}"
                 if it[5] is None:
-                    if whole is None:
-                        return at + (it[6] or "") + it[7]
-                    print("whole import of a file that is split:", path, it[0])
-                    return it[0]
+                    # what stays of a file that is split is passed on by the other part
+                    return at + (it[6] or "") + it[7]
                 names = [name.strip() for name in it[5].split(",") if name.strip()]
                 gone = [name for name in names if whole is None or name.split(" as ")[0] in whole]
                 left = [name for name in names if name not in gone]

@@ -1,5 +1,5 @@
 -- `brought::brought` meets its contract: the sides that are asked form chains, and their values are those of the rows. Assumes nothing.
-use Rattle.std.proofs.Common.{ap, arith, length-set, pow_pos, refl, suc, sym, ◌-◌, ◌<◌, ◌∙◌}
+use Rattle.std.proofs.Common.{ap, arith, length-set, pow_pos, refl, suc, ◌-◌, ◌<◌}
 use Rattle.theory.specs.Laws.FourPoint.{well_formed_less}
 use Rattle.theory.specs.Tables.{WellFormed, cost, limit}
 use Rattle.brought.specs.Laws.Answers.{answered, chosen_family, chosen_few, chosen_fit, chosen_least}
@@ -84,28 +84,6 @@ overflow_add-result c =
     let formed : let a = c.args in WellFormed limit (cost a.t.now a.n) (suc a.k) = well_formed_less _ _ _ _ c.requires.2 c.requires.0.formed in let few : c.args.k < 64 = omega (arith, c.requires.0.few, c.requires.2) in let room : c.choose_in-m.result < 127 = let p = c.requires in
     chosen_few _ _ _ formed p.1 few _ _ c.closest-b.ensures c.near_images-near.ensures _ _ p.3 _ _ _ _
     c.choose_out-low.ensures _ _ _ _ c.choose_in-m.ensures in omega (arith, room)
-
-pub shape_of-outs : goal.shape_of-outs
-shape_of-outs c =
-    let o = at_out
-    c in o.choose-out.ensures.room.places ∙ sym o.before.before.before.before.before.before.before.before.before.before.before.before.before.requires.4
-
-pub shape_of-ins : goal.shape_of-ins
-shape_of-ins c =
-    c.choose_in-m.ensures.room.places ∙ sym c.requires.5
-
-pub shape_of-sides : goal.shape_of-sides
-shape_of-sides c =
-    let i = c
-    in simp length-set (i.choose-in.ensures.room.sides ∙ sym i.before.before.before.before.before.before.before.before.before.before.before.before.before.before.before.before.before.before.before.before.before.before.before.requires.6)
-
-pub shape_of-steps : goal.shape_of-steps
-shape_of-steps c =
-    c.images.auto.steps
-
-pub shape_of-best : goal.shape_of-best
-shape_of-best c =
-    c.images.ensures.room ∙ sym c.requires.8
 
 pub returns : goal.returns
 returns c =

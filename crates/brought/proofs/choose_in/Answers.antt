@@ -1,5 +1,5 @@
 -- `brought::choose_in` meets its contract: the rows from i on have gone by. Assumes nothing.
-use Rattle.std.proofs.Common.{ap, arith, get_or, pow_pos, rules, sym, ◌+◌, ◌-◌, ◌<◌, ◌∙◌, ◌≡◌}
+use Rattle.std.proofs.Common.{ap, arith, get_or, pow_pos, rules, ◌+◌, ◌-◌, ◌<◌, ◌≡◌}
 use Rattle.theory.specs.Tables.{limit}
 use Rattle.brought.specs.Choosing.{Ins}
 use Rattle.brought.specs.Laws.Choosing.{ins_few, ins_more, ins_none, ins_some}
@@ -46,18 +46,6 @@ loop-i-preserved c =
           c.goes_in.ensures
           c.store-m.ensures,
     )
-
-pub shape_of-sides : goal.shape_of-sides
-shape_of-sides c =
-    c.loop-i.invariant.1.room.sides ∙ sym c.requires.4.sides
-
-pub shape_of-ins : goal.shape_of-ins
-shape_of-ins c =
-    c.loop-i.invariant.1.room.places ∙ sym c.requires.4.places
-
-pub shape_of-best : goal.shape_of-best
-shape_of-best c =
-    c.loop-i.invariant.1.room.values ∙ sym c.requires.4.values
 
 pub returns : goal.returns
 returns c =

@@ -1,5 +1,5 @@
 -- `brought::choose_out` meets its contract: the rows below i have gone by. Assumes nothing.
-use Rattle.std.proofs.Common.{arith, rules, sym, ◌∙◌, ◌≡◌}
+use Rattle.std.proofs.Common.{arith, rules, ◌≡◌}
 use Rattle.brought.specs.Laws.Choosing.{outs_few, outs_more, outs_none}
 use Rattle.brought.proofs.choose_out.Goals as goal
 
@@ -30,18 +30,6 @@ loop-i-preserved c =
           (rw c.goes_out.ensures at
           c.store-m.ensures),
     )
-
-pub shape_of-sides : goal.shape_of-sides
-shape_of-sides c =
-    c.loop-i.invariant.1.room.sides ∙ sym c.requires.2.sides
-
-pub shape_of-outs : goal.shape_of-outs
-shape_of-outs c =
-    c.loop-i.invariant.1.room.places ∙ sym c.requires.2.places
-
-pub shape_of-best : goal.shape_of-best
-shape_of-best c =
-    c.loop-i.invariant.1.room.values ∙ sym c.requires.2.values
 
 pub returns : goal.returns
 returns c =

@@ -11,7 +11,7 @@ overflow_add-end c =
     × (c.args.rows + c.args.count ≤ length c.args.costs.now) = let a = c.args in
     let z = next-length _ _ _ _ _ _ c.requires in
     let k = next-count _ _ _ _ _ _ c.requires in
-    (omega (arith, z.0, k.0, k.2, length-drop a.rows a.fars.now), omega (arith, z.1, k.0, k.2, length-drop a.rows a.costs.now)) in omega (arith, there.0, c.well-formed)
+    (omega (arith, z.0, k.0, k.2, length-drop a.rows a.fars.now), omega (arith, z.1, k.0, k.2, length-drop a.rows a.costs.now)) in omega (arith, there.0, c.well_formed)
 
 pub offset_bounds-fars-rows : goal.offset_bounds-fars-rows
 offset_bounds-fars-rows c =
@@ -19,7 +19,7 @@ offset_bounds-fars-rows c =
     × (c.args.rows + c.args.count ≤ length c.args.costs.now) = let a = c.args in
     let z = next-length _ _ _ _ _ _ c.requires in
     let k = next-count _ _ _ _ _ _ c.requires in
-    (omega (arith, z.0, k.0, k.2, length-drop a.rows a.fars.now), omega (arith, z.1, k.0, k.2, length-drop a.rows a.costs.now)) in omega (arith, there.0, c.well-formed)
+    (omega (arith, z.0, k.0, k.2, length-drop a.rows a.fars.now), omega (arith, z.1, k.0, k.2, length-drop a.rows a.costs.now)) in omega (arith, there.0, c.well_formed)
 
 pub offset_bounds-costs-rows : goal.offset_bounds-costs-rows
 offset_bounds-costs-rows c =
@@ -27,7 +27,15 @@ offset_bounds-costs-rows c =
     × (c.args.rows + c.args.count ≤ length c.args.costs.now) = let a = c.args in
     let z = next-length _ _ _ _ _ _ c.requires in
     let k = next-count _ _ _ _ _ _ c.requires in
-    (omega (arith, z.0, k.0, k.2, length-drop a.rows a.fars.now), omega (arith, z.1, k.0, k.2, length-drop a.rows a.costs.now)) in omega (arith, there.1, c.well-formed)
+    (omega (arith, z.0, k.0, k.2, length-drop a.rows a.fars.now), omega (arith, z.1, k.0, k.2, length-drop a.rows a.costs.now)) in omega (arith, there.1, c.well_formed)
+
+pub slice_bounds-put_links-end-2 : goal.slice_bounds-put_links-end-2
+slice_bounds-put_links-end-2 c =
+    let there : (c.args.rows + c.args.count ≤ length c.args.fars.now)
+    × (c.args.rows + c.args.count ≤ length c.args.costs.now) = let a = c.args in
+    let z = next-length _ _ _ _ _ _ c.requires in
+    let k = next-count _ _ _ _ _ _ c.requires in
+    (omega (arith, z.0, k.0, k.2, length-drop a.rows a.fars.now), omega (arith, z.1, k.0, k.2, length-drop a.rows a.costs.now)) in omega (arith, there.1)
 
 pub put_links-requires : goal.put_links-requires
 put_links-requires c =

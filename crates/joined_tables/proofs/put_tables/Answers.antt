@@ -30,8 +30,8 @@ put_next-used-requires c =
     (length c.args.out.now - (c.loop-table.used + link_used form images count)) = let a = c.args in
     let l = c.loop-table in
     fits_step form a.ns.now a.counts.now a.fars.now a.costs.now (length a.out.now) l.used l.rows l.table images
-    count c.requires.0 c.loop-table-test.true (sym c.number_at-n.ensures) (sym c.number_at-count.ensures) l.inv.4 in let l = c.loop-table in
-    rw (rest_part l.out l.used, length-drop l.used l.out, l.inv.1) next.0
+    count c.requires.0 c.loop-table-test.true (sym c.number_at-n.ensures) (sym c.number_at-count.ensures) l.invariant.4 in let l = c.loop-table in
+    rw (rest_part l.out l.used, length-drop l.used l.out, l.invariant.1) next.0
 
 pub overflow_add-used : goal.overflow_add-used
 overflow_add-used c =
@@ -42,7 +42,7 @@ overflow_add-used c =
     (length c.args.out.now - (c.loop-table.used + link_used form images count)) = let a = c.args in
     let l = c.loop-table in
     fits_step form a.ns.now a.counts.now a.fars.now a.costs.now (length a.out.now) l.used l.rows l.table images
-    count c.requires.0 c.loop-table-test.true (sym c.number_at-n.ensures) (sym c.number_at-count.ensures) l.inv.4 in let within : c.loop-table.used + link_used form images count ≤ length c.args.out.now = omega (arith, next.0.fits, c.loop-table.invariant.2) in omega (arith, c.put_next-used.ensures.0, within, c.well-formed)
+    count c.requires.0 c.loop-table-test.true (sym c.number_at-n.ensures) (sym c.number_at-count.ensures) l.invariant.4 in let within : c.loop-table.used + link_used form images count ≤ length c.args.out.now = omega (arith, next.0.fits, c.loop-table.invariant.2) in omega (arith, c.put_next-used.ensures.0, within, c.well_formed)
 
 pub overflow_add-rows : goal.overflow_add-rows
 overflow_add-rows c =
@@ -53,8 +53,8 @@ overflow_add-rows c =
     (length c.args.out.now - (c.loop-table.used + link_used form images count)) = let a = c.args in
     let l = c.loop-table in
     fits_step form a.ns.now a.counts.now a.fars.now a.costs.now (length a.out.now) l.used l.rows l.table images
-    count c.requires.0 c.loop-table-test.true (sym c.number_at-n.ensures) (sym c.number_at-count.ensures) l.inv.4 in let rows-there : c.loop-table.rows + count ≤ length c.args.fars.now = let l = c.loop-table in
-    omega (arith, (next-length _ _ _ _ _ _ next.0).0, length-drop l.rows c.args.fars.now, l.inv.3) in omega (arith, rows-there, c.well-formed)
+    count c.requires.0 c.loop-table-test.true (sym c.number_at-n.ensures) (sym c.number_at-count.ensures) l.invariant.4 in let rows-there : c.loop-table.rows + count ≤ length c.args.fars.now = let l = c.loop-table in
+    omega (arith, (next-length _ _ _ _ _ _ next.0).0, length-drop l.rows c.args.fars.now, l.invariant.3) in omega (arith, rows-there, c.well_formed)
 
 pub loop-table-preserved : goal.loop-table-preserved
 loop-table-preserved c =
@@ -65,8 +65,8 @@ loop-table-preserved c =
     (length c.args.out.now - (c.loop-table.used + link_used form images count)) = let a = c.args in
     let l = c.loop-table in
     fits_step form a.ns.now a.counts.now a.fars.now a.costs.now (length a.out.now) l.used l.rows l.table images
-    count c.requires.0 c.loop-table-test.true (sym c.number_at-n.ensures) (sym c.number_at-count.ensures) l.inv.4 in let rows-there : c.loop-table.rows + count ≤ length c.args.fars.now = let l = c.loop-table in
-    omega (arith, (next-length _ _ _ _ _ _ next.0).0, length-drop l.rows c.args.fars.now, l.inv.3) in let within : c.loop-table.used + link_used form images count ≤ length c.args.out.now = omega (arith, next.0.fits, c.loop-table.invariant.2) in let a = c.args in
+    count c.requires.0 c.loop-table-test.true (sym c.number_at-n.ensures) (sym c.number_at-count.ensures) l.invariant.4 in let rows-there : c.loop-table.rows + count ≤ length c.args.fars.now = let l = c.loop-table in
+    omega (arith, (next-length _ _ _ _ _ _ next.0).0, length-drop l.rows c.args.fars.now, l.invariant.3) in let within : c.loop-table.used + link_used form images count ≤ length c.args.out.now = omega (arith, next.0.fits, c.loop-table.invariant.2) in let a = c.args in
     let l = c.loop-table in
     let w = c.put_next-used.ensures in (
       search rules,
@@ -76,7 +76,7 @@ loop-table-preserved c =
       rw w.0 next.1,
       joined-more form a.ns.now a.counts.now a.fars.now a.costs.now (length a.out.now) l.used l.rows l.table images
           count c.requires.0 c.loop-table-test.true (sym c.number_at-n.ensures) (sym c.number_at-count.ensures) next.0 _
-          l.out _ _ (omega (arith, l.inv.1, l.inv.2)) w.0 w.1 l.inv.5,
+          l.out _ _ (omega (arith, l.invariant.1, l.invariant.2)) w.0 w.1 l.invariant.5,
     )
 
 pub returns : goal.returns
