@@ -23,7 +23,7 @@ slice_bounds-fars-end c =
     let costs : List ℕ = c.read_links.new.costs in
     let read : LinksRead c.args.bytes.now made made fars costs enough enough c.in-Table.n c.in-Table.count = front_read c.args.bytes.now made made fars costs enough enough _ _ _
     (rw c.in-Table.is at c.read_links.ensures) in
-    let within : (c.in-Table.count ≤ length fars) × (c.in-Table.count ≤ length costs) = (omega (arith, read.few, c.read_links.auto.1.1.0), omega (arith, read.few, c.read_links.auto.1.1.1.0)) in
+    let within : (c.in-Table.count ≤ length fars) × (c.in-Table.count ≤ length costs) = (omega (arith, read.few, c.read_links.auto.fars), omega (arith, read.few, c.read_links.auto.costs)) in
     within.0
 
 pub slice_bounds-store_links-end : goal.slice_bounds-store_links-end
@@ -33,7 +33,7 @@ slice_bounds-store_links-end c =
     let costs : List ℕ = c.read_links.new.costs in
     let read : LinksRead c.args.bytes.now made made fars costs enough enough c.in-Table.n c.in-Table.count = front_read c.args.bytes.now made made fars costs enough enough _ _ _
     (rw c.in-Table.is at c.read_links.ensures) in
-    let within : (c.in-Table.count ≤ length fars) × (c.in-Table.count ≤ length costs) = (omega (arith, read.few, c.read_links.auto.1.1.0), omega (arith, read.few, c.read_links.auto.1.1.1.0)) in
+    let within : (c.in-Table.count ≤ length fars) × (c.in-Table.count ≤ length costs) = (omega (arith, read.few, c.read_links.auto.fars), omega (arith, read.few, c.read_links.auto.costs)) in
     sym (length-take-le _ _ within.0)
 
 pub slice_bounds-costs-end : goal.slice_bounds-costs-end
@@ -43,7 +43,7 @@ slice_bounds-costs-end c =
     let costs : List ℕ = c.read_links.new.costs in
     let read : LinksRead c.args.bytes.now made made fars costs enough enough c.in-Table.n c.in-Table.count = front_read c.args.bytes.now made made fars costs enough enough _ _ _
     (rw c.in-Table.is at c.read_links.ensures) in
-    let within : (c.in-Table.count ≤ length fars) × (c.in-Table.count ≤ length costs) = (omega (arith, read.few, c.read_links.auto.1.1.0), omega (arith, read.few, c.read_links.auto.1.1.1.0)) in
+    let within : (c.in-Table.count ≤ length fars) × (c.in-Table.count ≤ length costs) = (omega (arith, read.few, c.read_links.auto.fars), omega (arith, read.few, c.read_links.auto.costs)) in
     within.1
 
 pub slice_bounds-store_links-end-in-Table : goal.slice_bounds-store_links-end-in-Table
@@ -53,7 +53,7 @@ slice_bounds-store_links-end-in-Table c =
     let costs : List ℕ = c.read_links.new.costs in
     let read : LinksRead c.args.bytes.now made made fars costs enough enough c.in-Table.n c.in-Table.count = front_read c.args.bytes.now made made fars costs enough enough _ _ _
     (rw c.in-Table.is at c.read_links.ensures) in
-    let within : (c.in-Table.count ≤ length fars) × (c.in-Table.count ≤ length costs) = (omega (arith, read.few, c.read_links.auto.1.1.0), omega (arith, read.few, c.read_links.auto.1.1.1.0)) in
+    let within : (c.in-Table.count ≤ length fars) × (c.in-Table.count ≤ length costs) = (omega (arith, read.few, c.read_links.auto.fars), omega (arith, read.few, c.read_links.auto.costs)) in
     sym (length-take-le _ _ within.1)
 
 pub store_links-requires : goal.store_links-requires
