@@ -8,7 +8,7 @@ use Rattle.text.specs.Laws.Putting.{rest_begin}
 use Rattle.newick_text.specs.Trees.{listed}
 use Rattle.newick_rows.specs.Below.{cost_text, opening}
 use Rattle.newick_rows.specs.Chains.{Chained, chain}
-use Rattle.newick_rows.specs.Laws.Chains.{chain_pieces}
+use Rattle.newick_rows.proofs.Laws.Chains.{chain_pieces}
 
 -- the four pieces of the text of row k
 module _ (above before latest fars costs : List ℕ) (k end : ℕ) where

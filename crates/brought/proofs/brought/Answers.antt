@@ -1,6 +1,6 @@
 -- `brought::brought` meets its contract: the sides that are asked form chains, and their values are those of the rows. Assumes nothing.
 use Rattle.std.proofs.Common.{ap, arith, length-set, pow_pos, refl, suc, ◌-◌, ◌<◌}
-use Rattle.theory.specs.Laws.FourPoint.{well_formed_less}
+use Rattle.theory.proofs.Laws.FourPoint.{well_formed_less}
 use Rattle.theory.specs.Tables.{WellFormed, cost, limit}
 use Rattle.brought.specs.Laws.Answers.{answered, chosen_family, chosen_few, chosen_fit, chosen_least}
 use Rattle.brought.proofs.brought.Goals as goal

@@ -1,6 +1,6 @@
 -- `chains::turn_image` meets its contract: the sides that hold z and have q of them below are lowered. Assumes nothing.
 use Rattle.std.proofs.Common.{ap, arith, suc, ◌+◌, ◌-◌, ◌∙◌, ◌≡◌}
-use Rattle.theory.specs.Laws.FourPoint.{well_formed_less}
+use Rattle.theory.proofs.Laws.FourPoint.{well_formed_less}
 use Rattle.theory.specs.Tables.{WellFormed, cost, limit}
 use Rattle.chains.specs.Laws.Descents.{Down, down_cap, down-known, down_none, down_turn}
 use Rattle.chains.specs.Laws.Walked.{least_more}

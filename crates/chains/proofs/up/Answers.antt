@@ -1,10 +1,10 @@
 -- `chains::up` meets its contract: the sides below place i are passed, and place i holds z. Assumes nothing.
 use Rattle.std.proofs.Common.{ap, arith, sym, ◌+◌, ◌∙◌, ◌≡◌}
 use Rattle.theory.specs.Tables.{limit}
-use Rattle.theory.specs.Laws.FourPoint.{well_formed_less}
-use Rattle.upper_sides.specs.Laws.Chain.{chained_less}
+use Rattle.theory.proofs.Laws.FourPoint.{well_formed_less}
+use Rattle.upper_sides.proofs.Laws.Chain.{chained_less}
 use Rattle.chains.specs.Laws.Climbs.{up_none, up_past}
-use Rattle.upper_sides.specs.Laws.Ends.{near-own}
+use Rattle.upper_sides.proofs.Laws.Ends.{near-own}
 use Rattle.upper_sides.specs.Links.{Holder}
 use Rattle.upper_sides.specs.Laws.Uppers.{first_holder, upper_holder}
 use Rattle.chains.proofs.up.Goals as goal

@@ -5,7 +5,7 @@ use Rattle.ground.specs.Laws.Refusals.{if_goes, if_stops}
 use Rattle.theory.specs.Comparison.{inners}
 use Rattle.link_forms.specs.Said.{images_of}
 use Rattle.choice.specs.Call.{sides_of, taken}
-use Rattle.choice.specs.Laws.Chain.{images-differ, images_same}
+use Rattle.choice.proofs.Laws.Chain.{images-differ, images_same}
 use Rattle.choice.specs.Read.{SidesListed}
 use Rattle.choice.specs.Laws.Read.{read_listed, read_refused}
 use Rattle.choice.specs.declared.Chosen.TheVariants as answer

@@ -1,7 +1,7 @@
 -- `choice::choose` meets its contract: the part that the choice names, cut at the used bytes. Assumes nothing.
 use Rattle.std.proofs.Common.{ap, length-take-le, sym, ℕ, ◌∙◌, ◌≡◌}
 use Rattle.choice.specs.Call.{choice_either}
-use Rattle.choice.specs.Laws.Parts.{first_fits, part-first, part-refused, part-second, second_fits}
+use Rattle.choice.proofs.Laws.Parts.{first_fits, part-first, part-refused, part-second, second_fits}
 use Rattle.choice.specs.declared.Chosen.TheVariants.{Table}
 use Rattle.bits.specs.declared.Form.{Form}
 use Rattle.link_forms.specs.Form.{link_form_at}

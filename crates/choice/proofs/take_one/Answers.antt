@@ -1,7 +1,7 @@
 -- `choice::take_one` meets its contract: a table includes the other where the common far sides are all of the other's. Assumes nothing.
 use Rattle.std.proofs.Common.{ap, ◌^◌, ◌∙◌}
 use Rattle.ground.specs.declared.Refusal.{Refusal}
-use Rattle.choice.specs.Laws.Chain.{takes_first, takes_none, takes_second}
+use Rattle.choice.proofs.Laws.Chain.{takes_first, takes_none, takes_second}
 use Rattle.choice.specs.declared.Chosen.TheVariants as answer
 use Rattle.choice.proofs.take_one.Goals as goal
 

@@ -1,7 +1,7 @@
 -- `conversion::check_again` meets its contract: the first refusal is the answer. Assumes nothing.
 use Rattle.std.proofs.Common.{arith, refl, ◌∙◌}
 use Rattle.ground.specs.Laws.Refusals.{then_goes, then_stops}
-use Rattle.stored_costs.specs.Laws.Enough.{enough_room}
+use Rattle.stored_costs.proofs.Laws.Enough.{enough_room}
 use Rattle.conversion.proofs.check_again.Goals as goal
 
 pub returns-in_default : goal.returns-in_default

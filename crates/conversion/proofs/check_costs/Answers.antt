@@ -1,6 +1,6 @@
 -- `conversion::check_costs` meets its contract: what the lower limit lets pass is within both. Assumes nothing.
 use Rattle.std.proofs.Common.{arith, sym, ◌∙◌, ◌≡◌}
-use Rattle.stored_costs.specs.Laws.Enough.{enough_room}
+use Rattle.stored_costs.proofs.Laws.Enough.{enough_room}
 use Rattle.stored_costs.specs.Reading.{table_checks}
 use Rattle.conversion.specs.Laws.Limits.{stricter, stricter_again, stricter-passed}
 use Rattle.conversion.proofs.check_costs.Goals as goal

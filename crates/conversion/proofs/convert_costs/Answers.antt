@@ -5,12 +5,12 @@ use Rattle.ground.specs.declared.Check.{Check}
 use Rattle.theory.specs.Tables.{cost}
 use Rattle.bits.specs.declared.Form.{Form}
 use Rattle.cost_forms.specs.Form.{cost_form, cost_form_at}
-use Rattle.stored_costs.specs.Laws.Enough.{table_readable}
-use Rattle.stored_costs.specs.Laws.Passed.{readable_held}
-use Rattle.stored_costs.specs.Laws.Told.{form_small, told_small}
+use Rattle.stored_costs.proofs.Laws.Enough.{table_readable}
+use Rattle.stored_costs.proofs.Laws.Passed.{readable_held}
+use Rattle.stored_costs.proofs.Laws.Told.{form_small, told_small}
 use Rattle.stored_costs.specs.Reading.{table_checks}
 use Rattle.stored_costs.specs.Stored.{Readable}
-use Rattle.cost_writer.specs.Laws.Accepted.{together_passed, together_refused}
+use Rattle.cost_writer.proofs.Laws.Accepted.{together_passed, together_refused}
 use Rattle.cost_limits.specs.Checks.{fit_check}
 use Rattle.conversion.specs.Costs.{entry_checks, images_said, table_said}
 use Rattle.conversion.proofs.convert_costs.Goals as goal

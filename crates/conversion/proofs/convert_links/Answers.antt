@@ -4,8 +4,8 @@ use lib.ListN.{length-replicate}
 use Rattle.ground.specs.declared.Check.TheVariants.{Refused}
 use Rattle.link_forms.specs.Form.{link_form_at}
 use Rattle.stored_links.specs.Reading.{table_checks}
-use Rattle.stored_links.specs.Laws.Enough.{LinksRead, front_read, front-refused}
-use Rattle.conversion.specs.Laws.Links.{begins-table}
+use Rattle.stored_links.proofs.Laws.Enough.{LinksRead, front_read, front-refused}
+use Rattle.conversion.proofs.Laws.Links.{begins-table}
 use Rattle.conversion.proofs.convert_links.Goals as goal
 
 -- each array as it was made, with room for every table

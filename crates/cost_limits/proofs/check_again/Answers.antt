@@ -2,7 +2,7 @@
 use Rattle.std.proofs.Common.{sym, ◌∙◌}
 use Rattle.ground.specs.Laws.Refusals.{then_goes, then_stops}
 use Rattle.theory.specs.Tables.{limit}
-use Rattle.tables.specs.Laws.Formed.{cost-table}
+use Rattle.tables.proofs.Laws.Formed.{cost-table}
 use Rattle.cost_limits.proofs.check_again.Goals as goal
 
 pub returns-in_default : goal.returns-in_default

@@ -1,7 +1,7 @@
 -- `cost_limits::check_table` meets its contract: the first refusal is the answer. Assumes nothing.
 use Rattle.std.proofs.Common.{sym, ◌∙◌}
 use Rattle.ground.specs.Laws.Refusals.{then_goes, then_stops}
-use Rattle.tables.specs.Laws.Formed.{size-passed}
+use Rattle.tables.proofs.Laws.Formed.{size-passed}
 use Rattle.cost_limits.proofs.check_table.Goals as goal
 
 pub returns-in_default : goal.returns-in_default

@@ -4,10 +4,10 @@ use Rattle.ground.specs.Laws.Refusals.{then_passed}
 use Rattle.ground.specs.Refusals.{◌then◌}
 use Rattle.ground.specs.declared.Check.{Check}
 use Rattle.theory.specs.Tables.{CostTable, cost, limit}
-use Rattle.tables.specs.Laws.Formed.{cost-table}
+use Rattle.tables.proofs.Laws.Formed.{cost-table}
 use Rattle.cost_forms.specs.Form.{cost_form}
-use Rattle.stored_costs.specs.Laws.Told.{form_limit, form_small}
-use Rattle.cost_writer.specs.Laws.Accepted.{together_passed, together_refused}
+use Rattle.stored_costs.proofs.Laws.Told.{form_limit, form_small}
+use Rattle.cost_writer.proofs.Laws.Accepted.{together_passed, together_refused}
 use Rattle.cost_limits.specs.Checks.{fit_check, table_checks}
 use Rattle.cost_writer.proofs.write_costs.Goals as goal
 

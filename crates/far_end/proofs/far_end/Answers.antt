@@ -1,7 +1,7 @@
 -- `far_end::far_end` meets its contract: before image w the farthest of the images from 1 on is found. Assumes nothing.
 use Rattle.std.proofs.Common.{rules}
 use Rattle.theory.specs.Tables.{cost}
-use Rattle.far_end.specs.Laws.FarEnd.{farther_lt, farthest_end, farthest-more, farthest_none}
+use Rattle.far_end.proofs.Laws.FarEnd.{farther_lt, farthest_end, farthest-more, farthest_none}
 use Rattle.far_end.proofs.far_end.Goals as goal
 
 pub loop-w-init : goal.loop-w-init

@@ -1,7 +1,7 @@
 -- `growing::grow` meets its contract: the three parts, one behind the other, are the reading over one image more. Assumes nothing.
 use Rattle.std.proofs.Common.{ap, arith, get_or, length, min, refl, rules, suc, ℕ, ◌*◌, ◌-◌, ◌<◌, ◌^◌, ◌∙◌, ◌≡◌, ◌≤◌}
 use Rattle.ground.specs.Filters.{filter}
-use Rattle.theory.specs.Laws.FourPoint.{well_formed_less}
+use Rattle.theory.proofs.Laws.FourPoint.{well_formed_less}
 use Rattle.theory.specs.OneMore.{more, stays}
 use Rattle.theory.specs.Readings.{measured}
 use Rattle.theory.specs.Tables.{WellFormed, cost, limit}

@@ -3,8 +3,8 @@ use Rattle.std.proofs.Common.{sym, ◌∙◌}
 use mir.Facts.{to_z-of_z}
 use mir.Syntax.{w64}
 use Rattle.ground.specs.Laws.Refusals.{if_stops}
-use Rattle.index.specs.Laws.Passed.{index-passed}
-use Rattle.index.specs.Laws.Value.{value_answered}
+use Rattle.index.proofs.Laws.Passed.{index-passed}
+use Rattle.index.proofs.Laws.Value.{value_answered}
 use Rattle.theory.specs.Tables.{limit}
 use Rattle.ground.specs.declared.SignedAnswer.TheVariants as answer
 use Rattle.index.proofs.index.Goals as goal

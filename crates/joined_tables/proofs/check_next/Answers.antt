@@ -2,7 +2,7 @@
 use Rattle.std.proofs.Common.{arith, sym, take, ◌∙◌}
 use Rattle.ground.specs.Laws.Refusals.{then_goes, then_stops}
 use Rattle.links.specs.Laws.LinkChecks.{LinksSized}
-use Rattle.stored_links.specs.Laws.Told.{form_small}
+use Rattle.stored_links.proofs.Laws.Told.{form_small}
 use Rattle.joined_tables.specs.Laws.Next.{next_sized}
 use Rattle.joined_tables.proofs.check_next.Goals as goal
 

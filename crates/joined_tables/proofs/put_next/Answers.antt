@@ -1,7 +1,7 @@
 -- `joined_tables::put_next` meets its contract: the writer gets the rows of the table alone. Assumes nothing.
 use Rattle.std.proofs.Common.{ap, arith, length, length-drop, refl, ℕ, ◌+◌, ◌-◌, ◌∙◌, ◌≡◌, ◌≤◌}
 use Rattle.link_forms.specs.Form.{link_form, link_used}
-use Rattle.stored_links.specs.Laws.Told.{form_small}
+use Rattle.stored_links.proofs.Laws.Told.{form_small}
 use Rattle.joined_tables.specs.Laws.Next.{next-count, next-length, next-room}
 use Rattle.joined_tables.proofs.put_next.Goals as goal
 

@@ -4,9 +4,9 @@ use Rattle.ground.specs.Laws.Buffers.{rest_part}
 use Rattle.link_forms.specs.Form.{link_form, link_used}
 use Rattle.bits.specs.declared.Form.{Form}
 use Rattle.joined_tables.specs.Fitting.{BatchFits, NextFits}
-use Rattle.joined_tables.specs.Laws.Joined.{joined_end, joined-more, joined-start}
+use Rattle.joined_tables.proofs.Laws.Joined.{joined_end, joined-more, joined-start}
 use Rattle.joined_tables.specs.Laws.Next.{next-length}
-use Rattle.joined_tables.specs.Laws.Steps.{fits_start, fits_step}
+use Rattle.joined_tables.proofs.Laws.Steps.{fits_start, fits_step}
 use Rattle.joined_tables.specs.Tables.{tables}
 use Rattle.joined_tables.proofs.put_tables.Goals as goal
 

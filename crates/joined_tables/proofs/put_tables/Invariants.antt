@@ -4,7 +4,7 @@ use Rattle.ground.specs.Buffers.{front}
 use Rattle.link_forms.specs.Form.{link_form}
 use Rattle.joined_tables.specs.Bytes.{batch_bytes}
 use Rattle.joined_tables.specs.Fitting.{BatchFits}
-use Rattle.joined_tables.specs.Laws.Joined.{joined_at}
+use Rattle.joined_tables.proofs.Laws.Joined.{joined_at}
 use Rattle.joined_tables.specs.Tables.{tables}
 use Rattle.joined_tables.proofs.put_tables.Given as goal
 

@@ -2,7 +2,7 @@
 use Rattle.std.proofs.Common.{arith, refl, rules, sym, ◌∙◌}
 use mathlib.Core.Bool.{false≢true}
 use Rattle.theory.specs.Tables.{limit}
-use Rattle.leveling.specs.Laws.Joins.{three_end, three-first, three-joins, three-more}
+use Rattle.leveling.proofs.Laws.Joins.{three_end, three-first, three-joins, three-more}
 use Rattle.leveling.proofs.has_levels.Goals as goal
 
 pub loop-j-init : goal.loop-j-init

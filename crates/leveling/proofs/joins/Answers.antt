@@ -2,7 +2,7 @@
 use Rattle.std.proofs.Common.{rules, true}
 use Rattle.theory.specs.Tables.{cost}
 use Rattle.leveling.specs.Joins.{joins_at}
-use Rattle.leveling.specs.Laws.Joins.{joins_ends, joins-more, joins_none, joins_stops}
+use Rattle.leveling.proofs.Laws.Joins.{joins_ends, joins-more, joins_none, joins_stops}
 use Rattle.leveling.proofs.joins.Goals as goal
 
 pub loop-i-init : goal.loop-i-init

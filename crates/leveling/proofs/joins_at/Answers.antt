@@ -1,5 +1,5 @@
 -- `leveling::joins_at` meets its contract. Assumes nothing.
-use Rattle.leveling.specs.Laws.Joins.{joins_by, joins-far, joins-near}
+use Rattle.leveling.proofs.Laws.Joins.{joins_by, joins-far, joins-near}
 use Rattle.leveling.proofs.joins_at.Goals as goal
 
 pub returns-then-y-z : goal.returns-then-y-z

@@ -1,5 +1,5 @@
 -- `leveling::nearer` meets its contract. Assumes nothing.
-use Rattle.leveling.specs.Laws.Joins.{nearer-left, nearer-taken}
+use Rattle.leveling.proofs.Laws.Joins.{nearer-left, nearer-taken}
 use Rattle.leveling.proofs.nearer.Goals as goal
 
 pub returns-then-entry : goal.returns-then-entry

@@ -1,6 +1,6 @@
 -- `leveling::nearest` meets its contract: p is nearest among the images before i. Assumes nothing.
 use Rattle.std.proofs.Common.{rules}
-use Rattle.leveling.specs.Laws.Joins.{nearest_end, nearest-first, nearest-more}
+use Rattle.leveling.proofs.Laws.Joins.{nearest_end, nearest-first, nearest-more}
 use Rattle.leveling.proofs.nearest.Goals as goal
 
 pub loop-i-init : goal.loop-i-init

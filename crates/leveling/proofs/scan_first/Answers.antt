@@ -1,7 +1,7 @@
 -- `leveling::scan_first` meets its contract: what is left answers as the whole does. Assumes nothing.
 use Rattle.std.proofs.Common.{rules, ◌∙◌}
 use Rattle.ground.specs.Laws.Lowest.{all-begins, all_ends, all_goes, all_stops}
-use Rattle.leveling.specs.Laws.Scan.{levels_scan}
+use Rattle.leveling.proofs.Laws.Scan.{levels_scan}
 use Rattle.leveling.proofs.scan_first.Goals as goal
 
 pub loop-i-init : goal.loop-i-init

@@ -2,7 +2,7 @@
 use Rattle.std.proofs.Common.{rules}
 use Rattle.ground.specs.Laws.Lowest.{all_ends, all_goes, all_stops}
 use Rattle.theory.specs.Tables.{limit}
-use Rattle.leveling.specs.Laws.Scan.{second-behind}
+use Rattle.leveling.proofs.Laws.Scan.{second-behind}
 use Rattle.leveling.proofs.scan_second.Goals as goal
 
 pub loop-j-init : goal.loop-j-init

@@ -1,7 +1,7 @@
 -- `levels::after` meets its contract: m is the least over the images before j that stand after k. Assumes nothing.
 use Rattle.std.proofs.Common.{rules}
 use Rattle.ground.specs.Laws.Least.{least_on_end}
-use Rattle.levels.specs.Laws.Next.{after-begins, after_more}
+use Rattle.levels.proofs.Laws.Next.{after-begins, after_more}
 use Rattle.levels.specs.Next.{after_height}
 use Rattle.levels.proofs.after.Goals as goal
 

@@ -2,9 +2,9 @@
 use Rattle.std.proofs.Common.{arith, sym, ◌∙◌}
 use Rattle.ground.specs.Laws.Refusals.{then_goes, then_stops}
 use Rattle.tables.specs.Formed.{Sized}
-use Rattle.tables.specs.Laws.Formed.{size-passed}
+use Rattle.tables.proofs.Laws.Formed.{size-passed}
 use Rattle.theory.specs.Tables.{limit}
-use Rattle.levels.specs.Laws.Asked.{room_checked, table_of}
+use Rattle.levels.proofs.Laws.Asked.{room_checked, table_of}
 use Rattle.levels.specs.Outcome.{levels_checks}
 use Rattle.levels.proofs.check_all.Goals as goal
 

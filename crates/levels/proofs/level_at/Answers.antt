@@ -2,8 +2,8 @@
 use Rattle.std.proofs.Common.{rules}
 use Rattle.ground.specs.Laws.Least.{least_on_none, least_on-turn}
 use Rattle.theory.specs.Tables.{limit}
-use Rattle.levels.specs.Laws.Members.{ball_end, ball-more, ball_none, ball-room}
-use Rattle.levels.specs.Laws.Next.{next_end}
+use Rattle.levels.proofs.Laws.Members.{ball_end, ball-more, ball_none, ball-room}
+use Rattle.levels.proofs.Laws.Next.{next_end}
 use Rattle.levels.proofs.level_at.Goals as goal
 
 pub loop-j-init : goal.loop-j-init

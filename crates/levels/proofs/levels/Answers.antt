@@ -1,7 +1,7 @@
 -- `levels::levels` meets its contract: everything is checked before the first store. Assumes nothing.
 use Rattle.std.proofs.Common.{sym, ◌∙◌}
 use Rattle.theory.specs.Tables.{limit}
-use Rattle.levels.specs.Laws.Asked.{left-refused, left_written, passed_asked}
+use Rattle.levels.proofs.Laws.Asked.{left-refused, left_written, passed_asked}
 use Rattle.levels.proofs.levels.Goals as goal
 
 pub write_levels-requires : goal.write_levels-requires

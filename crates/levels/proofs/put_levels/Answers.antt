@@ -2,8 +2,8 @@
 -- with images after k. Assumes nothing.
 use Rattle.std.proofs.Common.{List, arith, length, length-set, refl, rules, suc, true, ℕ, ◌<◌, ◌≤◌}
 use Rattle.theory.specs.Tables.{cost, limit}
-use Rattle.levels.specs.Laws.Next.{after-most, next_fits, next_here, next_least}
-use Rattle.levels.specs.Laws.Storing.{stored_end, stored_fits, stored_more, stored_none}
+use Rattle.levels.proofs.Laws.Next.{after-most, next_fits, next_here, next_least}
+use Rattle.levels.proofs.Laws.Storing.{stored_end, stored_fits, stored_more, stored_none}
 use Rattle.levels.proofs.put_levels.Goals as goal
 
 pub loop-h-init : goal.loop-h-init

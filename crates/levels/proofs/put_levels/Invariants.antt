@@ -3,7 +3,7 @@
 use Rattle.std.proofs.Common.{length, suc, true, ◌-◌, ◌<◌, ◌≡◌, ◌≤◌}
 use Rattle.theory.specs.Tables.{cost, limit}
 use Rattle.levels.specs.Balls.{is_level}
-use Rattle.levels.specs.Laws.Storing.{Stored}
+use Rattle.levels.proofs.Laws.Storing.{Stored}
 use Rattle.levels.specs.Next.{after_height}
 use Rattle.levels.proofs.put_levels.Given as goal
 

@@ -1,8 +1,8 @@
 -- `levels::turn_level` meets its contract: image j is a member, or its entry is not below the next height. Assumes nothing.
 use Rattle.std.proofs.Common.{arith}
 use Rattle.theory.specs.Tables.{cost}
-use Rattle.levels.specs.Laws.Members.{member_left, member_taken}
-use Rattle.levels.specs.Laws.Next.{from-left, from-taken}
+use Rattle.levels.proofs.Laws.Members.{member_left, member_taken}
+use Rattle.levels.proofs.Laws.Next.{from-left, from-taken}
 use Rattle.levels.proofs.turn_level.Goals as goal
 
 pub overflow_add-result : goal.overflow_add-result

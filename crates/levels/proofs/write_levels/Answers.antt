@@ -1,7 +1,7 @@
 -- `levels::write_levels` meets its contract: the groups whose last image is before k are written. Assumes nothing.
 use Rattle.std.proofs.Common.{arith, refl, rules}
 use Rattle.theory.specs.Tables.{cost, limit}
-use Rattle.levels.specs.Laws.Written.{written_end, written_groups, written_heights, written_lengths, written_more, written_none}
+use Rattle.levels.proofs.Laws.Written.{written_end, written_groups, written_heights, written_lengths, written_more, written_none}
 use Rattle.levels.proofs.write_levels.Goals as goal
 
 pub loop-k-init : goal.loop-k-init

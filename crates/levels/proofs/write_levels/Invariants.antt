@@ -1,7 +1,7 @@
 -- `levels::write_levels` meets its contract: the groups whose last image is before k are written. Assumes nothing.
 use Rattle.std.proofs.Common.{length, ◌-◌, ◌≡◌, ◌≤◌}
 use Rattle.theory.specs.Tables.{cost, limit}
-use Rattle.levels.specs.Laws.Written.{WrittenTo}
+use Rattle.levels.proofs.Laws.Written.{WrittenTo}
 use Rattle.levels.proofs.write_levels.Given as goal
 
 abbrev pub invariant-loop-k : goal.invariant-loop-k

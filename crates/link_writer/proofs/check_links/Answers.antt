@@ -1,6 +1,6 @@
 -- `link_writer::check_links` meets its contract: the first refusal is the answer. Assumes nothing.
 use Rattle.ground.specs.Laws.Refusals.{then_goes, then_stops}
-use Rattle.stored_links.specs.Laws.Told.{form_limit}
+use Rattle.stored_links.proofs.Laws.Told.{form_limit}
 use Rattle.link_writer.proofs.check_links.Goals as goal
 
 pub returns-in_default : goal.returns-in_default

@@ -1,7 +1,7 @@
 -- `link_writer::store_links` meets its contract: the form is put once both checks passed. Assumes nothing.
 use Rattle.std.proofs.Common.{ap, length, sym, ◌∙◌, ◌≡◌, ◌≤◌}
 use Rattle.link_forms.specs.Form.{link_form, link_used}
-use Rattle.stored_links.specs.Laws.Told.{form_limit, form_small}
+use Rattle.stored_links.proofs.Laws.Told.{form_limit, form_small}
 use Rattle.link_forms.specs.Sizes.{Small}
 use Rattle.theory.specs.Tables.{limit}
 use Rattle.link_writer.specs.Laws.Accepted.{links_small, store_passed}

@@ -2,8 +2,8 @@
 use Rattle.std.proofs.Common.{arith, length, sym, ◌++◌, ◌≤◌}
 use Rattle.text.specs.Laws.Pieces.{put_same}
 use Rattle.text.specs.Laws.Putting.{last_fits, rest_fits, rest_last, rest-step}
-use Rattle.newick_rows.specs.Laws.Below.{put_none, zero_at}
-use Rattle.newick_rows.specs.Laws.Chains.{before_most, inner-most}
+use Rattle.newick_rows.proofs.Laws.Below.{put_none, zero_at}
+use Rattle.newick_rows.proofs.Laws.Chains.{before_most, inner-most}
 use Rattle.newick_rows.proofs.Pieces.{begins, begun, cost, earlier, inside}
 use Rattle.newick_rows.proofs.+put_below.Goals as goal
 

@@ -1,7 +1,7 @@
 -- `newick_rows::chain_rows` meets its contract: the chains of the first i rows are there. Assumes nothing.
 use Rattle.std.proofs.Common.{ap, arith, get_or, length, length-set, ℕ, ◌+◌, ◌<◌, ◌∙◌}
 use lib.ListN.{length-replicate}
-use Rattle.newick_rows.specs.Laws.Chains.{linked_all, linked_more, linked_none}
+use Rattle.newick_rows.proofs.Laws.Chains.{linked_all, linked_more, linked_none}
 use Rattle.newick_rows.proofs.chain_rows.Goals as goal
 
 pub loop-i-init : goal.loop-i-init

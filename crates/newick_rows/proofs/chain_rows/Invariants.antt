@@ -1,6 +1,6 @@
 -- `newick_rows::chain_rows` meets its contract: the chains of the first i rows are there. Assumes nothing.
 use Rattle.std.proofs.Common.{length, ◌-◌, ◌≡◌, ◌≤◌}
-use Rattle.newick_rows.specs.Laws.Chains.{Linked}
+use Rattle.newick_rows.proofs.Laws.Chains.{Linked}
 use Rattle.newick_rows.proofs.chain_rows.Given as goal
 
 abbrev pub invariant-loop-i : goal.invariant-loop-i

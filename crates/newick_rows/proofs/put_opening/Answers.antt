@@ -2,7 +2,7 @@
 use Rattle.std.proofs.Common.{ap, arith, sym, ◌∙◌}
 use Rattle.text.specs.Decimal.{decimal}
 use Rattle.text.specs.Laws.Pieces.{put_same}
-use Rattle.newick_rows.specs.Laws.Below.{fits_same, opening_bracket, opening_image}
+use Rattle.newick_rows.proofs.Laws.Below.{fits_same, opening_bracket, opening_image}
 use Rattle.newick_rows.proofs.put_opening.Goals as goal
 
 pub put_byte-requires : goal.put_byte-requires

@@ -6,7 +6,7 @@ use Rattle.text.specs.Laws.Putting.{byte_fits, byte_last_fits, rest_begin, rest_
 use Rattle.newick_text.specs.Trees.{Siblings, listed}
 use Rattle.newick_rows.specs.Below.{cost_text, tree_text}
 use Rattle.newick_rows.specs.Chains.{chain}
-use Rattle.newick_rows.specs.Laws.Chains.{inner-chain, inner-most}
+use Rattle.newick_rows.proofs.Laws.Chains.{inner-chain, inner-most}
 use Rattle.newick_rows.proofs.put_tree.Goals as goal
 
 pub put_byte-open-requires : goal.put_byte-open-requires

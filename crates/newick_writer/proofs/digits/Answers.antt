@@ -1,6 +1,6 @@
 -- `newick_writer::digits` meets its contract: the digits counted, and those of what is left, are all of them. Assumes nothing.
 use Rattle.std.proofs.Common.{arith, rules}
-use Rattle.text.specs.Laws.Numbers.{decimal-most}
+use Rattle.text.proofs.Laws.Numbers.{decimal-most}
 use Rattle.newick_writer.specs.Laws.Summing.{more-digits, one-digit}
 use Rattle.newick_writer.proofs.digits.Goals as goal
 

@@ -1,6 +1,6 @@
 -- `newick_writer::row_bytes` meets its contract: no number has more than 20 digits. Assumes nothing.
 use Rattle.std.proofs.Common.{arith}
-use Rattle.text.specs.Laws.Numbers.{decimal-most}
+use Rattle.text.proofs.Laws.Numbers.{decimal-most}
 use Rattle.newick_writer.specs.Laws.Summing.{head_most, row_is}
 use Rattle.newick_writer.proofs.row_bytes.Goals as goal
 

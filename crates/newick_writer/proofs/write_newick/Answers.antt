@@ -5,7 +5,7 @@ use lib.ListN.{length-replicate}
 use Rattle.theory.specs.Routes.{uppers}
 use Rattle.theory.specs.Tables.{limit}
 use Rattle.links.specs.Links.{Links}
-use Rattle.newick_writer.specs.Laws.Accepted.{few_here, known, uppers-left, uppers_links, uppers-refused, write_known, write_stopped}
+use Rattle.newick_writer.proofs.Laws.Accepted.{few_here, known, uppers-left, uppers_links, uppers-refused, write_known, write_stopped}
 use Rattle.newick_writer.proofs.write_newick.Goals as goal
 
 -- they were 128

@@ -4,7 +4,7 @@ use Rattle.ground.specs.Laws.Outcomes.{written_goes, written_stops}
 use Rattle.ground.specs.Refusals.{room_check}
 use Rattle.text.specs.Laws.Putting.{put_front}
 use Rattle.newick_rows.specs.Below.{tree_text}
-use Rattle.newick_writer.specs.Laws.Accepted.{room_fits}
+use Rattle.newick_writer.proofs.Laws.Accepted.{room_fits}
 use Rattle.newick_writer.proofs.write_rows.Goals as goal
 
 pub text_bytes-requires : goal.text_bytes-requires

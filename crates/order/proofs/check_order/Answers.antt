@@ -1,7 +1,7 @@
 -- `order::check_order` meets its contract: the first refusal is the answer. Assumes nothing.
 use Rattle.std.proofs.Common.{sym, ◌∙◌}
 use Rattle.ground.specs.Laws.Refusals.{then_goes, then_stops}
-use Rattle.tables.specs.Laws.Formed.{size-passed}
+use Rattle.tables.proofs.Laws.Formed.{size-passed}
 use Rattle.order.specs.Outcome.{order_checks}
 use Rattle.order.proofs.check_order.Goals as goal
 

@@ -1,8 +1,8 @@
 -- `order::order` meets its contract: everything is checked, then written. Assumes nothing.
 use Rattle.std.proofs.Common.{arith, sym, ◌∙◌}
 use Rattle.theory.specs.Tables.{limit}
-use Rattle.order.specs.Laws.Asked.{passed_asked}
-use Rattle.order.specs.Promises.{left-refused, left_written}
+use Rattle.order.proofs.Laws.Asked.{passed_asked}
+use Rattle.order.proofs.Promises.{left-refused, left_written}
 use Rattle.order.proofs.order.Goals as goal
 
 pub overflow_sub-first : goal.overflow_sub-first

@@ -1,7 +1,7 @@
 -- `phrases::put_four` meets its contract: the words and three places, then the fourth. Assumes nothing.
 use Rattle.std.proofs.Common.{List, [], append-nil, append_assoc, arith, ℕ, ◌++◌, ◌∷◌, ◌≡◌}
 use Rattle.text.specs.Fields.{field, fields}
-use Rattle.text.specs.Laws.Lengths.{word_fields_fit}
+use Rattle.text.proofs.Laws.Lengths.{word_fields_fit}
 use Rattle.text.specs.Laws.Putting.{rest_begin, rest_last, rest-step}
 use Rattle.text.specs.Putting.{Fits, Rest}
 use Rattle.phrases.proofs.put_four.Goals as goal

@@ -1,7 +1,7 @@
 -- `phrases::put_three` meets its contract: the words, then three places. Assumes nothing.
 use Rattle.std.proofs.Common.{List, [], arith, ℕ, ◌++◌, ◌∷◌}
 use Rattle.text.specs.Fields.{field, fields}
-use Rattle.text.specs.Laws.Lengths.{word_fields_fit}
+use Rattle.text.proofs.Laws.Lengths.{word_fields_fit}
 use Rattle.text.specs.Laws.Putting.{rest_begin, rest_end, rest_fits, rest-step}
 use Rattle.text.specs.Putting.{Fits, Rest}
 use Rattle.phrases.proofs.put_three.Goals as goal

@@ -1,6 +1,6 @@
 -- `positions::costs_at` meets its contract: the answer of `stored_costs::read_costs`, and where the reader then stands. Assumes nothing.
 use Rattle.std.proofs.Common.{arith, length, sym, ◌∙◌}
-use Rattle.positions.specs.Laws.Stands.{costs-accepted, costs-short, costs-refused}
+use Rattle.positions.proofs.Laws.Stands.{costs-accepted, costs-short, costs-refused}
 use Rattle.positions.proofs.costs_at.Goals as goal
 
 pub behind-requires : goal.behind-requires

@@ -1,6 +1,6 @@
 -- `positions::links_at` meets its contract: the answer of `stored_links::read_links`, and where the reader then stands. Assumes nothing.
 use Rattle.std.proofs.Common.{arith, length, min, sym, ◌∙◌}
-use Rattle.positions.specs.Laws.Stands.{links_accepted, links_short, links_refused}
+use Rattle.positions.proofs.Laws.Stands.{links_accepted, links_short, links_refused}
 use Rattle.positions.proofs.links_at.Goals as goal
 
 pub behind-requires : goal.behind-requires

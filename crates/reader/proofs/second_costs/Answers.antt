@@ -2,7 +2,7 @@
 use Rattle.std.proofs.Common.{arith, length, sym, ◌*◌, ◌∙◌, ◌≤◌}
 use Rattle.ground.specs.Outcomes.{Left}
 use Rattle.stored_costs.specs.Outcomes.{read_either}
-use Rattle.positions.specs.Laws.Stands.{costs-inside, costs-short}
+use Rattle.positions.proofs.Laws.Stands.{costs-inside, costs-short}
 use Rattle.reader.specs.Laws.TwoRead.{rest-left, second-accepted, second-refused}
 use Rattle.reader.proofs.second_costs.Goals as goal
 

@@ -3,8 +3,8 @@
 use Rattle.std.proofs.Common.{List, arith, false, rules, suc, sym, true, ℕ, ◌+◌, ◌<◌, ◌∙◌, ◌≡◌, ◌≤◌}
 use Rattle.theory.specs.Tables.{cost}
 use Rattle.recognition.specs.Laws.Below.{below_end, below_fails, below_more, below_none}
-use Rattle.recognition.specs.Laws.Facts.{grafts-both}
-use Rattle.recognition.specs.Laws.Seats.{own_below, own-reached, seats_formula}
+use Rattle.recognition.proofs.Laws.Facts.{grafts-both}
+use Rattle.recognition.proofs.Laws.Seats.{own_below, own-reached, seats_formula}
 use Rattle.recognition.specs.Recognition.{formula, grafts, placed, reaches, recognised}
 use Rattle.recognition.specs.Seats.{seat}
 use Rattle.recognition.proofs.can_graft.Goals as goal

@@ -3,7 +3,7 @@
 use Rattle.std.proofs.Common.{ℕ, ◌∙◌}
 use Rattle.ground.specs.declared.Check.{Check}
 use Rattle.tables.specs.Checks.{entry_check, least_check}
-use Rattle.tables.specs.Laws.Pairs.{pass_alone, pass_clean, pass_first, pass_second}
+use Rattle.tables.proofs.Laws.Pairs.{pass_alone, pass_clean, pass_first, pass_second}
 use Rattle.cost_forms.specs.Entries.{entry_cost}
 use Rattle.cost_forms.specs.Said.{entry_of}
 use Rattle.stored_costs.proofs.check_values.Goals as goal

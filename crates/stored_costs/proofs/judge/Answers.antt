@@ -4,7 +4,7 @@ use Rattle.ground.specs.Laws.Buffers.{rest_part}
 use Rattle.ground.specs.Laws.Refusals.{if_goes, if_stops}
 use Rattle.stored_costs.specs.declared.StoredCosts.TheVariants.{Table}
 use Rattle.stored_costs.specs.declared.StoredCosts.TheVariants as stored
-use Rattle.stored_costs.specs.Laws.Passed.{read_at_passed}
+use Rattle.stored_costs.proofs.Laws.Passed.{read_at_passed}
 use Rattle.cost_forms.specs.Laws.Sizes.{end_le}
 use Rattle.cost_forms.specs.Sizes.{Small}
 use Rattle.stored_costs.specs.Stored.{Readable}

@@ -1,5 +1,5 @@
 -- `stored_costs::judge_costs` meets its contract: it is the judge for the form that the bytes tell. Assumes nothing.
-use Rattle.stored_costs.specs.Laws.Told.{told_small}
+use Rattle.stored_costs.proofs.Laws.Told.{told_small}
 use Rattle.stored_costs.proofs.judge_costs.Goals as goal
 
 pub judge-requires : goal.judge-requires

@@ -1,8 +1,8 @@
 -- `stored_costs::read_costs` meets its contract: the places are filled once all checks passed. Assumes nothing.
 use Rattle.std.proofs.Common.{length, sym, ◌/◌, ◌∙◌, ◌≡◌}
 use Rattle.ground.specs.Laws.Buffers.{rest_part}
-use Rattle.stored_costs.specs.Laws.Passed.{judged-refused, readable_held, table-at}
-use Rattle.stored_costs.specs.Laws.Told.{told_small}
+use Rattle.stored_costs.proofs.Laws.Passed.{judged-refused, readable_held, table-at}
+use Rattle.stored_costs.proofs.Laws.Told.{told_small}
 use Rattle.ground.specs.Laws.Outcomes.{front_goes, front_stops}
 use Rattle.bits.specs.declared.Form.{Form}
 use Rattle.cost_forms.specs.Form.{cost_form_at}

@@ -2,7 +2,7 @@
 use Rattle.std.proofs.Common.{arith, length, sym, ◌+◌, ◌/◌, ◌∙◌, ◌≤◌}
 use Rattle.ground.specs.Laws.Refusals.{then_goes, then_stops}
 use Rattle.link_forms.specs.Said.{fill_of}
-use Rattle.stored_links.specs.Laws.Passed.{end_passed}
+use Rattle.stored_links.proofs.Laws.Passed.{end_passed}
 use Rattle.link_forms.specs.Laws.Sizes.{end_le}
 use Rattle.link_forms.specs.Sizes.{last_row_end}
 use Rattle.stored_links.proofs.check_body.Goals as goal

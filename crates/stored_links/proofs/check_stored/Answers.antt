@@ -3,7 +3,7 @@ use Rattle.std.proofs.Common.{arith, sym, ◌∙◌, ◌≡◌}
 use Rattle.ground.specs.Laws.Refusals.{then_goes, then_stops}
 use Rattle.ground.specs.declared.Check.TheVariants.{Passed}
 use Rattle.stored_links.specs.Reading.{head_checks}
-use Rattle.stored_links.specs.Laws.Passed.{head_passed}
+use Rattle.stored_links.proofs.Laws.Passed.{head_passed}
 use Rattle.stored_links.proofs.check_stored.Goals as goal
 
 pub returns-in_default : goal.returns-in_default

@@ -4,8 +4,8 @@ use Rattle.ground.specs.Laws.Buffers.{rest_part}
 use Rattle.ground.specs.Laws.Refusals.{if_goes, if_stops}
 use Rattle.link_forms.specs.Said.{count_of, images_of, used_of}
 use Rattle.stored_links.specs.declared.StoredLinks.TheVariants as stored
-use Rattle.stored_links.specs.Laws.Passed.{stored_held}
-use Rattle.stored_links.specs.Laws.Positions.{read_at_passed}
+use Rattle.stored_links.proofs.Laws.Passed.{stored_held}
+use Rattle.stored_links.proofs.Laws.Positions.{read_at_passed}
 use Rattle.stored_links.specs.Stored.{TableAt}
 use Rattle.stored_links.proofs.judge.Goals as goal
 

@@ -1,5 +1,5 @@
 -- `stored_links::judge_links` meets its contract: it is the judge for the form that the bytes tell. Assumes nothing.
-use Rattle.stored_links.specs.Laws.Told.{told_small}
+use Rattle.stored_links.proofs.Laws.Told.{told_small}
 use Rattle.stored_links.proofs.judge_links.Goals as goal
 
 pub judge-requires : goal.judge-requires

@@ -4,12 +4,12 @@ use Rattle.ground.specs.Laws.Buffers.{rest_part}
 use Rattle.ground.specs.declared.Check.TheVariants.{Passed}
 use Rattle.stored_links.specs.Outcomes.{judged}
 use Rattle.stored_links.specs.Reading.{read_at_checks}
-use Rattle.stored_links.specs.Laws.Passed.{stored_held}
-use Rattle.stored_links.specs.Laws.Positions.{refused-at, table-at}
+use Rattle.stored_links.proofs.Laws.Passed.{stored_held}
+use Rattle.stored_links.proofs.Laws.Positions.{refused-at, table-at}
 use Rattle.ground.specs.Laws.Outcomes.{front_goes, front_stops}
 use Rattle.bits.specs.declared.Form.{Form}
 use Rattle.link_forms.specs.Form.{link_form_at}
-use Rattle.stored_links.specs.Laws.Told.{told_small}
+use Rattle.stored_links.proofs.Laws.Told.{told_small}
 use Rattle.stored_links.specs.Stored.{TableAt}
 use Rattle.stored_links.proofs.read_links.Goals as goal
 

@@ -3,7 +3,7 @@
 use Rattle.std.proofs.Common.{ℕ, ◌∙◌}
 use Rattle.theory.specs.Tables.{cost}
 use Rattle.tables.specs.Checks.{least_check, mirror_check}
-use Rattle.tables.specs.Laws.Pairs.{pass_alone, pass_clean, pass_first, pass_second}
+use Rattle.tables.proofs.Laws.Pairs.{pass_alone, pass_clean, pass_first, pass_second}
 use Rattle.tables.proofs.check_mirrored.Goals as goal
 
 pub returns-in_default : goal.returns-in_default

@@ -1,7 +1,7 @@
 -- `text::put_number` meets its contract: the digits of a tenth, then the last. Assumes nothing.
 use Rattle.std.proofs.Common.{[], ap, arith, length, rules, ◌%◌, ◌/◌, ◌∷◌}
 use Rattle.text.specs.Decimal.{decimal, digit}
-use Rattle.text.specs.Laws.Numbers.{decimal-more, decimal_small}
+use Rattle.text.proofs.Laws.Numbers.{decimal-more, decimal_small}
 use Rattle.text.specs.Laws.Pieces.{rest_same}
 use Rattle.text.specs.Laws.Putting.{byte_last_fits, fits_left, rest_begin, rest_last, rest-step}
 use Rattle.text.specs.Putting.{Rest}

@@ -2,7 +2,7 @@
 use Rattle.std.proofs.Common.{sym, ◌∙◌}
 use Rattle.ground.specs.Laws.Refusals.{then_goes, then_stops}
 use Rattle.theory.specs.Tables.{limit}
-use Rattle.tree.specs.Laws.Writing.{measured-passed}
+use Rattle.tree.proofs.Laws.Writing.{measured-passed}
 use Rattle.tree.proofs.check_exact.Goals as goal
 
 pub returns-in_default : goal.returns-in_default

@@ -2,7 +2,7 @@
 use Rattle.std.proofs.Common.{sym, ◌∙◌}
 use Rattle.ground.specs.Laws.Refusals.{then_goes, then_stops}
 use Rattle.tables.specs.Formed.{Sized}
-use Rattle.tables.specs.Laws.Formed.{size-passed}
+use Rattle.tables.proofs.Laws.Formed.{size-passed}
 use Rattle.tree.proofs.check_measured.Goals as goal
 
 pub returns-in_default : goal.returns-in_default

@@ -1,8 +1,8 @@
 -- `tree::exact` meets its contract: everything is checked before the first store. Assumes nothing.
 use Rattle.std.proofs.Common.{sym, ◌∙◌}
 use Rattle.theory.specs.Tables.{limit}
-use Rattle.tree.specs.Laws.Exact.{readings_agree}
-use Rattle.tree.specs.Laws.Writing.{exact_ready, left-refused, left_written}
+use Rattle.tree.proofs.Laws.Exact.{readings_agree}
+use Rattle.tree.proofs.Laws.Writing.{exact_ready, left-refused, left_written}
 use Rattle.tree.proofs.exact.Goals as goal
 
 pub write_reading-requires : goal.write_reading-requires

@@ -1,7 +1,8 @@
 -- `tree::measured` meets its contract: everything is checked before the first store. Assumes nothing.
 use Rattle.std.proofs.Common.{sym, ◌∙◌}
 use Rattle.theory.specs.Tables.{limit}
-use Rattle.tree.specs.Laws.Writing.{measured-passed, left-refused, left_written}
+use Rattle.tree.proofs.Laws.Writing.{measured-passed}
+use Rattle.tree.proofs.Laws.Writing.{left-refused, left_written}
 use Rattle.tree.proofs.measured.Goals as goal
 
 pub write_reading-requires : goal.write_reading-requires

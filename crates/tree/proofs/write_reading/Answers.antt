@@ -2,7 +2,7 @@
 use Rattle.std.proofs.Common.{arith}
 use native.Mathlib.Nat.{le_trans}
 use Rattle.theory.specs.Tables.{limit}
-use Rattle.tree.specs.Laws.Writing.{held_count, rows_written}
+use Rattle.tree.proofs.Laws.Writing.{held_count, rows_written}
 use Rattle.tree.proofs.write_reading.Goals as goal
 
 pub write_rows-requires : goal.write_rows-requires

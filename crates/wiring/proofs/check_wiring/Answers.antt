@@ -4,7 +4,7 @@ use Rattle.ground.specs.Laws.Lowest.{all_ends, all_goes, all_stops}
 use Rattle.theory.specs.Tables.{CostTable, cost, limit}
 use Rattle.wiring.specs.Check.{wiring_check}
 use Rattle.wiring.specs.Scan.{second_scan}
-use Rattle.wiring.specs.Laws.Scan.{scan_wiring}
+use Rattle.wiring.proofs.Laws.Scan.{scan_wiring}
 use Rattle.wiring.proofs.check_wiring.Goals as goal
 
 -- the fours with image 0 in front decide for all
