@@ -48,7 +48,7 @@ prove() { # NAME COMMAND..
 # Reads what rt prints and says which crate is begun, and the seconds so far; also where nothing came for a while. A library that is there
 # already is passed over, so that they may be fewer.
 progress() { # CRATES
-    local count=0 began=$SECONDS line name= status
+    local count=0 began=$SECONDS line name='' status
     while true; do
         status=0
         IFS= read -r -t 20 line || status=$?
