@@ -4,7 +4,6 @@ pub mod Heights
 pub mod Determined
 -- The exact tree of a table with levels.
 pub mod Rest
-pub mod Clear
 pub mod LinkIndex
 pub mod LevelList
 pub mod Putting

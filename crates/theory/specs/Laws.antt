@@ -4,7 +4,6 @@ pub mod FarSides
 pub mod OwnParts
 -- Path costs.
 pub mod JoinedRows
-pub mod Paths
 pub mod Positions
 -- Only one, how many rows, how far off.
 pub mod Among
@@ -12,7 +11,6 @@ pub mod Among
 pub mod Next
 pub mod Walk
 pub mod NextLeft
-pub mod Ring
 -- Link tables that are climbed and compared.
 pub mod Contained
 pub mod Comparison

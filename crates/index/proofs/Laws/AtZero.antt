@@ -1,5 +1,5 @@
 -- What the sign of the index says, by the index with two limits added. Assumes nothing.
-use Rattle.std.specs.Prelude.{false, true, ◌⊎◌, ◌≡◌, ℕ, ◌*◌, ◌+◌, ◌-◌, ◌<◌, ◌≤◌, neg_ℤ, pos, ℤ, ◌-ℤ◌, ◌<ℤ◌, ◌≤ℤ◌}
+use Rattle.std.specs.Prelude.{false, true, ◌⊎◌, ◌≡◌, ℕ, ◌*◌, ◌+◌, ◌-◌, ◌<◌, ◌≤◌, neg_ℤ, pos, ◌-ℤ◌, ◌<ℤ◌, ◌≤ℤ◌}
 use Rattle.std.proofs.lemmas.Bool.{false≢true}
 use mathlib.Core.List.{Memᴰ}
 use Rattle.std.proofs.Common.{inl, inr, ap, sym, ◌∙◌, arith}
@@ -17,7 +17,7 @@ use Rattle.theory.specs.LinkTables.{fars}
 use Rattle.theory.specs.Readings.{drawn, measured, row}
 use Rattle.theory.specs.Tables.{WellFormed}
 use Rattle.index.specs.AtZero.{AtZero, MostAgainst}
-use Rattle.index.specs.Laws.Value.{balance, least_gain}
+use Rattle.index.proofs.Laws.Value.{balance, least_gain}
 use Rattle.index.proofs.Laws.Value.{some-gain}
 
 module _ (L : ℕ) (d : ℕ → ℕ → ℕ) (n : ℕ) (c : WellFormed L d n) (S : ℕ) (f : FarSide n S) where

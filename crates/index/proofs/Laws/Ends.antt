@@ -18,7 +18,7 @@ use Rattle.theory.proofs.Laws.OwnLinks.{not_inner_ones}
 use Rattle.theory.proofs.Laws.SignedIndex.{far-shifted}
 use Rattle.theory.specs.Tables.{WellFormed}
 use Rattle.index.specs.Ends.{Ends}
-use Rattle.index.specs.Laws.Value.{balance}
+use Rattle.index.proofs.Laws.Value.{balance}
 use Rattle.index.proofs.Laws.Value.{some-gain}
 
 neither : {x y : ℕ} → (x < y → ⊥) → (y < x → ⊥) → x ≡ y

@@ -8,7 +8,7 @@ use Rattle.theory.specs.Index.{index, shifted}
 use Rattle.theory.proofs.Laws.SignedIndex.{far-shifted}
 use Rattle.theory.specs.Readings.{Near}
 use Rattle.theory.specs.Tables.{WellFormed}
-use Rattle.index.specs.Laws.Value.{balance, least_gain}
+use Rattle.index.proofs.Laws.Value.{balance, least_gain}
 use Rattle.index.proofs.Laws.Value.{some-gain}
 
 module _ (L D : ℕ) (d e : ℕ → ℕ → ℕ) (n : ℕ) (c : WellFormed L d n) (h : WellFormed L e n) (p : Near D d e n) (S : ℕ) (f : FarSide n S) where

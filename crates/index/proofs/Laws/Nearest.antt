@@ -19,7 +19,7 @@ use Rattle.theory.proofs.Laws.SignedIndex.{far-shifted}
 use Rattle.theory.specs.Tables.{WellFormed}
 use Rattle.index.specs.Ends.{Nearest}
 use Rattle.index.proofs.Laws.Ends.{own-inside}
-use Rattle.index.specs.Laws.Value.{balance, least_gain}
+use Rattle.index.proofs.Laws.Value.{balance, least_gain}
 use Rattle.index.proofs.Laws.Value.{some-gain}
 
 module _ (L : ℕ) (d : ℕ → ℕ → ℕ) (n : ℕ) (three : 3 ≤ n) (c : WellFormed L d n) (S : ℕ) (f : FarSide n S) where

@@ -18,7 +18,21 @@ use Rattle.theory.specs.Tables.{WellFormed, cost}
 use Rattle.index.specs.Call.{index_answer, index_check}
 use Rattle.index.specs.IndexIs.{IndexIs}
 use Rattle.index.proofs.Laws.Passed.{index-passed}
-pub use Rattle.index.specs.Laws.Value.{gain_of, least_gain}
+
+module _ (L : ℕ) (d : ℕ → ℕ → ℕ) {n : ℕ} {s : ℕ → ℕ} (q : Choice n s) where
+  -- the value of a choice with two limits added
+  abbrev pub gain_of : ℕ
+  gain_of = gain L d q.a q.a' q.b q.b'
+
+  pub least_gain : shifted L d n s ≤ gain_of
+  least_gain = shifted_le L d n s q.on_a q.on_a' q.on_b q.on_b'
+
+  module _ (c : WellFormed L d n) where
+    pub choice_gain : value_of d q ≡ pos gain_of -ℤ pos (2 * L)
+    choice_gain = value-gain L d n c q.on_a.0 q.on_a'.0 q.on_b.0 q.on_b'.0
+
+    pub balance : gain_of + inside d q ≡ 2 * L + across d q
+    balance = omega (arith, gain-whole L d n c q.on_a.0 q.on_a'.0 q.on_b.0 q.on_b'.0)
 
 module _ (L : ℕ) (d : ℕ → ℕ → ℕ) (n : ℕ) (c : WellFormed L d n) (S : ℕ) (f : FarSide n S) where
   pub some-gain : (q : Choice n (bit S)) × (shifted L d n (bit S) ≡ gain_of L d q)

@@ -19,7 +19,10 @@ use Rattle.levels.specs.Laws.Sets.{holds_ext, other}
 use Rattle.levels.specs.Sides.{Part}
 use Rattle.leveling.proofs.Laws.ThreePoint.{low}
 use Rattle.leveling.specs.ThreePoint.{ThreePoint}
-pub use Rattle.levels.specs.Laws.Clear.{Clear}
+
+-- S is clear of the other images: an image inside is nearer to all images inside than to any outside
+pub record Clear (d : ℕ → ℕ → ℕ) (n S : ℕ) : Type 0 where
+  pub below : {i j k : ℕ} → i < n → j < n → k < n → holds S i ≡ true → holds S j ≡ true → holds S k ≡ false → d i j < d i k
 
 -- the set of one image holds no other
 pub only : (x i : ℕ) → holds (2 ^ x) i ≡ true → i ≡ x

@@ -13,7 +13,7 @@ use Rattle.theory.specs.LinkTables.{Row, cost_of}
 use Rattle.theory.specs.Readings.{Exact}
 use Rattle.theory.specs.Tables.{WellFormed}
 use Rattle.levels.specs.Groups.{height}
-use Rattle.levels.specs.Laws.Clear.{Clear}
+use Rattle.levels.proofs.Laws.Clear.{Clear}
 use Rattle.levels.proofs.Laws.Clear.{clear_same}
 use Rattle.levels.proofs.Laws.Balls.{height-from}
 use Rattle.levels.specs.Laws.Heights.{le_height}

@@ -16,7 +16,7 @@ use Rattle.theory.specs.LinkTables.{Row, fars}
 use Rattle.theory.specs.Readings.{Exact}
 use Rattle.theory.specs.Tables.{WellFormed}
 use Rattle.levels.specs.Groups.{Group, height}
-use Rattle.levels.specs.Laws.Clear.{Clear}
+use Rattle.levels.proofs.Laws.Clear.{Clear}
 use Rattle.levels.proofs.Laws.Clear.{clear_choice, part_clear}
 use Rattle.levels.proofs.Laws.Clear.{clear_group, part_fits, part_image}
 use Rattle.levels.proofs.Laws.Balls.{height-from}

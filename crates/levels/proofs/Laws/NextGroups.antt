@@ -16,7 +16,7 @@ use Rattle.theory.specs.Tables.{WellFormed}
 use Rattle.levels.specs.Balls.{ball}
 use Rattle.levels.specs.Groups.{Group, height}
 use Rattle.levels.proofs.Laws.Balls.{ball-group, ball_in, ball_under, group-ball, in_ball}
-use Rattle.levels.specs.Laws.Clear.{Clear}
+use Rattle.levels.proofs.Laws.Clear.{Clear}
 use Rattle.levels.proofs.Laws.Clear.{part_clear}
 use Rattle.levels.proofs.Laws.Clear.{clear_part, only, part_fits, part_image}
 use Rattle.levels.specs.Laws.Sets.{holds_ext}

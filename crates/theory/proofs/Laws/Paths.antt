@@ -18,7 +18,6 @@ use Rattle.theory.proofs.Laws.FourPoint.{NoneAbove, four_point_lem}
 use Rattle.theory.specs.Laws.Nested.{Uncrossed, nested_uncrossed}
 use Rattle.theory.specs.LinkTables.{LinkTable, Row, apart, far, fars, path}
 use Rattle.theory.specs.Readings.{Meets}
-pub use Rattle.theory.specs.Laws.Paths.{splits, row_splits}
 
 pub path_same : (T : List Row) (i j : ℕ) → path T i j ≡ path T j i
 path_same T i j = sum_same _ _ T (λ r m. ap (λ b. when b r.1) (one_of_sym (holds r.0 i) (holds r.0 j)))
@@ -28,6 +27,10 @@ path_self [] i = refl
 path_self (r ∷ T) i = rw (one_of_self (holds r.0 i)) (omega (arith, path_self T i))
 
 -- ## What one row adds to the three sums of four images
+
+-- a with e, b with c, apart
+abbrev pub splits : Bool → Bool → Bool → Bool → Bool
+splits a b c e = one_of a b && (not (one_of a e) && not (one_of b c))
 
 -- a row that does not split i l | j k adds to the one sum no more than to the other
 pub piece : (a b c e : Bool) (x : ℕ) → splits a b c e ≡ false → when (one_of a b) x + when (one_of c e) x ≤ when (one_of a e) x + when (one_of b c) x
@@ -75,6 +78,9 @@ corner n S R u i j k l hi hj hk hl p q =
     (λ s. cases (holds R i)
     (λ r. u.clear hk hj hi (p.c_not ∙ ap not s) (q.e_is ∙ r) (p.b_not ∙ ap not s) (q.b_not ∙ ap not r) s r)
     (λ r. u.clear hj hk hl (p.b_not ∙ ap not s) (q.b_not ∙ ap not r) (p.c_not ∙ ap not s) (q.e_is ∙ r) (p.e_is ∙ s) (q.c_not ∙ ap not r)))
+
+abbrev pub row_splits : ℕ → ℕ → ℕ → ℕ → Row → Bool
+row_splits i j k l r = splits (holds r.0 i) (holds r.0 j) (holds r.0 k) (holds r.0 l)
 
 -- no row splits i l | j k
 pub sums_le : (T : List Row) (i j k l : ℕ) → Each T (λ r. row_splits i j k l r ≡ false) → path T i j + path T k l ≤ path T i l + path T j k

@@ -20,7 +20,10 @@ use Rattle.theory.specs.LinkTables.{apart}
 use Rattle.theory.specs.Order.{along, closed, free, grow, order}
 use Rattle.theory.specs.OrderRules.{IsNext}
 use Rattle.theory.specs.Tables.{WellFormed}
-pub use Rattle.theory.specs.Laws.Ring.{turn}
+
+-- 1 for neighbours that S parts
+abbrev pub turn : ℕ → ℕ → ℕ → ℕ
+turn S i j = one_if (apart S i j)
 
 pub turn-away : (S f i j : ℕ) → turn S i j ≡ one_if (one_of (apart S f i) (apart S f j))
 turn-away S f i j = ap one_if (one_of_from (holds S f) (holds S i) (holds S j))

@@ -11,7 +11,7 @@ use Rattle.ground.specs.Laws.Sums.{sum-add, sum_spare}
 use Rattle.theory.specs.FarSides.{holds}
 use Rattle.theory.specs.Index.{AtLeast}
 use Rattle.theory.specs.Laws.Nested.{bit-holds, bit_holds_not, nested_uncrossed}
-use Rattle.theory.specs.Laws.Paths.{row_splits}
+use Rattle.theory.proofs.Laws.Paths.{row_splits}
 use Rattle.theory.proofs.Laws.Paths.{corner, path_same, piece, split_of}
 use Rattle.theory.specs.LinkTables.{LinkTable, Row, apart}
 use Rattle.theory.specs.Readings.{Meets}

@@ -7,7 +7,7 @@ use Rattle.ground.specs.Counts.{one_if}
 use Rattle.ground.specs.Filters.{Each}
 use Rattle.ground.specs.Laws.Filters.{each_cons, each_nil}
 use Rattle.ground.specs.Tests.{one_of}
-use Rattle.theory.specs.Laws.Ring.{turn}
+use Rattle.theory.proofs.Laws.Ring.{turn}
 use Rattle.theory.proofs.Laws.Ring.{away_self, turn-away, turn-back}
 use Rattle.theory.specs.LinkTables.{apart}
 use Rattle.theory.specs.Order.{along, closed}
