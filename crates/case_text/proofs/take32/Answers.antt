@@ -3,5 +3,4 @@ use Rattle.std.proofs.Common.{sym, length-take-le, rules}
 use Rattle.case_text.proofs.take32.Goals as goal
 
 pub returns : goal.returns
-returns c =
-    (search rules, sym (length-take-le _ _ (search rules)))
+returns c = (search rules, sym (length-take-le _ _ (search rules)))

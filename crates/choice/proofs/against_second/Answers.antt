@@ -15,26 +15,32 @@ use Rattle.choice.proofs.against_second.Goals as goal
 
 pub returns-then-n-m : goal.returns-then-n-m
 returns-then-n-m c =
-    let form : Form = link_form_at c.args.second.now 0 in let listed : SidesListed form c.args.second.now c.in-Table.m c.in-Table.count c.in-Table.used
-    c.read.new.fars = read_listed form c.args.second.now c.read.ensures c.in-Table.is in let a = c.args in
+    let form : Form = link_form_at c.args.second.now 0 in
+    let listed : SidesListed form c.args.second.now c.in-Table.m c.in-Table.count c.in-Table.used
+    c.read.new.fars = read_listed form c.args.second.now c.read.ensures c.in-Table.is in
+    let a = c.args in
     let q = listed in
     ap (λ (r : Refusal). answer.Refused 0 r) c.plain.ensures
     ∙ if_goes (answer.Refused 2) _ _ q.passed refl (images-differ a.n (images_of form a.second.now) _ (λ e. c.if-n-m.true (e ∙ q.images)))
 
 pub slice_bounds-fars-end : goal.slice_bounds-fars-end
 slice_bounds-fars-end c =
-    let form : Form = link_form_at c.args.second.now 0 in let listed : SidesListed form c.args.second.now c.in-Table.m c.in-Table.count c.in-Table.used
+    let form : Form = link_form_at c.args.second.now 0 in
+    let listed : SidesListed form c.args.second.now c.in-Table.m c.in-Table.count c.in-Table.used
     c.read.new.fars = read_listed form c.args.second.now c.read.ensures c.in-Table.is in omega (arith, listed.few, c.read.auto.fars)
 
 pub slice_bounds-take_one-end : goal.slice_bounds-take_one-end
 slice_bounds-take_one-end c =
-    let form : Form = link_form_at c.args.second.now 0 in let listed : SidesListed form c.args.second.now c.in-Table.m c.in-Table.count c.in-Table.used
+    let form : Form = link_form_at c.args.second.now 0 in
+    let listed : SidesListed form c.args.second.now c.in-Table.m c.in-Table.count c.in-Table.used
     c.read.new.fars = read_listed form c.args.second.now c.read.ensures c.in-Table.is in sym (length-take-le _ _ (omega (arith, listed.few, c.read.auto.fars)))
 
 pub take_one-requires : goal.take_one-requires
 take_one-requires c =
-    let form : Form = link_form_at c.args.second.now 0 in let listed : SidesListed form c.args.second.now c.in-Table.m c.in-Table.count c.in-Table.used
-    c.read.new.fars = read_listed form c.args.second.now c.read.ensures c.in-Table.is in let q = listed in
+    let form : Form = link_form_at c.args.second.now 0 in
+    let listed : SidesListed form c.args.second.now c.in-Table.m c.in-Table.count c.in-Table.used
+    c.read.new.fars = read_listed form c.args.second.now c.read.ensures c.in-Table.is in
+    let q = listed in
     let h : c.args.n ≡ c.in-Table.m = c.if-n-m.false in
     (c.requires.0, c.requires.1, c.requires.2, rw h q.ascending, c.requires.3, q.short)
 
@@ -46,8 +52,10 @@ returns-in-Refused c =
 
 pub returns-else-n-m : goal.returns-else-n-m
 returns-else-n-m c =
-    let form : Form = link_form_at c.args.second.now 0 in let listed : SidesListed form c.args.second.now c.in-Table.m c.in-Table.count c.in-Table.used
-    c.read.new.fars = read_listed form c.args.second.now c.read.ensures c.in-Table.is in let a = c.args in
+    let form : Form = link_form_at c.args.second.now 0 in
+    let listed : SidesListed form c.args.second.now c.in-Table.m c.in-Table.count c.in-Table.used
+    c.read.new.fars = read_listed form c.args.second.now c.read.ensures c.in-Table.is in
+    let a = c.args in
     let t = a.second.now in
     let q = listed in
     let l = inners a.n a.first.now in

@@ -11,18 +11,22 @@ use Rattle.choice.proofs.choice.Goals as goal
 
 pub slice_bounds-fars-end : goal.slice_bounds-fars-end
 slice_bounds-fars-end c =
-    let form : Form = link_form_at c.args.first.now 0 in let listed : SidesListed form c.args.first.now c.in-Table.n c.in-Table.count c.in-Table.used
+    let form : Form = link_form_at c.args.first.now 0 in
+    let listed : SidesListed form c.args.first.now c.in-Table.n c.in-Table.count c.in-Table.used
     c.read.new.fars = read_listed form c.args.first.now c.read.ensures c.in-Table.is in omega (arith, listed.few, c.read.auto.fars)
 
 pub slice_bounds-against_second-end : goal.slice_bounds-against_second-end
 slice_bounds-against_second-end c =
-    let form : Form = link_form_at c.args.first.now 0 in let listed : SidesListed form c.args.first.now c.in-Table.n c.in-Table.count c.in-Table.used
+    let form : Form = link_form_at c.args.first.now 0 in
+    let listed : SidesListed form c.args.first.now c.in-Table.n c.in-Table.count c.in-Table.used
     c.read.new.fars = read_listed form c.args.first.now c.read.ensures c.in-Table.is in sym (length-take-le _ _ (omega (arith, listed.few, c.read.auto.fars)))
 
 pub against_second-requires : goal.against_second-requires
 against_second-requires c =
-    let form : Form = link_form_at c.args.first.now 0 in let listed : SidesListed form c.args.first.now c.in-Table.n c.in-Table.count c.in-Table.used
-    c.read.new.fars = read_listed form c.args.first.now c.read.ensures c.in-Table.is in let q = listed in (q.least, q.most, q.ascending, q.short)
+    let form : Form = link_form_at c.args.first.now 0 in
+    let listed : SidesListed form c.args.first.now c.in-Table.n c.in-Table.count c.in-Table.used
+    c.read.new.fars = read_listed form c.args.first.now c.read.ensures c.in-Table.is in
+    let q = listed in (q.least, q.most, q.ascending, q.short)
 
 pub returns-in-Refused : goal.returns-in-Refused
 returns-in-Refused c =
@@ -32,8 +36,10 @@ returns-in-Refused c =
 
 pub returns-in-Table : goal.returns-in-Table
 returns-in-Table c =
-    let form : Form = link_form_at c.args.first.now 0 in let listed : SidesListed form c.args.first.now c.in-Table.n c.in-Table.count c.in-Table.used
-    c.read.new.fars = read_listed form c.args.first.now c.read.ensures c.in-Table.is in let s = c.args.first.now in
+    let form : Form = link_form_at c.args.first.now 0 in
+    let listed : SidesListed form c.args.first.now c.in-Table.n c.in-Table.count c.in-Table.used
+    c.read.new.fars = read_listed form c.args.first.now c.read.ensures c.in-Table.is in
+    let s = c.args.first.now in
     let t = c.args.second.now in
     let q = listed in
     if_goes (answer.Refused 1) _ _ q.passed refl

@@ -16,8 +16,7 @@ use Rattle.conversion.specs.Costs.{entry_checks, images_said, table_said}
 use Rattle.conversion.proofs.convert_costs.Goals as goal
 
 pub check_costs-requires : goal.check_costs-requires
-check_costs-requires c =
-    rw c.form_at-from.ensures (told_small c.args.bytes.now 0)
+check_costs-requires c = rw c.form_at-from.ensures (told_small c.args.bytes.now 0)
 
 pub images-requires : goal.images-requires
 images-requires c =

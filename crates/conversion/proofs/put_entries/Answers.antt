@@ -14,12 +14,10 @@ use Rattle.cost_fields.specs.Laws.Putting.{length_listed_bits, row_put_more, row
 use Rattle.conversion.proofs.put_entries.Goals as goal
 
 pub entry_count-count-requires : goal.entry_count-count-requires
-entry_count-count-requires c =
-    c.requires.0.small.few
+entry_count-count-requires c = c.requires.0.small.few
 
 pub overflow_add-p : goal.overflow_add-p
-overflow_add-p c =
-    omega (arith, c.requires.0.small.short)
+overflow_add-p c = omega (arith, c.requires.0.small.short)
 
 pub loop-k-init : goal.loop-k-init
 loop-k-init c =
@@ -70,8 +68,7 @@ unfolding entry_of field_value
 loop-k-preserved c =
     let below : c.loop-k.k < entry_count c.args.n = omega (arith, c.loop-k-test.true, c.entry_count-count.ensures) in
     let l = c.loop-k in
-    let a = c.args in
-    (
+    let a = c.args in (
       omega (arith, below),
       c.put-gathered.auto.out ∙ l.invariant.1,
       omega (arith, times_more a.from.width l.k, l.invariant.2),

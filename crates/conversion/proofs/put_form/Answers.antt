@@ -10,8 +10,7 @@ use Rattle.cost_fields.specs.Laws.Putting.{form_put, length_listed_bits}
 use Rattle.conversion.proofs.put_form.Goals as goal
 
 pub start-begun-requires : goal.start-begun-requires
-start-begun-requires c =
-    (omega (arith, c.requires.1.short), omega (arith, c.requires.2))
+start-begun-requires c = (omega (arith, c.requires.1.short), omega (arith, c.requires.2))
 
 pub put_entries-entered-requires : goal.put_entries-entered-requires
 put_entries-entered-requires c =

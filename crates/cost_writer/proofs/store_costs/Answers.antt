@@ -10,12 +10,10 @@ use Rattle.cost_forms.specs.Laws.Sizes.{end_le}
 use Rattle.cost_writer.proofs.store_costs.Goals as goal
 
 pub row_at-end-requires : goal.row_at-end-requires
-row_at-end-requires c =
-    (c.requires.1, omega arith)
+row_at-end-requires c = (c.requires.1, omega arith)
 
 pub overflow_add-end : goal.overflow_add-end
-overflow_add-end c =
-    omega (arith, c.row_at-end.ensures, end_le c.args.form c.args.n c.requires.1)
+overflow_add-end c = omega (arith, c.row_at-end.ensures, end_le c.args.form c.args.n c.requires.1)
 
 pub put_form-requires : goal.put_form-requires
 put_form-requires c =

@@ -5,8 +5,7 @@ use Rattle.far_end.proofs.Laws.FarEnd.{farther_lt, farthest_end, farthest-more, 
 use Rattle.far_end.proofs.far_end.Goals as goal
 
 pub loop-w-init : goal.loop-w-init
-loop-w-init c =
-    (search rules, search rules, farthest_none _, search rules)
+loop-w-init c = (search rules, search rules, farthest_none _, search rules)
 
 pub loop-w-preserved : goal.loop-w-preserved
 loop-w-preserved c =
@@ -20,5 +19,4 @@ loop-w-preserved c =
     )
 
 pub returns : goal.returns
-returns c =
-    farthest_end _ _ _ _ (search rules) (search rules) c.loop-w.invariant.2
+returns c = farthest_end _ _ _ _ (search rules) (search rules) c.loop-w.invariant.2

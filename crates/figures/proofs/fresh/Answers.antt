@@ -4,8 +4,7 @@ use Rattle.figures.specs.Laws.Pairs.{common_few}
 use Rattle.figures.proofs.fresh.Goals as goal
 
 pub slice_bounds-common_rows-end : goal.slice_bounds-common_rows-end
-slice_bounds-common_rows-end c =
-    sym (length-take-le _ _ c.requires.0)
+slice_bounds-common_rows-end c = sym (length-take-le _ _ c.requires.0)
 
 pub overflow_sub-result : goal.overflow_sub-result
 overflow_sub-result c =
@@ -14,5 +13,4 @@ overflow_sub-result c =
     rw (c.common_rows.ensures, c.inner_rows.ensures) (common_few a.n (2 ^ a.n) (take a.sides a.kept.now) a.next.now p.1 p.2)
 
 pub returns : goal.returns
-returns c =
-    rw (c.inner_rows.ensures, c.common_rows.ensures) refl
+returns c = rw (c.inner_rows.ensures, c.common_rows.ensures) refl

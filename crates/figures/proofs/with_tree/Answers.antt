@@ -2,5 +2,4 @@
 use Rattle.figures.proofs.with_tree.Goals as goal
 
 pub returns : goal.returns
-returns c =
-    rw c.greater.ensures
+returns c = rw c.greater.ensures

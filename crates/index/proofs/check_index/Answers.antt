@@ -6,8 +6,7 @@ use Rattle.tables.proofs.Laws.Formed.{size-passed}
 use Rattle.index.proofs.check_index.Goals as goal
 
 pub returns-in_default : goal.returns-in_default
-returns-in_default c =
-    then_stops _ _ c.in_default.is c.check_size-c.ensures
+returns-in_default c = then_stops _ _ c.in_default.is c.check_size-c.ensures
 
 pub check_costs-e-requires : goal.check_costs-e-requires
 check_costs-e-requires c =

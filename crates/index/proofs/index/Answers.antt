@@ -14,8 +14,7 @@ shifted_index-requires c =
     let a = (index-passed limit _ _ _).0 (sym c.check_index-c.ensures ∙ c.in-Passed.is) in (a.table, a.side)
 
 pub returns-in-Refused : goal.returns-in-Refused
-returns-in-Refused c =
-    if_stops answer.Refused _ _ c.in-Refused.is c.check_index-c.ensures
+returns-in-Refused c = if_stops answer.Refused _ _ c.in-Refused.is c.check_index-c.ensures
 
 pub returns-in-Passed : goal.returns-in-Passed
 returns-in-Passed c =

@@ -7,8 +7,7 @@ use Rattle.joined_tables.specs.Laws.Next.{next_sized}
 use Rattle.joined_tables.proofs.check_next.Goals as goal
 
 pub returns-in_default : goal.returns-in_default
-returns-in_default c =
-    then_stops _ _ c.in_default.is c.check_count-sizes.ensures
+returns-in_default c = then_stops _ _ c.in_default.is c.check_count-sizes.ensures
 
 pub returns-in_default-supply : goal.returns-in_default-supply
 returns-in_default-supply c =
@@ -33,7 +32,8 @@ check_links-requires c =
     let sized : LinksSized c.args.n c.args.count (take c.args.count c.args.fars.now)
     (take c.args.count c.args.costs.now) = let a = c.args in
     next_sized a.n a.count a.fars.now a.costs.now (sym c.check_count-sizes.ensures ∙ c.in-Passed.is)
-    (sym c.check_run_out-supply.ensures ∙ c.in-Passed-supply.is) in let s = sized in
+    (sym c.check_run_out-supply.ensures ∙ c.in-Passed-supply.is) in
+    let s = sized in
     let f = form_small c.args.edition in (
       record { short = f.0; narrow = f.1; some = s.some; few = s.few; rows = omega (arith, s.few, s.most, s.counted) },
       s.costed

@@ -6,8 +6,7 @@ use Rattle.leveling.proofs.Laws.Joins.{three_end, three-first, three-joins, thre
 use Rattle.leveling.proofs.has_levels.Goals as goal
 
 pub loop-j-init : goal.loop-j-init
-loop-j-init c =
-    (search rules, search rules, three-first limit _ _ c.requires.formed (omega (arith, c.requires.some)))
+loop-j-init c = (search rules, search rules, three-first limit _ _ c.requires.formed (omega (arith, c.requires.some)))
 
 pub loop-j-preserved : goal.loop-j-preserved
 loop-j-preserved c =
@@ -29,6 +28,6 @@ returns-else-joins c =
 pub returns : goal.returns
 returns c =
     let i = c.loop-j.invariant in (
-  λ e. three_end limit _ _ c.requires.formed _ i.1 c.loop-j-test.false i.2,
-  λ t. refl,
-)
+      λ e. three_end limit _ _ c.requires.formed _ i.1 c.loop-j-test.false i.2,
+      λ t. refl,
+    )

@@ -2,5 +2,4 @@
 use Rattle.leveling.proofs.is_failing.Goals as goal
 
 pub returns : goal.returns
-returns c =
-    cc
+returns c = cc

@@ -4,8 +4,7 @@ use Rattle.leveling.proofs.Laws.Joins.{nearest_end, nearest-first, nearest-more}
 use Rattle.leveling.proofs.nearest.Goals as goal
 
 pub loop-i-init : goal.loop-i-init
-loop-i-init c =
-    (search rules, search rules, nearest-first _ _)
+loop-i-init c = (search rules, search rules, nearest-first _ _)
 
 pub loop-i-preserved : goal.loop-i-preserved
 loop-i-preserved c =

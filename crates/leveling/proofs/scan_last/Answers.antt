@@ -6,8 +6,7 @@ use Rattle.leveling.proofs.Laws.Scan.{last_behind}
 use Rattle.leveling.proofs.scan_last.Goals as goal
 
 pub loop-k-init : goal.loop-k-init
-loop-k-init c =
-    (search rules, last_behind limit _ _ c.requires.0.formed _ _ (search rules))
+loop-k-init c = (search rules, last_behind limit _ _ c.requires.0.formed _ _ (search rules))
 
 pub returns-in-Refused : goal.returns-in-Refused
 returns-in-Refused c =
@@ -15,13 +14,11 @@ returns-in-Refused c =
     c.check_three-c.ensures
 
 pub loop-k-preserved : goal.loop-k-preserved
-loop-k-preserved c =
-    (
+loop-k-preserved c = (
   search rules,
   all_goes _ _ _ (search rules) c.loop-k.invariant.1 c.in-Passed.is
       c.check_three-c.ensures,
 )
 
 pub returns : goal.returns
-returns c =
-    all_ends _ _ _ (search rules) c.loop-k.invariant.1
+returns c = all_ends _ _ _ (search rules) c.loop-k.invariant.1

@@ -6,21 +6,17 @@ use Rattle.leveling.proofs.Laws.Scan.{second-behind}
 use Rattle.leveling.proofs.scan_second.Goals as goal
 
 pub loop-j-init : goal.loop-j-init
-loop-j-init c =
-    (search rules, second-behind limit _ _ c.requires.0.formed _ (search rules))
+loop-j-init c = (search rules, second-behind limit _ _ c.requires.0.formed _ (search rules))
 
 pub returns-in-Refused : goal.returns-in-Refused
-returns-in-Refused c =
-    all_stops _ _ _ (search rules) c.loop-j.invariant.1 c.in-Refused.is c.scan_last-c.ensures
+returns-in-Refused c = all_stops _ _ _ (search rules) c.loop-j.invariant.1 c.in-Refused.is c.scan_last-c.ensures
 
 pub loop-j-preserved : goal.loop-j-preserved
-loop-j-preserved c =
-    (
+loop-j-preserved c = (
   search rules,
   all_goes _ _ _ (search rules) c.loop-j.invariant.1 c.in-Passed.is
       c.scan_last-c.ensures,
 )
 
 pub returns : goal.returns
-returns c =
-    all_ends _ _ _ (search rules) c.loop-j.invariant.1
+returns c = all_ends _ _ _ (search rules) c.loop-j.invariant.1

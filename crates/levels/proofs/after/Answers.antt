@@ -6,8 +6,7 @@ use Rattle.levels.specs.Next.{after_height}
 use Rattle.levels.proofs.after.Goals as goal
 
 pub loop-j-init : goal.loop-j-init
-loop-j-init c =
-    (search rules, search rules, after-begins _ _ _)
+loop-j-init c = (search rules, search rules, after-begins _ _ _)
 
 pub loop-j-preserved : goal.loop-j-preserved
 loop-j-preserved c =
@@ -16,5 +15,4 @@ loop-j-preserved c =
 
 pub returns : goal.returns
 unfolding after_height
-returns c =
-    least_on_end _ _ _ _ _ _ c.loop-j.invariant.1 (search rules) c.loop-j.invariant.2
+returns c = least_on_end _ _ _ _ _ _ c.loop-j.invariant.1 (search rules) c.loop-j.invariant.2

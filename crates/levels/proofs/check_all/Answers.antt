@@ -10,12 +10,12 @@ use Rattle.levels.proofs.check_all.Goals as goal
 
 pub returns-in_default : goal.returns-in_default
 unfolding levels_checks
-returns-in_default c =
-    then_stops _ _ c.in_default.is c.check_size-size.ensures
+returns-in_default c = then_stops _ _ c.in_default.is c.check_size-size.ensures
 
 pub overflow_sub-n : goal.overflow_sub-n
 overflow_sub-n c =
-    let well-sized : Sized c.args.n c.args.t.now = size-passed _ _ (sym c.check_size-size.ensures ∙ c.in-Passed.is) in let s = well-sized in omega (arith, s.some)
+    let well-sized : Sized c.args.n c.args.t.now = size-passed _ _ (sym c.check_size-size.ensures ∙ c.in-Passed.is) in
+    let s = well-sized in omega (arith, s.some)
 
 pub returns-in_default-space : goal.returns-in_default-space
 unfolding levels_checks

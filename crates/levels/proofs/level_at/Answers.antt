@@ -7,8 +7,7 @@ use Rattle.levels.proofs.Laws.Next.{next_end}
 use Rattle.levels.proofs.level_at.Goals as goal
 
 pub loop-j-init : goal.loop-j-init
-loop-j-init c =
-    (search rules, ball_none _ _ _, least_on_none _ _ _ _)
+loop-j-init c = (search rules, ball_none _ _ _, least_on_none _ _ _ _)
 
 pub turn_level-level-requires : goal.turn_level-level-requires
 turn_level-level-requires c =

@@ -10,9 +10,7 @@ write_levels-requires c =
     (r.0.table, r.1, r.0.group-room, r.0.height-room)
 
 pub returns-in-Refused : goal.returns-in-Refused
-returns-in-Refused c =
-    left-refused limit _ _ _ _ c.in-Refused.is c.check_all-c.ensures
+returns-in-Refused c = left-refused limit _ _ _ _ c.in-Refused.is c.check_all-c.ensures
 
 pub returns-in-Passed : goal.returns-in-Passed
-returns-in-Passed c =
-    left_written limit _ _ _ _ _ _ _ c.in-Passed.is c.check_all-c.ensures c.write_levels.ensures
+returns-in-Passed c = left_written limit _ _ _ _ _ _ _ c.in-Passed.is c.check_all-c.ensures c.write_levels.ensures

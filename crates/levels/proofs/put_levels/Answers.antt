@@ -25,7 +25,8 @@ offset_bounds-members-place c =
     (l.place < length l.members) × (l.place < length l.heights) = let i = c.loop-h.invariant in
     let fits : (x : List ℕ) → _ → c.loop-h.place < length x = λ x r. stored_fits limit _ _ _ _ _ _ _ _ _ _ x i.3 i.1 i.2
     c.loop-h-test.true r in
-    (omega (arith, fits c.args.members.now c.requires.2, i.4), omega (arith, fits c.args.heights.now c.requires.3, i.5)) in let r = room in search rules
+    (omega (arith, fits c.args.members.now c.requires.2, i.4), omega (arith, fits c.args.heights.now c.requires.3, i.5)) in
+    let r = room in search rules
 
 pub bounds-members-place : goal.bounds-members-place
 bounds-members-place c =
@@ -41,7 +42,8 @@ offset_bounds-heights-place c =
     (l.place < length l.members) × (l.place < length l.heights) = let i = c.loop-h.invariant in
     let fits : (x : List ℕ) → _ → c.loop-h.place < length x = λ x r. stored_fits limit _ _ _ _ _ _ _ _ _ _ x i.3 i.1 i.2
     c.loop-h-test.true r in
-    (omega (arith, fits c.args.members.now c.requires.2, i.4), omega (arith, fits c.args.heights.now c.requires.3, i.5)) in let r = room in search rules
+    (omega (arith, fits c.args.members.now c.requires.2, i.4), omega (arith, fits c.args.heights.now c.requires.3, i.5)) in
+    let r = room in search rules
 
 pub bounds-heights-place : goal.bounds-heights-place
 bounds-heights-place c =
@@ -57,7 +59,8 @@ overflow_add-place c =
     (l.place < length l.members) × (l.place < length l.heights) = let i = c.loop-h.invariant in
     let fits : (x : List ℕ) → _ → c.loop-h.place < length x = λ x r. stored_fits limit _ _ _ _ _ _ _ _ _ _ x i.3 i.1 i.2
     c.loop-h-test.true r in
-    (omega (arith, fits c.args.members.now c.requires.2, i.4), omega (arith, fits c.args.heights.now c.requires.3, i.5)) in let r = room in search rules
+    (omega (arith, fits c.args.members.now c.requires.2, i.4), omega (arith, fits c.args.heights.now c.requires.3, i.5)) in
+    let r = room in search rules
 
 pub loop-h-smaller : goal.loop-h-smaller
 loop-h-smaller c =

@@ -6,8 +6,7 @@ use Rattle.levels.proofs.Laws.Next.{from-left, from-taken}
 use Rattle.levels.proofs.turn_level.Goals as goal
 
 pub overflow_add-result : goal.overflow_add-result
-overflow_add-result c =
-    omega (arith, c.bit_alone.ensures, c.requires.3)
+overflow_add-result c = omega (arith, c.bit_alone.ensures, c.requires.3)
 
 pub returns-then-x-h : goal.returns-then-x-h
 returns-then-x-h c =

@@ -12,8 +12,7 @@ overflow_add-row c =
     omega (arith, c.first_large-row.ensures, c.requires.0.rows, c.requires.2, first_le (large c.args.form.limit v) (length v))
 
 pub returns-in_default : goal.returns-in_default
-returns-in_default c =
-    then_stops _ _ c.in_default.is (rw c.first_large-row.ensures at c.refuse_if-fit.ensures)
+returns-in_default c = then_stops _ _ c.in_default.is (rw c.first_large-row.ensures at c.refuse_if-fit.ensures)
 
 pub overflow_add-end : goal.overflow_add-end
 overflow_add-end c =

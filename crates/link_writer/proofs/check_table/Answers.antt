@@ -5,8 +5,7 @@ use Rattle.links.specs.Laws.LinkChecks.{sizes_passed}
 use Rattle.link_writer.proofs.check_table.Goals as goal
 
 pub returns-in_default : goal.returns-in_default
-returns-in_default c =
-    then_stops _ _ c.in_default.is c.check_rows_size-sizes.ensures
+returns-in_default c = then_stops _ _ c.in_default.is c.check_rows_size-sizes.ensures
 
 pub check_rows-requires : goal.check_rows-requires
 check_rows-requires c =
@@ -15,5 +14,4 @@ check_rows-requires c =
     (s.some, s.few, omega (arith, s.few, s.most, s.counted), omega (arith, s.counted, s.costed))
 
 pub returns : goal.returns
-returns c =
-    then_goes _ _ c.in-Passed.is c.check_rows_size-sizes.ensures c.check_rows.ensures
+returns c = then_goes _ _ c.in-Passed.is c.check_rows_size-sizes.ensures c.check_rows.ensures

@@ -5,17 +5,13 @@ use Rattle.ground.specs.Laws.First.{first_here, first_none}
 use Rattle.link_writer.proofs.first_large.Goals as goal
 
 pub loop-k-init : goal.loop-k-init
-loop-k-init c =
-    (search rules, below_none _)
+loop-k-init c = (search rules, below_none _)
 
 pub returns-then-most-costs : goal.returns-then-most-costs
-returns-then-most-costs c =
-    first_here _ _ _ (search rules) c.loop-k.invariant.1 (lt-ltb _ _ c.if-most-costs.true)
+returns-then-most-costs c = first_here _ _ _ (search rules) c.loop-k.invariant.1 (lt-ltb _ _ c.if-most-costs.true)
 
 pub loop-k-preserved : goal.loop-k-preserved
-loop-k-preserved c =
-    (search rules, below_more _ _ c.loop-k.invariant.1 (le-ltb _ _ c.if-most-costs.false))
+loop-k-preserved c = (search rules, below_more _ _ c.loop-k.invariant.1 (le-ltb _ _ c.if-most-costs.false))
 
 pub returns : goal.returns
-returns c =
-    first_none _ _ _ (search rules) (search rules) c.loop-k.invariant.1
+returns c = first_none _ _ _ (search rules) (search rules) c.loop-k.invariant.1

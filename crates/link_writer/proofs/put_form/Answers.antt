@@ -10,35 +10,39 @@ use Rattle.link_writer.specs.Laws.Putting.{form_put}
 use Rattle.link_writer.proofs.put_form.Goals as goal
 
 pub start-begun-requires : goal.start-begun-requires
-start-begun-requires c =
-    (omega (arith, c.requires.0.small.short), omega (arith, c.requires.0.fits))
+start-begun-requires c = (omega (arith, c.requires.0.small.short), omega (arith, c.requires.0.fits))
 
 pub put-counted-requires : goal.put-counted-requires
 put-counted-requires c =
     let room : Room (length c.start-begun.new.out) c.start-begun.result (7 + row_width c.args.form.width c.args.n * length c.args.fars.now) = let a = c.args in
     room-begun a.form a.n (7 + row_width a.form.width a.n * length a.fars.now) (omega (arith, c.requires.0.fits, c.start-begun.auto.out))
-    c.start-begun.ensures in let r = room in (omega arith, record { part = r.part; within = omega (arith, r.within) })
+    c.start-begun.ensures in
+    let r = room in (omega arith, record { part = r.part; within = omega (arith, r.within) })
 
 pub put_rows-rowed-requires : goal.put_rows-rowed-requires
 put_rows-rowed-requires c =
     let room : Room (length c.start-begun.new.out) c.start-begun.result (7 + row_width c.args.form.width c.args.n * length c.args.fars.now) = let a = c.args in
     room-begun a.form a.n (7 + row_width a.form.width a.n * length a.fars.now) (omega (arith, c.requires.0.fits, c.start-begun.auto.out))
-    c.start-begun.ensures in let rows-room : Room (length c.put-counted.new.out) c.put-counted.result
+    c.start-begun.ensures in
+    let rows-room : Room (length c.put-counted.new.out) c.put-counted.result
     (row_width c.args.form.width c.args.n * length c.args.fars.now) = let a = c.args in
     rw c.put-counted.auto.out
     (room_then (row_width a.form.width a.n * length a.fars.now) room c.put-counted.ensures
-    (rw length-bits_of (omega arith))) in let h = c.requires.0.small in
+    (rw length-bits_of (omega arith))) in
+    let h = c.requires.0.small in
     (omega (arith, h.some), h.few, h.narrow, rows-room, c.requires.1)
 
 pub finish-requires : goal.finish-requires
 finish-requires c =
     let room : Room (length c.start-begun.new.out) c.start-begun.result (7 + row_width c.args.form.width c.args.n * length c.args.fars.now) = let a = c.args in
     room-begun a.form a.n (7 + row_width a.form.width a.n * length a.fars.now) (omega (arith, c.requires.0.fits, c.start-begun.auto.out))
-    c.start-begun.ensures in let rows-room : Room (length c.put-counted.new.out) c.put-counted.result
+    c.start-begun.ensures in
+    let rows-room : Room (length c.put-counted.new.out) c.put-counted.result
     (row_width c.args.form.width c.args.n * length c.args.fars.now) = let a = c.args in
     rw c.put-counted.auto.out
     (room_then (row_width a.form.width a.n * length a.fars.now) room c.put-counted.ensures
-    (rw length-bits_of (omega arith))) in let a = c.args in
+    (rw length-bits_of (omega arith))) in
+    let a = c.args in
     let r = room_then 0 rows-room c.put_rows-rowed.ensures
     (omega (arith, length-rows a.form.width a.n (λ k. get_or a.fars.now k 0) (λ k. get_or a.costs.now k 0) (length a.fars.now))) in
     (r.part, omega (arith, r.within, c.put_rows-rowed.auto.out))

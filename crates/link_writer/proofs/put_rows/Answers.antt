@@ -8,8 +8,7 @@ use Rattle.link_writer.specs.Laws.Putting.{rows_put_end, rows_put_more, rows_put
 use Rattle.link_writer.proofs.put_rows.Goals as goal
 
 pub loop-k-init : goal.loop-k-init
-loop-k-init c =
-    (search rules, refl, rows_put_none c.args.w c.args.n _ _ c.args.out.now c.args.g c.requires.3.part)
+loop-k-init c = (search rules, refl, rows_put_none c.args.w c.args.n _ _ c.args.out.now c.args.g c.requires.3.part)
 
 pub put_row-gathered-requires : goal.put_row-gathered-requires
 put_row-gathered-requires c =

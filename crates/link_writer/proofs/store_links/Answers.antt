@@ -20,8 +20,10 @@ check_store-requires c =
 pub put_links-requires : goal.put_links-requires
 put_links-requires c =
     let checked : c.check_store.result ≡ store_checks (link_form c.args.edition) c.args.n c.args.fars.now c.args.costs.now
-    (length c.args.out.now) = rw c.form_of.ensures at c.check_store.ensures in let small : Small (link_form c.args.edition) c.args.n (length c.args.fars.now) = let f = form_small c.args.edition in
-    links_small (link_form c.args.edition) limit c.args.n c.args.fars.now c.args.costs.now f.0 f.1 c.requires in let room : link_used (link_form c.args.edition) c.args.n (length c.args.fars.now)
+    (length c.args.out.now) = rw c.form_of.ensures at c.check_store.ensures in
+    let small : Small (link_form c.args.edition) c.args.n (length c.args.fars.now) = let f = form_small c.args.edition in
+    links_small (link_form c.args.edition) limit c.args.n c.args.fars.now c.args.costs.now f.0 f.1 c.requires in
+    let room : link_used (link_form c.args.edition) c.args.n (length c.args.fars.now)
     ≤ length c.args.out.now = let a = c.args in
     (store_passed (link_form a.edition) a.n (length a.fars.now) a.fars.now a.costs.now (length a.out.now)
     (sym checked ∙ c.in-Passed.is)).1 in (record { small = small; fits = room }, c.requires.costed)

@@ -12,13 +12,13 @@ pub store_links-requires : goal.store_links-requires
 store_links-requires c =
     let passed : (size_checks c.args.n c.args.count c.args.fars.now
     c.args.costs.now then row_checks limit c.args.n c.args.fars.now
-    c.args.costs.now) ≡ Passed = sym c.check_table.ensures ∙ c.in-Passed.is in let a = c.args in
+    c.args.costs.now) ≡ Passed = sym c.check_table.ensures ∙ c.in-Passed.is in
+    let a = c.args in
     let t = (link_checks_lem limit a.n a.count a.fars.now a.costs.now).0 passed in
     subst (λ (x : ℕ). Links limit a.n x a.fars.now a.costs.now) (sym t.counted) t
 
 pub returns-in-Refused : goal.returns-in-Refused
-returns-in-Refused c =
-    rw (sym c.check_table.ensures ∙ c.in-Refused.is) (record { answered = refl; left = refl })
+returns-in-Refused c = rw (sym c.check_table.ensures ∙ c.in-Refused.is) (record { answered = refl; left = refl })
 
 pub returns-in-Passed : goal.returns-in-Passed
 returns-in-Passed c =

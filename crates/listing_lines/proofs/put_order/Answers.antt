@@ -25,11 +25,13 @@ unfolding order_line bytes_of
 put_byte-requires c =
     let left-1 : let a = c.args in
     Rest (fields a.around.now ++ (10 ∷ [])) c.put_word-p.result c.put_word-p.new.out (order_line a.around.now) a.at a.out.now = rest-step (bytes_of "order") (fields c.args.around.now ++ (10 ∷ [])) (rest_begin (order_line c.args.around.now) c.args.at c.args.out.now)
-    c.requires c.put_word-p.ensures in let left-2 : let a = c.args in Rest (10 ∷ []) c.put_fields-e.result c.put_fields-e.new.out (order_line a.around.now) a.at a.out.now = rest-step (fields c.args.around.now) (10 ∷ []) left-1 c.requires c.put_fields-e.ensures in byte_last_fits left-2 c.requires
+    c.requires c.put_word-p.ensures in
+    let left-2 : let a = c.args in Rest (10 ∷ []) c.put_fields-e.result c.put_fields-e.new.out (order_line a.around.now) a.at a.out.now = rest-step (fields c.args.around.now) (10 ∷ []) left-1 c.requires c.put_fields-e.ensures in byte_last_fits left-2 c.requires
 
 pub returns : goal.returns
 unfolding order_line bytes_of
 returns c =
     let left-1 : let a = c.args in
     Rest (fields a.around.now ++ (10 ∷ [])) c.put_word-p.result c.put_word-p.new.out (order_line a.around.now) a.at a.out.now = rest-step (bytes_of "order") (fields c.args.around.now ++ (10 ∷ [])) (rest_begin (order_line c.args.around.now) c.args.at c.args.out.now)
-    c.requires c.put_word-p.ensures in let left-2 : let a = c.args in Rest (10 ∷ []) c.put_fields-e.result c.put_fields-e.new.out (order_line a.around.now) a.at a.out.now = rest-step (fields c.args.around.now) (10 ∷ []) left-1 c.requires c.put_fields-e.ensures in rest_last left-2 c.put_byte.ensures
+    c.requires c.put_word-p.ensures in
+    let left-2 : let a = c.args in Rest (10 ∷ []) c.put_fields-e.result c.put_fields-e.new.out (order_line a.around.now) a.at a.out.now = rest-step (fields c.args.around.now) (10 ∷ []) left-1 c.requires c.put_fields-e.ensures in rest_last left-2 c.put_byte.ensures

@@ -7,8 +7,7 @@ use Rattle.text.specs.Laws.Putting.{rest_begin, rest_end, rest_fits, rest-step}
 use Rattle.listing_lines.proofs.put_rows.Goals as goal
 
 pub loop-i-init : goal.loop-i-init
-loop-i-init c =
-    (search rules, rest_begin _ _ _)
+loop-i-init c = (search rules, rest_begin _ _ _)
 
 pub put_row-place-requires : goal.put_row-place-requires
 put_row-place-requires c =
@@ -27,5 +26,4 @@ loop-i-preserved c =
     )
 
 pub returns : goal.returns
-returns c =
-    rest_end (rest_same (rows_end _ _ _ _ c.loop-i-test.false) c.loop-i.invariant.1)
+returns c = rest_end (rest_same (rows_end _ _ _ _ c.loop-i-test.false) c.loop-i.invariant.1)

@@ -4,12 +4,10 @@ use Rattle.newick_bytes.specs.Laws.Narrow.{digit_low}
 use Rattle.newick_bytes.proofs.after_image.Goals as goal
 
 pub returns-then-b-eq58 : goal.returns-then-b-eq58
-returns-then-b-eq58 c =
-    rw (eq-eqb _ _ c.if-b-eq58.true)
+returns-then-b-eq58 c = rw (eq-eqb _ _ c.if-b-eq58.true)
 
 pub returns-then-not-is_digit : goal.returns-then-not-is_digit
-returns-then-not-is_digit c =
-    rw (ne_eqb _ _ c.if-b-eq58.false, ← c.is_digit.ensures, c.if-not-is_digit.true)
+returns-then-not-is_digit c = rw (ne_eqb _ _ c.if-b-eq58.false, ← c.is_digit.ensures, c.if-not-is_digit.true)
 
 pub overflow_sub-result : goal.overflow_sub-result
 overflow_sub-result c =

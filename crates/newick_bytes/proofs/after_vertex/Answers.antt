@@ -3,8 +3,7 @@ use Rattle.std.proofs.Common.{eq-eqb, ne_eqb, refl}
 use Rattle.newick_bytes.proofs.after_vertex.Goals as goal
 
 pub returns-then-b-ne40 : goal.returns-then-b-ne40
-returns-then-b-ne40 c =
-    (rw (ne_eqb _ _ c.if-b-ne40.true) c.begin_image.ensures, rw (ne_eqb _ _ c.if-b-ne40.true) refl)
+returns-then-b-ne40 c = (rw (ne_eqb _ _ c.if-b-ne40.true) c.begin_image.ensures, rw (ne_eqb _ _ c.if-b-ne40.true) refl)
 
 pub returns-then-may_open : goal.returns-then-may_open
 returns-then-may_open c =

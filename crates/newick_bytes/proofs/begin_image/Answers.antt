@@ -10,9 +10,7 @@ overflow_sub-result c =
     omega arith
 
 pub returns-then-may_begin : goal.returns-then-may_begin
-returns-then-may_begin c =
-    rw (← c.may_begin.ensures, c.if-may_begin.true)
+returns-then-may_begin c = rw (← c.may_begin.ensures, c.if-may_begin.true)
 
 pub returns : goal.returns
-returns c =
-    rw (← c.may_begin.ensures, c.if-may_begin.false)
+returns c = rw (← c.may_begin.ensures, c.if-may_begin.false)

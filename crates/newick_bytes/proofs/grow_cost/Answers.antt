@@ -5,12 +5,10 @@ use Rattle.newick_bytes.specs.Laws.Narrow.{digit_low}
 use Rattle.newick_bytes.proofs.grow_cost.Goals as goal
 
 pub returns-then-not-is_digit : goal.returns-then-not-is_digit
-returns-then-not-is_digit c =
-    rw (← c.is_digit.ensures, c.if-not-is_digit.true)
+returns-then-not-is_digit c = rw (← c.is_digit.ensures, c.if-not-is_digit.true)
 
 pub returns-then-x-lt1 : goal.returns-then-x-lt1
-returns-then-x-lt1 c =
-    rw (← c.is_digit.ensures, c.if-not-is_digit.false, lt-leb _ _ c.if-x-lt1.true)
+returns-then-x-lt1 c = rw (← c.is_digit.ensures, c.if-not-is_digit.false, lt-leb _ _ c.if-x-lt1.true)
 
 pub overflow_sub-result : goal.overflow_sub-result
 overflow_sub-result c =

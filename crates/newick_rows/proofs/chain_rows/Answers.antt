@@ -33,7 +33,8 @@ bounds-latest-p-in-loop-i c =
 pub loop-i-preserved : goal.loop-i-preserved
 loop-i-preserved c =
     let placed : c.wide-p.result < 128 = let i = c.loop-i.i in
-    omega (arith, c.wide-p.ensures, c.requires.0, c.requires.1.most i c.loop-i-test.true) in let k = c.loop-i in
+    omega (arith, c.wide-p.ensures, c.requires.0, c.requires.1.most i c.loop-i-test.true) in
+    let k = c.loop-i in
     let u = c.args.above.now in
     let h = c.loop-i-test.true in
     let q = c.wide-p.ensures in

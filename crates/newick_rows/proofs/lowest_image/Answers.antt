@@ -5,16 +5,14 @@ use borrow.Author.Count.{below_more, below_none}
 use Rattle.newick_rows.proofs.lowest_image.Goals as goal
 
 pub loop-i-init : goal.loop-i-init
-loop-i-init c =
-    (search rules, below_none _)
+loop-i-init c = (search rules, below_none _)
 
 pub returns-then-s-i-eq1 : goal.returns-then-s-i-eq1
 returns-then-s-i-eq1 c =
     let k = c.loop-i in image_here _ k.i c.loop-i-test.true k.invariant.1 c.if-s-i-eq1.true
 
 pub loop-i-preserved : goal.loop-i-preserved
-loop-i-preserved c =
-    (search rules, below_more _ _ c.loop-i.invariant.1 (not_here _ _ c.if-s-i-eq1.false))
+loop-i-preserved c = (search rules, below_more _ _ c.loop-i.invariant.1 (not_here _ _ c.if-s-i-eq1.false))
 
 pub returns : goal.returns
 returns c =

@@ -3,16 +3,13 @@ use Rattle.std.proofs.Common.{arith, refl, sym}
 use Rattle.newick_rows.proofs.put_rows.Goals as goal
 
 pub chain_rows-requires : goal.chain_rows-requires
-chain_rows-requires c =
-    (omega (arith, c.requires.1.few, c.requires.1.ruled), c.requires.2, refl, refl)
+chain_rows-requires c = (omega (arith, c.requires.1.few, c.requires.1.ruled), c.requires.2, refl, refl)
 
 pub slice_bounds-put_tree-end : goal.slice_bounds-put_tree-end
-slice_bounds-put_tree-end c =
-    sym c.chain_rows.auto.before
+slice_bounds-put_tree-end c = sym c.chain_rows.auto.before
 
 pub slice_bounds-put_tree-end-2 : goal.slice_bounds-put_tree-end-2
-slice_bounds-put_tree-end-2 c =
-    sym c.chain_rows.auto.latest
+slice_bounds-put_tree-end-2 c = sym c.chain_rows.auto.latest
 
 pub put_tree-requires : goal.put_tree-requires
 put_tree-requires c =
@@ -20,5 +17,4 @@ put_tree-requires c =
     (p.0, p.1, c.chain_rows.ensures, p.3)
 
 pub returns : goal.returns
-returns c =
-    c.put_tree.ensures
+returns c = c.put_tree.ensures

@@ -5,12 +5,10 @@ use Rattle.newick_writer.specs.Laws.Summing.{more-digits, one-digit}
 use Rattle.newick_writer.proofs.digits.Goals as goal
 
 pub loop-rest-init : goal.loop-rest-init
-loop-rest-init c =
-    (c.ranges.x.fits, search rules)
+loop-rest-init c = (c.ranges.x.fits, search rules)
 
 pub overflow_add-count : goal.overflow_add-count
-overflow_add-count c =
-    omega (arith, c.loop-rest.invariant.1, decimal-most c.args.x)
+overflow_add-count c = omega (arith, c.loop-rest.invariant.1, decimal-most c.args.x)
 
 pub loop-rest-preserved : goal.loop-rest-preserved
 loop-rest-preserved c =

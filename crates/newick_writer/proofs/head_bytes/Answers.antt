@@ -9,5 +9,4 @@ returns-then-s-eq1 c =
     c.digits.ensures ∙ ap (λ (x : ℕ). length (decimal x)) c.image_of.ensures ∙ alone-bytes c.args.s c.ranges.s.fits c.if-s-eq1.true
 
 pub returns : goal.returns
-returns c =
-    other-bytes c.args.s c.if-s-eq1.false
+returns c = other-bytes c.args.s c.if-s-eq1.false

@@ -4,8 +4,7 @@ use Rattle.newick_writer.specs.Laws.Summing.{from_end, from_row, row-most}
 use Rattle.newick_writer.proofs.text_bytes.Goals as goal
 
 pub loop-k-init : goal.loop-k-init
-loop-k-init c =
-    (search rules, omega arith, refl)
+loop-k-init c = (search rules, omega arith, refl)
 
 pub overflow_add-sum : goal.overflow_add-sum
 overflow_add-sum c =

@@ -14,21 +14,28 @@ local-places = length-replicate {A = ℕ} 128 0
 
 pub slice_bounds-above-end : goal.slice_bounds-above-end
 slice_bounds-above-end c =
-    let places : List ℕ = c.upper_rows.new.out in let links-here : let a = c.args in Links limit a.n a.count a.fars.now a.costs.now = let a = c.args in
-    uppers_links a.n a.count a.fars.now a.costs.now (replicate 128 0) local-places c.upper_rows.ensures c.in-Places.is in let room-here : length c.args.fars.now ≤ length places = let a = c.args in
+    let places : List ℕ = c.upper_rows.new.out in
+    let links-here : let a = c.args in Links limit a.n a.count a.fars.now a.costs.now = let a = c.args in
+    uppers_links a.n a.count a.fars.now a.costs.now (replicate 128 0) local-places c.upper_rows.ensures c.in-Places.is in
+    let room-here : length c.args.fars.now ≤ length places = let a = c.args in
     omega (arith, (few_here a.n a.count a.fars.now a.costs.now links-here).1, c.upper_rows.auto.out) in room-here
 
 pub slice_bounds-write_rows-end : goal.slice_bounds-write_rows-end
 slice_bounds-write_rows-end c =
-    let places : List ℕ = c.upper_rows.new.out in let links-here : let a = c.args in Links limit a.n a.count a.fars.now a.costs.now = let a = c.args in
-    uppers_links a.n a.count a.fars.now a.costs.now (replicate 128 0) local-places c.upper_rows.ensures c.in-Places.is in let room-here : length c.args.fars.now ≤ length places = let a = c.args in
+    let places : List ℕ = c.upper_rows.new.out in
+    let links-here : let a = c.args in Links limit a.n a.count a.fars.now a.costs.now = let a = c.args in
+    uppers_links a.n a.count a.fars.now a.costs.now (replicate 128 0) local-places c.upper_rows.ensures c.in-Places.is in
+    let room-here : length c.args.fars.now ≤ length places = let a = c.args in
     omega (arith, (few_here a.n a.count a.fars.now a.costs.now links-here).1, c.upper_rows.auto.out) in sym (length-take-le _ _ room-here)
 
 pub write_rows-requires : goal.write_rows-requires
 write_rows-requires c =
-    let places : List ℕ = c.upper_rows.new.out in let links-here : let a = c.args in Links limit a.n a.count a.fars.now a.costs.now = let a = c.args in
-    uppers_links a.n a.count a.fars.now a.costs.now (replicate 128 0) local-places c.upper_rows.ensures c.in-Places.is in let uppers-here : let l = c.args.fars.now in take (length l) places ≡ uppers l = let a = c.args in
-    uppers-left a.n a.count a.fars.now a.costs.now (replicate 128 0) local-places c.upper_rows.ensures c.in-Places.is in let a = c.args in
+    let places : List ℕ = c.upper_rows.new.out in
+    let links-here : let a = c.args in Links limit a.n a.count a.fars.now a.costs.now = let a = c.args in
+    uppers_links a.n a.count a.fars.now a.costs.now (replicate 128 0) local-places c.upper_rows.ensures c.in-Places.is in
+    let uppers-here : let l = c.args.fars.now in take (length l) places ≡ uppers l = let a = c.args in
+    uppers-left a.n a.count a.fars.now a.costs.now (replicate 128 0) local-places c.upper_rows.ensures c.in-Places.is in
+    let a = c.args in
     known a.n a.count a.fars.now a.costs.now links-here uppers-here
 
 pub returns-in-Refused : goal.returns-in-Refused
@@ -39,7 +46,10 @@ returns-in-Refused c =
 
 pub returns-in-Places : goal.returns-in-Places
 returns-in-Places c =
-    let places : List ℕ = c.upper_rows.new.out in let links-here : let a = c.args in Links limit a.n a.count a.fars.now a.costs.now = let a = c.args in
-    uppers_links a.n a.count a.fars.now a.costs.now (replicate 128 0) local-places c.upper_rows.ensures c.in-Places.is in let uppers-here : let l = c.args.fars.now in take (length l) places ≡ uppers l = let a = c.args in
-    uppers-left a.n a.count a.fars.now a.costs.now (replicate 128 0) local-places c.upper_rows.ensures c.in-Places.is in let a = c.args in
+    let places : List ℕ = c.upper_rows.new.out in
+    let links-here : let a = c.args in Links limit a.n a.count a.fars.now a.costs.now = let a = c.args in
+    uppers_links a.n a.count a.fars.now a.costs.now (replicate 128 0) local-places c.upper_rows.ensures c.in-Places.is in
+    let uppers-here : let l = c.args.fars.now in take (length l) places ≡ uppers l = let a = c.args in
+    uppers-left a.n a.count a.fars.now a.costs.now (replicate 128 0) local-places c.upper_rows.ensures c.in-Places.is in
+    let a = c.args in
     write_known a.n a.count a.fars.now a.costs.now links-here a.out.now uppers-here c.write_rows.ensures

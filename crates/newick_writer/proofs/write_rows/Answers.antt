@@ -8,12 +8,12 @@ use Rattle.newick_writer.proofs.Laws.Accepted.{room_fits}
 use Rattle.newick_writer.proofs.write_rows.Goals as goal
 
 pub text_bytes-requires : goal.text_bytes-requires
-text_bytes-requires c =
-    (c.requires.sized.costed, c.requires.sized.few)
+text_bytes-requires c = (c.requires.sized.costed, c.requires.sized.few)
 
 pub put_rows-requires : goal.put_rows-requires
 put_rows-requires c =
-    let checked : let a = c.args in c.refuse_if.result ≡ room_check (length (tree_text a.above.now a.fars.now a.costs.now)) (length a.out.now) = c.refuse_if.ensures ∙ ap (λ (x : ℕ). room_check x (length c.args.out.now)) (c.text_bytes.ensures ∙ sym c.requires.bytes) in let p = c.requires in
+    let checked : let a = c.args in c.refuse_if.result ≡ room_check (length (tree_text a.above.now a.fars.now a.costs.now)) (length a.out.now) = c.refuse_if.ensures ∙ ap (λ (x : ℕ). room_check x (length c.args.out.now)) (c.text_bytes.ensures ∙ sym c.requires.bytes) in
+    let p = c.requires in
     let a = c.args in
     let m = tree_text a.above.now a.fars.now a.costs.now in
     (p.some, p.sized, p.upward, room_fits m a.out.now (sym checked ∙ c.in-Passed.is))
@@ -24,5 +24,6 @@ returns-in-Refused c =
 
 pub returns-in-Passed : goal.returns-in-Passed
 returns-in-Passed c =
-    let checked : let a = c.args in c.refuse_if.result ≡ room_check (length (tree_text a.above.now a.fars.now a.costs.now)) (length a.out.now) = c.refuse_if.ensures ∙ ap (λ (x : ℕ). room_check x (length c.args.out.now)) (c.text_bytes.ensures ∙ sym c.requires.bytes) in let f = put_front c.put_rows.ensures in
+    let checked : let a = c.args in c.refuse_if.result ≡ room_check (length (tree_text a.above.now a.fars.now a.costs.now)) (length a.out.now) = c.refuse_if.ensures ∙ ap (λ (x : ℕ). room_check x (length c.args.out.now)) (c.text_bytes.ensures ∙ sym c.requires.bytes) in
+    let f = put_front c.put_rows.ensures in
     written_goes _ _ _ c.in-Passed.is checked f.0 f.1

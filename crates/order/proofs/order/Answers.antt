@@ -19,8 +19,7 @@ write_order-requires c =
     (a.table, omega (arith, a.first_low, a.first_high), omega (arith, a.last_low, a.last_high), a.space)
 
 pub returns-in-Refused : goal.returns-in-Refused
-returns-in-Refused c =
-    left-refused limit _ _ _ _ _ c.in-Refused.is c.check_order-c.ensures
+returns-in-Refused c = left-refused limit _ _ _ _ _ c.in-Refused.is c.check_order-c.ensures
 
 pub returns-in-Passed : goal.returns-in-Passed
 returns-in-Passed c =

@@ -10,9 +10,7 @@ behind-requires c =
     omega (arith, h, c.ranges.position)
 
 pub returns-in-Refused : goal.returns-in-Refused
-returns-in-Refused c =
-    costs-refused _ c.read_costs-table.ensures c.in-Refused.is
+returns-in-Refused c = costs-refused _ c.read_costs-table.ensures c.in-Refused.is
 
 pub returns-in-Table : goal.returns-in-Table
-returns-in-Table c =
-    costs-accepted _ c.read_costs-table.ensures c.in-Table.is c.behind.ensures
+returns-in-Table c = costs-accepted _ c.read_costs-table.ensures c.in-Table.is c.behind.ensures

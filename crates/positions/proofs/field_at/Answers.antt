@@ -13,12 +13,11 @@ get-requires c =
 pub overflow_add-result : goal.overflow_add-result
 overflow_add-result c =
     let there : c.check_field.result ≡ Passed
-    → FieldWithin (length c.args.bytes.now) c.args.position c.args.width = λ e. let a = c.args in field_within (length a.bytes.now) a.position a.width (sym c.check_field.ensures ∙ e) in let f = there c.in-Passed.is in record { fits = f.counted }
+    → FieldWithin (length c.args.bytes.now) c.args.position c.args.width = λ e. let a = c.args in field_within (length a.bytes.now) a.position a.width (sym c.check_field.ensures ∙ e) in
+    let f = there c.in-Passed.is in record { fits = f.counted }
 
 pub returns-in-Refused : goal.returns-in-Refused
-returns-in-Refused c =
-    rw (sym c.check_field.ensures ∙ c.in-Refused.is)
+returns-in-Refused c = rw (sym c.check_field.ensures ∙ c.in-Refused.is)
 
 pub returns-in-Passed : goal.returns-in-Passed
-returns-in-Passed c =
-    rw (sym c.check_field.ensures ∙ c.in-Passed.is, c.get.ensures)
+returns-in-Passed c = rw (sym c.check_field.ensures ∙ c.in-Passed.is, c.get.ensures)

@@ -5,8 +5,7 @@ use Rattle.reader.specs.Laws.TwoRead.{first-accepted, first-refused}
 use Rattle.reader.proofs.two_costs.Goals as goal
 
 pub second_costs-requires : goal.second_costs-requires
-second_costs-requires c =
-    sym c.judge_costs.ensures ∙ c.in-Table.is
+second_costs-requires c = sym c.judge_costs.ensures ∙ c.in-Table.is
 
 pub returns-in-Refused : goal.returns-in-Refused
 returns-in-Refused c =

@@ -3,8 +3,7 @@ use Rattle.ground.specs.Laws.Refusals.{then_goes, then_stops}
 use Rattle.routes.proofs.check_both.Goals as goal
 
 pub returns-in-Refused : goal.returns-in-Refused
-returns-in-Refused c =
-    then_stops _ _ c.in-Refused.is (rw c.is_outside.ensures at c.refuse_if-first.ensures)
+returns-in-Refused c = then_stops _ _ c.in-Refused.is (rw c.is_outside.ensures at c.refuse_if-first.ensures)
 
 pub returns-in-Passed : goal.returns-in-Passed
 returns-in-Passed c =

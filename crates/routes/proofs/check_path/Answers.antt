@@ -6,11 +6,11 @@ use Rattle.routes.proofs.check_path.Goals as goal
 
 pub check_rows-rows-requires : goal.check_rows-rows-requires
 check_rows-rows-requires c =
-    let sized : let a = c.args in LinksSized a.n a.count a.fars.now a.costs.now = sizes_passed _ _ _ _ (rw c.check_rows_size-size.ensures at c.in-Passed.is) in let s = sized in (s.some, s.few, omega arith, omega arith)
+    let sized : let a = c.args in LinksSized a.n a.count a.fars.now a.costs.now = sizes_passed _ _ _ _ (rw c.check_rows_size-size.ensures at c.in-Passed.is) in
+    let s = sized in (s.some, s.few, omega arith, omega arith)
 
 pub returns-in-Refused : goal.returns-in-Refused
-returns-in-Refused c =
-    then_stops _ _ c.in-Refused.is c.check_rows_size-size.ensures
+returns-in-Refused c = then_stops _ _ c.in-Refused.is c.check_rows_size-size.ensures
 
 pub returns-in-Refused-rows : goal.returns-in-Refused-rows
 returns-in-Refused-rows c =

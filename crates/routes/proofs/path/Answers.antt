@@ -19,7 +19,8 @@ overflow_sub-j c =
 
 pub path_cost-requires : goal.path_cost-requires
 path_cost-requires c =
-    let taken : let a = c.args in PathAsked limit a.n a.count a.fars.now a.costs.now a.i a.j = path-passed _ _ _ _ _ _ _ (rw c.check_path-check.ensures at c.in-Passed.is) in let t = taken in (
+    let taken : let a = c.args in PathAsked limit a.n a.count a.fars.now a.costs.now a.i a.j = path-passed _ _ _ _ _ _ _ (rw c.check_path-check.ensures at c.in-Passed.is) in
+    let t = taken in (
       omega (arith, t.table.few),
       omega (arith, t.table.few),
       omega (arith, t.table.counted, t.table.costed),
@@ -28,8 +29,7 @@ path_cost-requires c =
     )
 
 pub returns-in-Refused : goal.returns-in-Refused
-returns-in-Refused c =
-    if_stops answer.Refused _ _ c.in-Refused.is c.check_path-check.ensures
+returns-in-Refused c = if_stops answer.Refused _ _ c.in-Refused.is c.check_path-check.ensures
 
 pub returns-in-Passed : goal.returns-in-Passed
 returns-in-Passed c =

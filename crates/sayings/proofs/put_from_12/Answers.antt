@@ -9,23 +9,19 @@ use Rattle.sayings.proofs.put_from_12.Goals as goal
 
 pub returns-in-12 : goal.returns-in-12
 unfolding saying_in sayings_from12
-returns-in-12 c =
-    rw c.in-12.is c.put_bad_row.ensures
+returns-in-12 c = rw c.in-12.is c.put_bad_row.ensures
 
 pub returns-in-13 : goal.returns-in-13
 unfolding saying_text saying_in sayings_from12 bytes_of fields
-returns-in-13 c =
-    rw c.in-13.is c.put_one.ensures
+returns-in-13 c = rw c.in-13.is c.put_one.ensures
 
 pub returns-in-14 : goal.returns-in-14
 unfolding saying_text saying_in sayings_from12 bytes_of fields
-returns-in-14 c =
-    rw c.in-14.is c.put_word.ensures
+returns-in-14 c = rw c.in-14.is c.put_word.ensures
 
 pub returns-in-15 : goal.returns-in-15
 unfolding saying_text saying_in sayings_from12 bytes_of fields
-returns-in-15 c =
-    rw c.in-15.is c.put_word-in-15.ensures
+returns-in-15 c = rw c.in-15.is c.put_word-in-15.ensures
 
 pub returns-in_default : goal.returns-in_default
 unfolding saying_in sayings_from12

@@ -9,23 +9,19 @@ use Rattle.sayings.proofs.put_from_16.Goals as goal
 
 pub returns-in-16 : goal.returns-in-16
 unfolding saying_text saying_in sayings_from16 bytes_of fields
-returns-in-16 c =
-    rw c.in-16.is c.put_word.ensures
+returns-in-16 c = rw c.in-16.is c.put_word.ensures
 
 pub returns-in-17 : goal.returns-in-17
 unfolding saying_in sayings_from16
-returns-in-17 c =
-    rw c.in-17.is c.put_above_old.ensures
+returns-in-17 c = rw c.in-17.is c.put_above_old.ensures
 
 pub returns-in-18 : goal.returns-in-18
 unfolding saying_text saying_in sayings_from16 bytes_of fields
-returns-in-18 c =
-    rw c.in-18.is c.put_one.ensures
+returns-in-18 c = rw c.in-18.is c.put_one.ensures
 
 pub returns-in-19 : goal.returns-in-19
 unfolding saying_text saying_in sayings_from16 bytes_of fields
-returns-in-19 c =
-    rw c.in-19.is c.put_word-in-19.ensures
+returns-in-19 c = rw c.in-19.is c.put_word-in-19.ensures
 
 pub returns-in_default : goal.returns-in_default
 unfolding saying_in sayings_from16

@@ -9,18 +9,15 @@ use Rattle.sayings.proofs.put_from_20.Goals as goal
 
 pub returns-in-20 : goal.returns-in-20
 unfolding saying_text saying_in sayings_from20 bytes_of fields
-returns-in-20 c =
-    rw c.in-20.is c.put_two.ensures
+returns-in-20 c = rw c.in-20.is c.put_two.ensures
 
 pub returns-in-21 : goal.returns-in-21
 unfolding saying_text saying_in sayings_from20 bytes_of fields
-returns-in-21 c =
-    rw c.in-21.is c.put_three.ensures
+returns-in-21 c = rw c.in-21.is c.put_three.ensures
 
 pub returns-in-22 : goal.returns-in-22
 unfolding saying_text saying_in sayings_from20 bytes_of fields
-returns-in-22 c =
-    rw c.in-22.is c.put_one.ensures
+returns-in-22 c = rw c.in-22.is c.put_one.ensures
 
 pub returns-in_default : goal.returns-in_default
 unfolding saying_text saying_in sayings_from20 bytes_of fields

@@ -10,23 +10,19 @@ use Rattle.sayings.proofs.put_said.Goals as goal
 
 pub returns-in-0 : goal.returns-in-0
 unfolding said_of saying_text saying_in sayings bytes_of fields
-returns-in-0 c =
-    rw c.in-0.is c.put_word.ensures
+returns-in-0 c = rw c.in-0.is c.put_word.ensures
 
 pub returns-in-1 : goal.returns-in-1
 unfolding said_of saying_text saying_in sayings bytes_of fields
-returns-in-1 c =
-    rw c.in-1.is c.put_one.ensures
+returns-in-1 c = rw c.in-1.is c.put_one.ensures
 
 pub returns-in-2 : goal.returns-in-2
 unfolding said_of saying_text saying_in sayings bytes_of fields
-returns-in-2 c =
-    rw c.in-2.is c.put_word-in-2.ensures
+returns-in-2 c = rw c.in-2.is c.put_word-in-2.ensures
 
 pub returns-in-3 : goal.returns-in-3
 unfolding said_of saying_text saying_in sayings bytes_of fields
-returns-in-3 c =
-    rw c.in-3.is c.put_word-in-3.ensures
+returns-in-3 c = rw c.in-3.is c.put_word-in-3.ensures
 
 pub returns-in_default : goal.returns-in_default
 unfolding said_of saying_in sayings

@@ -5,8 +5,7 @@ use Rattle.shared_rows.specs.Laws.Ahead.{ahead-all, ahead-turn, held_ends, kept-
 use Rattle.shared_rows.proofs.meet.Goals as goal
 
 pub loop-i-init : goal.loop-i-init
-loop-i-init c =
-    (search rules, search rules, search rules, ahead-all _ _ _ _ _, refl, refl)
+loop-i-init c = (search rules, search rules, search rules, ahead-all _ _ _ _ _, refl, refl)
 
 pub overflow_add-i : goal.overflow_add-i
 overflow_add-i c =

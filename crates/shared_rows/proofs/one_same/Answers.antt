@@ -5,10 +5,8 @@ use Rattle.shared_rows.proofs.one_same.Goals as goal
 
 pub returns-then-x-y : goal.returns-then-x-y
 unfolding one_same
-returns-then-x-y c =
-    rw (eq-eqb _ _ c.if-x-y.true)
+returns-then-x-y c = rw (eq-eqb _ _ c.if-x-y.true)
 
 pub returns-else-x-y : goal.returns-else-x-y
 unfolding one_same
-returns-else-x-y c =
-    rw (ne_eqb _ _ c.if-x-y.false)
+returns-else-x-y c = rw (ne_eqb _ _ c.if-x-y.false)

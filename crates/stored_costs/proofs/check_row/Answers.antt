@@ -24,7 +24,8 @@ entry_at-requires c =
     c.loop-j.j + c.args.form.width ≤ cost_end c.args.form c.args.n = let a = c.args in
     let l = c.loop-j in
     field_end (a.form.head + 7) a.form.width (entry_count a.n) (entry_number a.n a.i l.j)
-    (number_lt a.n a.i l.j l.invariant.0 c.loop-j-test.true) in let h = c.requires.0 in
+    (number_lt a.n a.i l.j l.invariant.0 c.loop-j-test.true) in
+    let h = c.requires.0 in
     let a = c.args in
     let l = c.loop-j.invariant in
     let e = end_le a.form a.n h.small in (
@@ -51,7 +52,8 @@ overflow_add-p c =
     c.loop-j.j + c.args.form.width ≤ cost_end c.args.form c.args.n = let a = c.args in
     let l = c.loop-j in
     field_end (a.form.head + 7) a.form.width (entry_count a.n) (entry_number a.n a.i l.j)
-    (number_lt a.n a.i l.j l.invariant.0 c.loop-j-test.true) in let a = c.args in
+    (number_lt a.n a.i l.j l.invariant.0 c.loop-j-test.true) in
+    let a = c.args in
     omega (arith, ends, end_le a.form a.n c.requires.0.small, c.loop-j.invariant.2)
 
 pub loop-j-preserved : goal.loop-j-preserved
@@ -65,7 +67,8 @@ loop-j-preserved c =
     c.entry_at.ensures
     ∙ ap (λ (x : ℕ). value_of (part (bits a.bytes.now) x a.form.width)) l.invariant.2
     ∙ sym (cost_of_up (entry_of a.form a.bytes.now) a.n a.i l.j l.invariant.0) in
-    rw (← e) c.check_value-c.ensures in let a = c.args in
+    rw (← e) c.check_value-c.ensures in
+    let a = c.args in
     let l = c.loop-j in
     let next : entry_number a.n a.i (l.j + 1) ≡ entry_number a.n a.i l.j + 1 = omega (arith, l.invariant.0) in (
       search rules,
@@ -75,5 +78,4 @@ loop-j-preserved c =
     )
 
 pub returns : goal.returns
-returns c =
-    all_ends _ _ _ (search rules) c.loop-j.invariant.3
+returns c = all_ends _ _ _ (search rules) c.loop-j.invariant.3

@@ -5,8 +5,7 @@ use Rattle.stored_costs.proofs.Laws.Passed.{body_passed, start-passed}
 use Rattle.stored_costs.proofs.check_stored.Goals as goal
 
 pub returns-in_default : goal.returns-in_default
-returns-in_default c =
-    then_stops _ _ c.in_default.is c.check_start-start.ensures
+returns-in_default c = then_stops _ _ c.in_default.is c.check_start-start.ensures
 
 pub images-n-requires : goal.images-n-requires
 images-n-requires c =

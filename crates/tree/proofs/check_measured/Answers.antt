@@ -6,12 +6,12 @@ use Rattle.tables.proofs.Laws.Formed.{size-passed}
 use Rattle.tree.proofs.check_measured.Goals as goal
 
 pub returns-in_default : goal.returns-in_default
-returns-in_default c =
-    then_stops _ _ c.in_default.is c.check_size-c.ensures
+returns-in_default c = then_stops _ _ c.in_default.is c.check_size-c.ensures
 
 pub check_room-e-requires : goal.check_room-e-requires
 check_room-e-requires c =
-    let well-sized : Sized c.args.n c.args.t.now = size-passed _ _ (sym c.check_size-c.ensures ∙ c.in-Passed.is) in let s = well-sized in (s.some, s.few)
+    let well-sized : Sized c.args.n c.args.t.now = size-passed _ _ (sym c.check_size-c.ensures ∙ c.in-Passed.is) in
+    let s = well-sized in (s.some, s.few)
 
 pub returns-in_default-e : goal.returns-in_default-e
 returns-in_default-e c =

@@ -4,5 +4,4 @@ use Rattle.ground.specs.Refusals.{refusal, refuse_if}
 use Rattle.tree.proofs.check_room.Goals as goal
 
 pub returns : goal.returns
-returns c =
-    c.refuse_if.ensures ∙ ap (λ (b : Bool). refuse_if b (refusal 3 0 0 0 0)) c.is_short.ensures
+returns c = c.refuse_if.ensures ∙ ap (λ (b : Bool). refuse_if b (refusal 3 0 0 0 0)) c.is_short.ensures

@@ -11,8 +11,7 @@ write_reading-requires c =
     (r.table, r.far-room, r.cost-room)
 
 pub returns-in-Refused : goal.returns-in-Refused
-returns-in-Refused c =
-    left-refused _ _ _ _ c.in-Refused.is c.check_exact-c.ensures
+returns-in-Refused c = left-refused _ _ _ _ c.in-Refused.is c.check_exact-c.ensures
 
 pub returns-in-Passed : goal.returns-in-Passed
 returns-in-Passed c =

@@ -3,9 +3,7 @@ use Rattle.std.proofs.Common.{le-ltb, lt-ltb}
 use Rattle.tree.proofs.is_short.Goals as goal
 
 pub returns-then-f-need : goal.returns-then-f-need
-returns-then-f-need c =
-    rw (lt-ltb _ _ c.if-f-need.true)
+returns-then-f-need c = rw (lt-ltb _ _ c.if-f-need.true)
 
 pub returns : goal.returns
-returns c =
-    rw (le-ltb _ _ c.if-f-need.false)
+returns c = rw (le-ltb _ _ c.if-f-need.false)

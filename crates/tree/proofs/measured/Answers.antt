@@ -11,9 +11,7 @@ write_reading-requires c =
     (r.table, r.far-room, r.cost-room)
 
 pub returns-in-Refused : goal.returns-in-Refused
-returns-in-Refused c =
-    left-refused _ _ _ _ c.in-Refused.is c.check_measured-c.ensures
+returns-in-Refused c = left-refused _ _ _ _ c.in-Refused.is c.check_measured-c.ensures
 
 pub returns-in-Passed : goal.returns-in-Passed
-returns-in-Passed c =
-    left_written _ _ _ _ _ _ _ c.in-Passed.is c.check_measured-c.ensures c.write_reading.ensures
+returns-in-Passed c = left_written _ _ _ _ _ _ _ c.in-Passed.is c.check_measured-c.ensures c.write_reading.ensures

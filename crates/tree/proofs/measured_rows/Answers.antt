@@ -21,8 +21,7 @@ write_rows-requires c =
 
 pub loop-k-preserved : goal.loop-k-preserved
 loop-k-preserved c =
-    let i = c.loop-k.invariant in
-    (
+    let i = c.loop-k.invariant in (
       omega (arith, i.0),
       omega (
         arith,

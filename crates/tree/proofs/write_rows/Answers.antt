@@ -4,8 +4,7 @@ use Rattle.ground.specs.Laws.Buffers.{over_end, over-more, over_none}
 use Rattle.tree.proofs.write_rows.Goals as goal
 
 pub loop-i-init : goal.loop-i-init
-loop-i-init c =
-    (search rules, over_none _ _, over_none _ _, search rules, search rules)
+loop-i-init c = (search rules, over_none _ _, over_none _ _, search rules, search rules)
 
 pub loop-i-preserved : goal.loop-i-preserved
 loop-i-preserved c =
