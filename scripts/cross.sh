@@ -4,25 +4,46 @@
 # if this runs as root, unless the script has set may_install=no. What cannot be had is empty, or none for RUN.
 . scripts/common.sh
 need_kit
-archive=target/staticlib/libkemotuiki.a
+archive=crates/kemotuiki/out/libkemotuiki.a
+# The archive is for every processor of x86-64, where rt's own default is one with SSE 4.2.
+for_cpu=(--cpu x86-64)
 
 # One line for the archive, the kit and every file that the archive is made from.
 archive_sum() {
     {
         rt version
-        find crates.txt crates -type f \( -name crates.txt -o -name '*.rt' -o -name '*.antt' \) -exec sha256sum {} + | LC_ALL=C sort
+        find crates.txt crates -path 'crates/*/out' -prune -o -type f \( -name crates.txt -o -name '*.rt' -o -name '*.antt' \) \
+            -exec sha256sum {} + | LC_ALL=C sort
         sha256sum "$archive"
     } | sha256sum
 }
 
-# Proves and makes the archive. The crates below it are proved first, as many at a time as rt allows.
+# Proves kemotuiki, and each library below it of which rt keeps no proof, and makes the archive.
 make_archive() {
-    # shellcheck disable=SC2046
-    prove $(sed -n 's/^kemotuiki://p' crates.txt) || return
-    local log=target/log/archive.log
-    echo "$said_by: making the archive" >&2
-    rt staticlib kemotuiki >"$log" 2>&1 || { tail -n 5 "$log" >&2; return 1; }
+    prove kemotuiki rt lib "${for_cpu[@]}" || return
     archive_sum >"$archive.sum"
+}
+
+# The same over the libraries that `rt ci` left, in the time of one crate: for rt lib those do not count, and it would prove them all once
+# more. Status 1, and no archive, where one of them is not newer than the file BEGAN, from before that run: `rt ci` puts back over its own
+# what stood there before. So they are removed once they have served.
+archive_over_ci() { # BEGAN
+    local crate at words=()
+    for crate in $(crates_of kemotuiki | grep -vx kemotuiki); do
+        [ "crates/$crate/out/rlib/$crate.rlib" -nt "$1" ] || return 1
+        words+=(-L "dependency=../$crate/out/rlib")
+    done
+    for crate in std $(named_by kemotuiki); do
+        if [ -d "crates/$crate" ]; then at=../$crate/out/rlib; else at=$kit/rlibs; fi
+        words+=(--extern "$crate=$at/$crate.rlib")
+    done
+    (cd crates/kemotuiki && "$kit/bin/rattle" build --crate-name kemotuiki src/lib.rt --crate-type staticlib "${for_cpu[@]}" "${words[@]}" \
+        -L "dependency=$kit/rlibs" --antt-project "$kit/rattle/logic/antt-project.json" --logic-built "$kit/logic_built" \
+        --toolchain "$kit/toolchain" --jobs 2 -o "out/${archive##*/}") || return 1
+    archive_sum >"$archive.sum"
+    for crate in $(crates_of kemotuiki); do
+        [ -e "crates/$crate/out/rlib/stamp" ] || rm -rf "crates/$crate/out/rlib"
+    done
 }
 
 # The same, unless the archive is there and was made from these very files.

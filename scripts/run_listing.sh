@@ -12,23 +12,20 @@ case $table in /*) ;; *) table=$PWD/$table ;; esac
 [ -r "$table" ] && [ ! -d "$table" ] || { echo "$said_by: cannot read $table" >&2; exit 2; }
 cd "$(dirname "$0")/.."
 . scripts/common.sh
-need_kit
-program=target/bin/$name
+program=crates/$name/out/$name
 if [ ! -x "$program" ]; then
-    echo "$said_by: proving and building the program, once: $(crates_of "$name") crates, some minutes" >&2
-    prove "$name" </dev/null || exit 1
+    need_kit
+    echo "$said_by: proving and building the program, once: $(crates_of "$name" | wc -l) crates, some minutes" >&2
+    # rt runs it at once, here on no bytes, and what it prints then is not shown.
+    prove "$name" rt run || exit 1
 fi
 machine=$(uname -m)
 command=()
 if [ "$machine" != x86_64 ]; then
+    need_kit
     emulator=$(emulator)
     [ -n "$emulator" ] || { echo "$said_by: this machine is $machine and there is no qemu-x86_64" >&2; exit 2; }
-    command+=("$emulator")
+    lib=$kit/toolchain/lib
+    command=("$emulator" "$lib/ld-linux-x86-64.so.2" --library-path "$lib")
 fi
-for lib in "$kit/on/$machine/toolchain/lib" "$kit/toolchain/lib"; do
-    if [ -e "$lib/ld-linux-x86-64.so.2" ]; then
-        command+=("$lib/ld-linux-x86-64.so.2" --library-path "$lib")
-        break
-    fi
-done
 exec "${command[@]}" "$program" <"$table"

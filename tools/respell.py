@@ -77,7 +77,7 @@ def respelled(name, words):
 
 
 def table():
-    own = {line.split(":")[0].strip() for line in read(os.path.join(TOP, "crates.txt")).split("\n") if ":" in line and not line.startswith("#")}
+    own = {line.split()[0].rstrip(":") for line in read(os.path.join(TOP, "crates.txt")).split("\n") if ":" in line and not line.startswith("#")}
     names, words = declared()
     others = foreign(own)
     moves = {}

@@ -30,27 +30,3 @@ new_e = link_bytes new_links 4 (2 ∷ 4 ∷ 8 ∷ 12 ∷ 14 ∷ []) (2 ∷ 2 ∷
 
 unfoldable pub new_g : List ℕ
 new_g = link_bytes new_links 4 (2 ∷ 4 ∷ 8 ∷ 14 ∷ []) (2 ∷ 2 ∷ 2 ∷ 2 ∷ [])
-
--- E includes G, whichever stands first and whatever follows; of equals the first; neither of two different inner far sides; different n
-pub chosen_examples : (choice_of old_links old_links stored_e stored_g ≡ Table 1 17)
-    × (choice_of old_links old_links (stored_g ++ stored_a) stored_e ≡ Table 2 17)
-    × (choice_of old_links old_links stored_g stored_g ≡ Table 1 14)
-    × (choice_of old_links old_links stored_e exchanged_e ≡ Refused 0 (refusal 14 0 0 0 0))
-    × (choice_of old_links old_links stored_a stored_e ≡ Refused 0 (refusal 15 0 0 0 0))
-    × (choice_of old_links old_links stored_a (130 ∷ []) ≡ Refused 2 (refusal 9 0 0 0 0))
-    × (part_of (choice_of old_links old_links (stored_g ++ stored_a) stored_e) (stored_g ++ stored_a) stored_e ≡ stored_e)
-unfolding stored_a stored_e stored_g exchanged_e link_bytes link_fields rows_to field_bytes field_bits packed filled bytes_of bits bits_of value_of part listed
-    images_of count_of far_at cost_at fill_of first bad_row missing ones ones_in
-chosen_examples = (refl, refl, refl, refl, refl, refl, refl)
-
--- the forms mixed: E includes G, whichever of them stands first and whichever has the new form; a first table FF FF ends before its row count
-pub mixed_examples : (choice_either new_e stored_g ≡ Table 1 20)
-    × (choice_either stored_g new_e ≡ Table 2 20)
-    × (choice_either stored_e new_g ≡ Table 1 17)
-    × (choice_either new_g stored_e ≡ Table 2 17)
-    × (choice_either stored_e new_e ≡ Table 1 17)
-    × (choice_either (255 ∷ 255 ∷ []) stored_e ≡ Refused 1 (refusal 9 0 0 0 0))
-    × (part_of (choice_either stored_g (new_e ++ stored_a)) stored_g (new_e ++ stored_a) ≡ new_e)
-unfolding stored_a stored_e stored_g new_e new_g edition_of link_bytes link_fields rows_to field_bytes field_bits packed filled bytes_of bits bits_of value_of part listed
-    images_of count_of far_at cost_at fill_of first bad_row missing ones ones_in
-mixed_examples = (refl, refl, refl, refl, refl, refl, refl)

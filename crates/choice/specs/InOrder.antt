@@ -7,7 +7,8 @@ use Rattle.ground.specs.Laws.InOrder.{decides_last, decides_next, refuse_order}
 use Rattle.ground.specs.Refusals.{refusal}
 use Rattle.ground.specs.Steps.{Step, about, ◌by◌}
 use Rattle.bits.specs.declared.Form.{Form}
-use Rattle.stored_links.specs.InOrder.{table-order, stored_steps}
+use Rattle.stored_links.specs.InOrder.{stored_steps}
+use Rattle.stored_links.proofs.InOrder.{table-order}
 use Rattle.link_forms.specs.Said.{images_of, used_of}
 use Rattle.choice.specs.Call.{choice_of, images_agree, inclusion, inners_of}
 use Rattle.choice.specs.Inclusion.{includes}
@@ -20,23 +21,3 @@ abbrev pub choice_steps : Form → Form → List ℕ → List ℕ → List Step
 choice_steps f g s t =
     about 1 (stored_steps f s)
     ++ (about 2 (stored_steps g t) ++ (15 by images_agree (images_of f s) (images_of g t) ∷ 14 by inclusion (inners_of f s) (inners_of g t) ∷ []))
-
-one_of_two : (b : Bool) (i j : ℕ) → (m : ℕ) × (u : ℕ) × (cond b (Table 1 i) (Table 2 j) ≡ Table m u)
-one_of_two true i j = (1, i, refl)
-one_of_two false i j = (2, j, refl)
-
--- where every check passed, a table's number and its used bytes
-pub choice_decides : (f g : Form) (s t : List ℕ) → (m : ℕ) × (u : ℕ) × Decides answer.Refused (choice_steps f g s t) (Table m u) (choice_of f g s t)
-choice_decides f g s t =
-    let l = inners_of f s in
-    let r = inners_of g t in
-    let k = one_of_two (includes l r) (used_of f s) (used_of g t) in (
-      k.0,
-      k.1,
-      subst (λ (y : Chosen). Decides answer.Refused (choice_steps f g s t) y (choice_of f g s t)) k.2
-          (decides_next answer.Refused 1 (table-order f s)
-          (decides_next answer.Refused 2 (table-order g t)
-          (decides_next answer.Refused 0 (refuse_order (not (eqb (images_of f s) (images_of g t))) (refusal 15 0 0 0 0) (omega arith))
-          (decides_last answer.Refused 0 (cond (includes l r) (Table 1 (used_of f s)) (Table 2 (used_of g t)))
-          (refuse_order (not (includes l r || includes r l)) (refusal 14 0 0 0 0) (omega arith)))))),
-    )

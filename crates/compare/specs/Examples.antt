@@ -11,48 +11,32 @@ use Rattle.compare.specs.Call.{comparison}
 use Rattle.compare.specs.declared.Comparison.{Comparison}
 use Rattle.compare.specs.declared.Comparison.TheVariants.{Compared}
 
-abbrev table_a : List ℕ
+abbrev pub table_a : List ℕ
 table_a = 0 ∷ 1 ∷ 1 ∷ 1 ∷ 0 ∷ 1 ∷ 1 ∷ 1 ∷ 0 ∷ []
 
-abbrev table_e : List ℕ
+abbrev pub table_e : List ℕ
 table_e = 0 ∷ 2 ∷ 4 ∷ 4 ∷ 2 ∷ 0 ∷ 4 ∷ 4 ∷ 4 ∷ 4 ∷ 0 ∷ 2 ∷ 4 ∷ 4 ∷ 2 ∷ 0 ∷ []
 
 -- E with images 2 and 3 exchanged
-abbrev exchanged_e : List ℕ
+abbrev pub exchanged_e : List ℕ
 exchanged_e = 0 ∷ 4 ∷ 2 ∷ 4 ∷ 4 ∷ 0 ∷ 4 ∷ 2 ∷ 2 ∷ 4 ∷ 0 ∷ 4 ∷ 4 ∷ 2 ∷ 4 ∷ 0 ∷ []
 
-abbrev table_g : List ℕ
+abbrev pub table_g : List ℕ
 table_g = 0 ∷ 2 ∷ 2 ∷ 2 ∷ 2 ∷ 0 ∷ 2 ∷ 2 ∷ 2 ∷ 2 ∷ 0 ∷ 2 ∷ 2 ∷ 2 ∷ 2 ∷ 0 ∷ []
 
 -- inner rows of the first and of the second, common ones, and the count over its divisor
-abbrev answer : ℕ → ℕ → ℕ → ℕ → ℕ → Comparison
+abbrev pub answer : ℕ → ℕ → ℕ → ℕ → ℕ → Comparison
 answer f g c d m = Compared (record { first = f; second = g; common = c; count = d; over = m })
 
--- nothing in common is 1, with one inner row or with two; the same is 0; without inner rows it is 0 over 1, of three images and of four
-pub compared_examples : (comparison limit 4 table_e table_g ≡ answer 1 0 0 1 1)
-    × (comparison limit 4 table_e exchanged_e ≡ answer 1 1 0 2 2)
-    × (comparison limit 4 table_e table_e ≡ answer 1 1 1 0 2)
-    × (comparison limit 4 table_g table_g ≡ answer 0 0 0 0 1)
-    × (comparison limit 3 table_a table_a ≡ answer 0 0 0 0 1)
-unfolding table_check tree_check exact_rows check_all least_on shifted ones
-compared_examples = (refl, refl, refl, refl, refl)
-
 -- five images with an inner row for 2 and 3, with one for 4 and 5, and with both
-abbrev table_low : List ℕ
+abbrev pub table_low : List ℕ
 table_low =
     0 ∷ 3 ∷ 3 ∷ 2 ∷ 2 ∷ 3 ∷ 0 ∷ 2 ∷ 3 ∷ 3 ∷ 3 ∷ 2 ∷ 0 ∷ 3 ∷ 3 ∷ 2 ∷ 3 ∷ 3 ∷ 0 ∷ 2 ∷ 2 ∷ 3 ∷ 3 ∷ 2 ∷ 0 ∷ []
 
-abbrev table_high : List ℕ
+abbrev pub table_high : List ℕ
 table_high =
     0 ∷ 2 ∷ 2 ∷ 3 ∷ 3 ∷ 2 ∷ 0 ∷ 2 ∷ 3 ∷ 3 ∷ 2 ∷ 2 ∷ 0 ∷ 3 ∷ 3 ∷ 3 ∷ 3 ∷ 3 ∷ 0 ∷ 2 ∷ 3 ∷ 3 ∷ 3 ∷ 2 ∷ 0 ∷ []
 
-abbrev table_both : List ℕ
+abbrev pub table_both : List ℕ
 table_both =
     0 ∷ 3 ∷ 3 ∷ 3 ∷ 3 ∷ 3 ∷ 0 ∷ 2 ∷ 4 ∷ 4 ∷ 3 ∷ 2 ∷ 0 ∷ 4 ∷ 4 ∷ 3 ∷ 4 ∷ 4 ∷ 0 ∷ 2 ∷ 3 ∷ 4 ∷ 4 ∷ 2 ∷ 0 ∷ []
-
--- the count is a distance, the disagreement is none: 2 over 2 is more than 1 over 3 and 1 over 3 on the way by the third tree
-pub no_distance : (comparison limit 5 table_low table_high ≡ answer 1 1 0 2 2)
-    × (comparison limit 5 table_low table_both ≡ answer 1 2 1 1 3)
-    × (comparison limit 5 table_both table_high ≡ answer 2 1 1 1 3)
-unfolding table_check tree_check exact_rows check_all least_on shifted ones
-no_distance = (refl, refl, refl)

@@ -6,7 +6,8 @@ use Rattle.ground.specs.Steps.{Step, about, ◌by◌}
 use Rattle.theory.specs.Checks.{images_check}
 use Rattle.theory.specs.Laws.InOrder.{images-order}
 use Rattle.tree.specs.Exact.{exact_sides}
-use Rattle.tree.specs.InOrder.{table-order, table_steps}
+use Rattle.tree.specs.InOrder.{table_steps}
+use Rattle.tree.proofs.InOrder.{table-order}
 use Rattle.counts.specs.Differ.{differ}
 use Rattle.compare.specs.Call.{comparison}
 use Rattle.compare.specs.declared.Comparison.TheVariants.{Compared}
@@ -15,10 +16,3 @@ use Rattle.compare.specs.declared.Comparison.TheVariants as answer
 -- 1, then the first table's 2, 4, 5, 6, 20, 7, then the second's
 abbrev pub compare_steps : ℕ → ℕ → List ℕ → List ℕ → List Step
 compare_steps L n t u = 1 by images_check n ∷ (about 1 (table_steps L n t) ++ about 2 (table_steps L n u))
-
-pub compare_decides : (L n : ℕ) (t u : List ℕ)
-    → Decides answer.Refused (compare_steps L n t u) (Compared (differ n (exact_sides L n t) (exact_sides L n u))) (comparison L n t u)
-compare_decides L n t u =
-    decides_next answer.Refused 0 (images-order n)
-    (decides_next answer.Refused 1 (table-order L n t)
-    (decides_last answer.Refused 2 (Compared (differ n (exact_sides L n t) (exact_sides L n u))) (table-order L n u)))

@@ -8,5 +8,3 @@ pub mod Disagreement
 pub mod Examples
 -- Its checks by their numbers, in order.
 pub mod InOrder
--- Which answer is given when.
-pub mod Laws

@@ -12,7 +12,8 @@ use Rattle.ground.specs.declared.Refusal.{Refusal}
 use Rattle.theory.specs.Checks.{images_check}
 use Rattle.theory.specs.Laws.InOrder.{images-order}
 use Rattle.theory.specs.LinkTables.{Row}
-use Rattle.tree.specs.InOrder.{tree_order, tree_steps}
+use Rattle.tree.specs.InOrder.{tree_steps}
+use Rattle.tree.proofs.InOrder.{tree_order}
 use Rattle.tree.specs.Readings.{outputs_room_check, short}
 use Rattle.consensus.specs.Call.{consensus_outcome, joined_check, leaving, number_check, numbered, table_by_table, team_answer, team_check}
 use Rattle.consensus.specs.Team.{shared_links, table_at, tables_in}
@@ -24,61 +25,14 @@ abbrev pub team_steps : ℕ → ℕ → List ℕ → ℕ → ℕ → List Step
 team_steps n m t f v =
     1 by images_check n ∷ 16 by number_check m ∷ 2 by joined_check n m t ∷ 3 by outputs_room_check (2 * n - 3) f v ∷ []
 
-team_order : (n m : ℕ) (t : List ℕ) (f v : ℕ) → InOrder (team_steps n m t f v) (team_check n m t f v)
-unfolding team_check
-team_order n m t f v =
-    join-order (images-order n)
-    (join-order (refuse_order (outside 1 16 m) (refusal 16 0 0 0 0) (omega arith))
-    (join-order (refuse_order (not (eqb (length t) (m * (n * n)))) (refusal 2 0 0 0 0) (omega arith))
-    (refuse_order (short (2 * n - 3) f v) (refusal 3 0 0 0 0) (omega arith))))
-
 -- 4, 5, 6, 20, 7 table by table, from place k on
 unfoldable pub steps_from : ℕ → ℕ → List ℕ → ℕ → ℕ → List Step
 steps_from L n t k zero = []
 steps_from L n t k (suc m) = about (k + 1) (tree_steps L n (table_at n t k)) ++ steps_from L n t (suc k) m
 
-from_decides : (L n : ℕ) (t : List ℕ) (k m : ℕ) (y : Shared) → Decides Refused (steps_from L n t k m) y (table_by_table L n t k m y)
-unfolding steps_from table_by_table
-from_decides L n t k zero y = record { same = refl; own = each_nil Own }
-from_decides L n t k (suc m) y = decides_next Refused (k + 1) (tree_order L n (table_at n t k)) (from_decides L n t (suc k) m y)
-
 -- the call's own, and then table by table
 abbrev pub consensus_steps : ℕ → ℕ → ℕ → List ℕ → ℕ → ℕ → List Step
 consensus_steps L n m t f v = team_steps n m t f v ++ steps_from L n t 0 m
 
-pub consensus_decides : (L n m : ℕ) (t : List ℕ) (f v : ℕ)
-    → Decides Refused (consensus_steps L n m t f v) (Rows (length (shared_links L n (tables_in n m t)))) (numbered 0 (team_check n m t f v) (team_answer L n m t))
-consensus_decides L n m t f v =
-    decides_next Refused 0 (team_order n m t f v) (from_decides L n t 0 m (Rows (length (shared_links L n (tables_in n m t)))))
-
-leaving-answer : (x : Shared) (T : List Row) (f v : List ℕ) → (leaving x T f v).answer ≡ x
-leaving-answer (Rows r) T f v = refl
-leaving-answer (Refused k q) T f v = refl
-
--- it is the answer of the outcome
-pub consensus-answers : (L n m : ℕ) (t f v : List ℕ)
-    → (consensus_outcome L n m t f v).answer ≡ numbered 0 (team_check n m t (length f) (length v)) (team_answer L n m t)
-consensus-answers L n m t f v =
-    leaving-answer (numbered 0 (team_check n m t (length f) (length v)) (team_answer L n m t)) (shared_links L n (tables_in n m t)) f v
-
--- a refused call leaves the lent slices as they were
-pub consensus_unaltered : (L n m : ℕ) (t f v : List ℕ) (s : Step) (q : Refusal) → FirstRefused (consensus_steps L n m t (length f) (length v)) s q
-    → ((consensus_outcome L n m t f v).far_list ≡ f) × ((consensus_outcome L n m t f v).cost_list ≡ v)
-consensus_unaltered L n m t f v s q e =
-    let d = consensus_decides L n m t (length f) (length v) in
-    rw (d.same ∙ first-decided Refused (consensus_steps L n m t (length f) (length v)) (Rows (length (shared_links L n (tables_in n m t)))) e) (refl, refl)
-
--- ## The numbers of m tables
-
 abbrev pub table_numbers : ℕ → List (ℕ × ℕ)
 table_numbers k = of_table k (4 ∷ 5 ∷ 6 ∷ 20 ∷ 7 ∷ [])
-
-from-numbers : (L n : ℕ) (t : List ℕ) (k m : ℕ) → numbers_of (steps_from L n t k m) ≡ gather (from (suc k) m) table_numbers
-unfolding steps_from
-from-numbers L n t k zero = refl
-from-numbers L n t k (suc m) = ap₂ (λ (i : ℕ) (z : List (ℕ × ℕ)). table_numbers i ++ z) (add-one k) (from-numbers L n t (suc k) m)
-
--- 1, 16, 2, 3 with number 0, then 4, 5, 6, 20, 7 table by table
-pub consensus-numbers : (L n m : ℕ) (t : List ℕ) (f v : ℕ)
-    → numbers_of (consensus_steps L n m t f v) ≡ of_table 0 (1 ∷ 16 ∷ 2 ∷ 3 ∷ []) ++ gather (from 1 m) table_numbers
-consensus-numbers L n m t f v = ap (λ (z : List (ℕ × ℕ)). of_table 0 (1 ∷ 16 ∷ 2 ∷ 3 ∷ []) ++ z) (from-numbers L n t 0 m)

@@ -2,6 +2,3 @@
 pub mod Joined
 pub mod Sharing
 pub mod Held
-pub mod Taking
-pub mod Left
-pub mod One

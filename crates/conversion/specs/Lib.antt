@@ -5,9 +5,6 @@ pub mod Links
 pub mod InOrder
 -- Accepted conversions.
 pub mod Laws
--- What the promises are worth.
-pub mod ConvertedCosts
-pub mod ConvertedLinks
 -- Tables that were stored while two images could cost nothing.
 pub mod Zeros
 -- Examples that antt computes.

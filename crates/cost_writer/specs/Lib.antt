@@ -4,7 +4,5 @@ pub mod Writing
 pub mod InOrder
 -- What the promise is worth: reading undoes writing.
 pub mod RoundTrips
--- What is true of it.
-pub mod Laws
 -- Examples that antt computes.
 pub mod Examples

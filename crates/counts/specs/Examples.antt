@@ -4,27 +4,18 @@ use Rattle.std.specs.Int.Count.{ones}
 use Rattle.counts.specs.Differ.{differ}
 use Rattle.counts.specs.declared.Difference.{Difference}
 
-abbrev sides_e : List ℕ
+abbrev pub sides_e : List ℕ
 sides_e = 2 ∷ 4 ∷ 8 ∷ 12 ∷ 14 ∷ []
 
-abbrev exchanged_e : List ℕ
+abbrev pub exchanged_e : List ℕ
 exchanged_e = 2 ∷ 4 ∷ 8 ∷ 10 ∷ 14 ∷ []
 
-abbrev sides_g : List ℕ
+abbrev pub sides_g : List ℕ
 sides_g = 2 ∷ 4 ∷ 8 ∷ 14 ∷ []
 
-abbrev sides_h : List ℕ
+abbrev pub sides_h : List ℕ
 sides_h = 2 ∷ 4 ∷ 8 ∷ 16 ∷ 24 ∷ 32 ∷ 64 ∷ 96 ∷ 120 ∷ 122 ∷ 126 ∷ []
 
 -- inner ones of the first and of the second, common ones, and the count over its divisor
-abbrev numbers : ℕ → ℕ → ℕ → ℕ → ℕ → Difference
+abbrev pub numbers : ℕ → ℕ → ℕ → ℕ → ℕ → Difference
 numbers f g c d m = record { first = f; second = g; common = c; count = d; over = m }
-
--- 1 over 1 and 2 over 2, which is not reduced, where nothing is common; 0 over 1 without inner ones; 0 over all of both of the same
-pub small_differences : (differ 4 sides_e sides_g ≡ numbers 1 0 0 1 1)
-    × (differ 4 sides_g sides_e ≡ numbers 0 1 0 1 1)
-    × (differ 4 sides_e exchanged_e ≡ numbers 1 1 0 2 2)
-    × (differ 4 sides_g sides_g ≡ numbers 0 0 0 0 1)
-    × (differ 7 sides_h sides_h ≡ numbers 4 4 4 0 8)
-unfolding ones
-small_differences = (refl, refl, refl, refl, refl)

@@ -1,4 +1,3 @@
 -- One table more.
 pub mod Pairs
 pub mod Tables
-pub mod Grown

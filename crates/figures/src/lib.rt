@@ -10,7 +10,7 @@ ghost use Rattle.figures.specs.Pairing.{pair_count};
 
 // The figures: n of the first table, the tables read, how many were accepted and how many got 7, the far sides seen, the pairs of an
 // accepted table and the next accepted one with the sum and the largest of their Robinson-Foulds counts, and the bytes used.
-#[derive(Drop)]
+#[derive(Clone, Copy)]
 pub struct Figures {
     pub images: usize,
     pub tables: usize,

@@ -8,13 +8,14 @@ use Rattle.theory.specs.Laws.Outcomes.{left_rows_once}
 use Rattle.theory.specs.Outcomes.{LeftRows}
 use Rattle.theory.specs.Readings.{Exact}
 use Rattle.theory.specs.Tables.{WellFormed}
-use Rattle.tree.specs.Demands.{ExactlyWhen, exactly_when}
+use Rattle.tree.specs.Demands.{ExactlyWhen}
+use Rattle.tree.proofs.Demands.{exactly_when}
 use Rattle.tree.specs.Readings.{exact_outcome}
 use Rattle.tree.specs.Writing.{Ready}
-use Rattle.recognition.specs.Laws.Condition.{placed_formed}
+use Rattle.recognition.proofs.Laws.Condition.{placed_formed}
 use Rattle.recognition.specs.Laws.Order.{around, order_places}
-use Rattle.recognition.specs.Laws.Facts.{graft_facts}
-use Rattle.recognition.specs.Promises.{recognises}
+use Rattle.recognition.proofs.Laws.Facts.{graft_facts}
+use Rattle.recognition.proofs.Promises.{recognises}
 use Rattle.recognition.specs.Recognition.{all_graft, placed}
 use Rattle.grafting.specs.Grafting.{grafted}
 use Rattle.grafting.specs.Laws.Grafted.{grafted_exact}

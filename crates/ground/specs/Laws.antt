@@ -13,9 +13,6 @@ pub mod Sums
 pub mod Counts
 pub mod Members
 pub mod Totals
--- Signed numbers.
-pub mod Signed
-pub mod SignedLeast
 -- What code does: search, carry a number along, merge, write a buffer, refuse.
 pub mod First
 pub mod Folds

@@ -6,13 +6,10 @@ use Rattle.ground.specs.Laws.InOrder.{join-order, refuse_order}
 use Rattle.ground.specs.Refusals.{refusal}
 use Rattle.ground.specs.Steps.{Step, ◌by◌}
 use Rattle.theory.specs.Tables.{cost}
-use Rattle.tables.specs.InOrder.{costs-order, costs_steps, size-order, size_steps}
+use Rattle.tables.specs.InOrder.{costs_steps, size_steps}
+use Rattle.tables.proofs.InOrder.{costs-order, size-order}
 use Rattle.index.specs.Call.{bad_far_side, far_side_check, index_check}
 
 -- 1, 2, 4, 5, 6, 20, 12
 abbrev pub index_steps : ℕ → ℕ → List ℕ → ℕ → List Step
 index_steps L n t S = size_steps n t ++ (costs_steps L (cost t n) n ++ (12 by far_side_check n S ∷ []))
-
-pub index-order : (L n : ℕ) (t : List ℕ) (S : ℕ) → InOrder (index_steps L n t S) (index_check L n t S)
-index-order L n t S =
-    join-order (size-order n t) (join-order (costs-order L (cost t n) n) (refuse_order (bad_far_side n S) (refusal 12 0 0 0 0) (omega arith)))

@@ -6,8 +6,8 @@ use Rattle.theory.specs.Outcomes.{LeftRows}
 use Rattle.theory.specs.Tables.{cost, limit}
 use Rattle.levels.specs.Links.{LevelTree}
 use Rattle.levels.specs.Outcome.{LeftLevels, levels_outcome}
-use Rattle.levels.specs.Promises.{levels_answer}
-use Rattle.tree.specs.Demands.{exactly_when}
+use Rattle.levels.proofs.Promises.{levels_answer}
+use Rattle.tree.proofs.Demands.{exactly_when}
 use Rattle.tree.specs.Readings.{exact_outcome}
 use Rattle.tree.specs.Writing.{rows_left}
 

@@ -4,7 +4,8 @@ use Rattle.std.proofs.Common.{ap₂, sym, ◌∙◌}
 use Rattle.ground.specs.Laws.Outcomes.{front_stops}
 use Rattle.ground.specs.Steps.{of_table}
 use Rattle.theory.specs.Tables.{limit}
-use Rattle.levels.specs.InOrder.{call_order, call_steps}
+use Rattle.levels.specs.InOrder.{call_steps}
+use Rattle.levels.proofs.InOrder.{call_order}
 use Rattle.levels.specs.Outcome.{LeftLevels, levels_checks, levels_outcome}
 use Rattle.numbers.specs.Levels.{of_levels}
 use Rattle.numbers.specs.declared.KemotuikiLevels.{KemotuikiLevels}

@@ -9,7 +9,8 @@ use Rattle.theory.specs.Tables.{limit}
 use Rattle.newick_text.specs.Reading.{read_checks}
 use Rattle.newick_reader.specs.InOrder.{read_order, read_steps}
 use Rattle.newick_reader.specs.Outcomes.{read_outcome}
-use Rattle.newick_writer.specs.InOrder.{write_order, write_steps}
+use Rattle.newick_writer.specs.InOrder.{write_steps}
+use Rattle.newick_writer.proofs.InOrder.{write_order}
 use Rattle.newick_writer.specs.Writing.{write_checks, write_outcome}
 use Rattle.numbers.specs.Stored.{of_bytes, of_tree}
 use Rattle.numbers.specs.declared.KemotuikiBytes.{KemotuikiBytes}

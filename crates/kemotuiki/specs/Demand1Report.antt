@@ -8,7 +8,8 @@ use Rattle.ground.specs.declared.Check.{Check}
 use Rattle.ground.specs.declared.Check.TheVariants.{Passed, Refused}
 use Rattle.theory.specs.Tables.{limit}
 use Rattle.figures.specs.Checks.{most_tables}
-use Rattle.report.specs.InOrder.{Stop, report_decides, report_numbers, report_steps, stop_at, table_numbers, tables_in}
+use Rattle.report.specs.InOrder.{Stop, report_steps, stop_at, table_numbers, tables_in}
+use Rattle.report.proofs.InOrder.{report_decides, report_numbers}
 use Rattle.report.specs.Outcome.{LeftReport, report_outcome}
 use Rattle.numbers.specs.Reports.{of_end, of_report}
 use Rattle.numbers.specs.declared.KemotuikiHead.{KemotuikiHead}
@@ -16,7 +17,7 @@ use Rattle.numbers.specs.declared.KemotuikiReport.{KemotuikiReport}
 use Rattle.kemotuiki.specs.Crossing.{crossed_report}
 use Rattle.kemotuiki.specs.Laws.Refusals.{refusals}
 use Rattle.kemotuiki.specs.Refusals.{Refusals}
-use Rattle.report.specs.InOrder as reporting
+use Rattle.report.proofs.InOrder as reporting
 
 module _ (bytes f t s f' t' s' : List ℕ) (r : KemotuikiReport) (p : LeftReport (crossed_report of_report (report_outcome limit bytes f t s)) r f' t' s') where
   -- 3 with table number 0, then 9, 1, 9, 11, 4, 20, 15, 19 for each table in turn; the buffers are left out, since those of the tables before a

@@ -13,9 +13,11 @@ use Rattle.batch.specs.Batch.{batch_outcome}
 use Rattle.batch.specs.InOrder.{batch_decides, batch_numbers_lem, batch_unaltered, batch_steps}
 use Rattle.batch.specs.Tables.{tables}
 use Rattle.choice.specs.Call.{choice_either}
-use Rattle.choice.specs.InOrder.{choice_decides, choice_steps}
+use Rattle.choice.specs.InOrder.{choice_steps}
+use Rattle.choice.proofs.InOrder.{choice_decides}
 use Rattle.conversion.specs.Costs.{cost_checks, costs_converted}
-use Rattle.conversion.specs.InOrder.{cost-order, cost_steps, link_order, link_steps}
+use Rattle.conversion.specs.InOrder.{cost_steps, link_steps}
+use Rattle.conversion.proofs.InOrder.{cost-order, link_order}
 use Rattle.conversion.specs.Links.{link_checks, links_converted}
 use Rattle.refusal_text.specs.InOrder.{refusal_text_order, refusal_text_steps}
 use Rattle.refusal_text.specs.Text.{refusal_text_check, refusal_text_outcome}
@@ -28,15 +30,15 @@ use Rattle.kemotuiki.specs.Crossing.{crossed, crossed_rows}
 use Rattle.kemotuiki.specs.Laws.Refusals.{by_left, by_rows, refusals}
 use Rattle.kemotuiki.specs.Refusals.{Refusals}
 use Rattle.ground.specs.declared.Written.TheVariants as written
-use Rattle.cost_writer.specs.InOrder as costs-written
+use Rattle.cost_writer.proofs.InOrder as costs-written
 use Rattle.cost_writer.specs.Writing as costs-writing
-use Rattle.stored_costs.specs.InOrder as costs-read
+use Rattle.stored_costs.proofs.InOrder as costs-read
 use Rattle.stored_costs.specs.Outcomes as costs-reading
 use Rattle.stored_costs.specs.Reading as costs-checks
 use Rattle.stored_costs.specs.declared.StoredCosts.TheVariants as stored-costs
 use Rattle.link_writer.specs.InOrder as links-written
 use Rattle.link_writer.specs.Writing as links-writing
-use Rattle.stored_links.specs.InOrder as links-read
+use Rattle.stored_links.proofs.InOrder as links-read
 use Rattle.stored_links.specs.Outcomes as links-reading
 use Rattle.stored_links.specs.Reading as links-checks
 use Rattle.stored_links.specs.declared.StoredLinks.TheVariants as stored-links

@@ -2,7 +2,6 @@
 pub mod Crossing
 -- Demand 1 of one call, and of every call.
 pub mod Refusals
-pub mod Demand1
 pub mod Demand1Levels
 pub mod Demand1Stored
 pub mod Demand1Newick

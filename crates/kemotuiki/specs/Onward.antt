@@ -20,11 +20,11 @@ use Rattle.stored_links.specs.Stored.{read_into}
 use Rattle.link_writer.specs.Laws.Accepted.{passed_write}
 use Rattle.link_writer.specs.RoundTrips.{reading_undoes_writing}
 use Rattle.link_writer.specs.Writing.{write_checks, write_outcome}
-use Rattle.tree.specs.Promises.{exact_answer, measured-answer}
+use Rattle.tree.proofs.Promises.{exact_answer, measured-answer}
 use Rattle.tree.specs.Readings.{exact_check, exact_outcome, measured_check, measured_outcome, outcome}
 use Rattle.tree.specs.Writing.{RowsStand, rows_left}
 use Rattle.consensus.specs.Call.{consensus_outcome}
-use Rattle.consensus.specs.Promises.{consensus-answer}
+use Rattle.consensus.proofs.Promises.{consensus-answer}
 use Rattle.consensus.specs.declared.Shared.TheVariants.{Rows}
 use Rattle.leaving.specs.Promises.{Replays}
 use Rattle.leaving.specs.Replay.{after, table_of}
@@ -32,8 +32,8 @@ use Rattle.leaving.specs.declared.Replayed.{Replayed}
 use Rattle.newick_text.specs.LinkTrees.{newick}
 use Rattle.newick_reader.specs.Outcomes.{read_outcome}
 use Rattle.newick_reader.specs.declared.NewickTree.TheVariants.{Table}
-use Rattle.newick_reader.specs.Promises as newick-read
-use Rattle.newick_writer.specs.Promises as newick-written
+use Rattle.newick_reader.proofs.Promises as newick-read
+use Rattle.newick_writer.proofs.Promises as newick-written
 use Rattle.newick_writer.specs.Writing as newick-writing
 
 -- the Newick text of the rows T is read as r rows over n images, which are T

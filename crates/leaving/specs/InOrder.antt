@@ -14,7 +14,8 @@ use Rattle.theory.specs.Checks.{image_check, images_check}
 use Rattle.theory.specs.Laws.InOrder.{images-order}
 use Rattle.theory.specs.LinkTables.{Row}
 use Rattle.tree.specs.Exact.{exact_rows}
-use Rattle.tree.specs.InOrder.{exact_order, exact_steps}
+use Rattle.tree.specs.InOrder.{exact_steps}
+use Rattle.tree.proofs.InOrder.{exact_order}
 use Rattle.tree.specs.Readings.{exact_check}
 use Rattle.mending.specs.Leaving.{mend}
 use Rattle.leaving.specs.Laws.Replay.{numbered_on, replay_goes, replay_none, replay_stops}

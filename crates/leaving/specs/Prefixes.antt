@@ -9,7 +9,7 @@ use Rattle.theory.specs.LinkTables.{Row}
 use Rattle.theory.specs.Outcomes.{LeftRows}
 use Rattle.theory.specs.Tables.{limit}
 use Rattle.tree.specs.Exact.{exact_rows}
-use Rattle.tree.specs.Laws.Writing.{written_stand}
+use Rattle.tree.proofs.Laws.Writing.{written_stand}
 use Rattle.tree.specs.Readings.{exact_check}
 use Rattle.tree.specs.Writing.{rows_left}
 use Rattle.leaving.specs.declared.Replayed.{Replayed}

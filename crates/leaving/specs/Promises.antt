@@ -12,8 +12,9 @@ use Rattle.theory.specs.Outcomes.{LeftRows}
 use Rattle.theory.specs.Readings.{Exact}
 use Rattle.theory.specs.Tables.{cost, limit}
 use Rattle.tree.specs.Exact.{Wired, exact_rows}
-use Rattle.tree.specs.Laws.Exact.{exact_rows_lem}
-use Rattle.tree.specs.Laws.Writing.{exact_ready, written_stand}
+use Rattle.tree.proofs.Laws.Exact.{exact_rows_lem}
+use Rattle.tree.proofs.Laws.Writing.{written_stand}
+use Rattle.tree.proofs.Laws.Writing.{exact_ready}
 use Rattle.tree.specs.Readings.{exact_check, exact_outcome}
 use Rattle.tree.specs.Writing.{Ready, rows_left}
 use Rattle.leaving.specs.declared.Replayed.{Replayed}

@@ -12,25 +12,18 @@ E = 0 ∷ 2 ∷ 4 ∷ 4 ∷ 2 ∷ 0 ∷ 4 ∷ 4 ∷ 4 ∷ 4 ∷ 0 ∷ 2 ∷ 4 �
 abbrev pub G : List ℕ
 G = 0 ∷ 2 ∷ 2 ∷ 2 ∷ 2 ∷ 0 ∷ 2 ∷ 2 ∷ 2 ∷ 2 ∷ 0 ∷ 2 ∷ 2 ∷ 2 ∷ 2 ∷ 0 ∷ []
 
-abbrev D : List ℕ
+abbrev pub D : List ℕ
 D = 0 ∷ 1 ∷ 1 ∷ 1 ∷ 0 ∷ 2 ∷ 1 ∷ 2 ∷ 0 ∷ []
 
 -- all images 5 away from image 1
-abbrev around_one : List ℕ
+abbrev pub around_one : List ℕ
 around_one = 0 ∷ 5 ∷ 5 ∷ 5 ∷ 5 ∷ 0 ∷ 1 ∷ 2 ∷ 5 ∷ 1 ∷ 0 ∷ 3 ∷ 5 ∷ 2 ∷ 3 ∷ 0 ∷ []
 
 -- 1 2 5 and 1 3 4 fail, and neither 1 2 3 nor 1 2 4 does
-abbrev two_fail : List ℕ
+abbrev pub two_fail : List ℕ
 two_fail =
     0 ∷ 1 ∷ 2 ∷ 3 ∷ 5
     ∷ 1 ∷ 0 ∷ 2 ∷ 3 ∷ 6
     ∷ 2 ∷ 2 ∷ 0 ∷ 1 ∷ 5
     ∷ 3 ∷ 3 ∷ 1 ∷ 0 ∷ 5
     ∷ 5 ∷ 6 ∷ 5 ∷ 5 ∷ 0 ∷ []
-
-pub level_checks : (levels_check (cost E 4) 4 ≡ Passed)
-    × (levels_check (cost G 4) 4 ≡ Passed)
-    × (levels_check (cost D 3) 3 ≡ Refused (refusal 21 1 2 3 0))
-    × (levels_check (cost around_one 4) 4 ≡ Refused (refusal 21 2 3 4 0))
-    × (levels_check (cost two_fail 5) 5 ≡ Refused (refusal 21 1 2 5 0))
-level_checks = (refl, refl, refl, refl, refl)

@@ -11,24 +11,14 @@ use Rattle.leveling.specs.Examples.{E, G}
 use Rattle.levels.specs.Groups.{groups, height, heights}
 use Rattle.levels.specs.Outcome.{levels_checks}
 
-abbrev B : List ℕ
+abbrev pub B : List ℕ
 B = 0 ∷ 0 ∷ 0 ∷ 0 ∷ 0 ∷ 0 ∷ 0 ∷ 0 ∷ 0 ∷ []
 
 -- images 1 and 4 at 3, with 2 at 5, and the others at 8
-abbrev inside : List ℕ
+abbrev pub inside : List ℕ
 inside =
     0 ∷ 5 ∷ 8 ∷ 3 ∷ 8
     ∷ 5 ∷ 0 ∷ 8 ∷ 5 ∷ 8
     ∷ 8 ∷ 8 ∷ 0 ∷ 8 ∷ 8
     ∷ 3 ∷ 5 ∷ 8 ∷ 0 ∷ 8
     ∷ 8 ∷ 8 ∷ 8 ∷ 8 ∷ 0 ∷ []
-
-pub level_examples : (groups (cost E 4) 4 ≡ 3 ∷ 12 ∷ 15 ∷ []) × (heights (cost E 4) 4 ≡ 2 ∷ 2 ∷ 4 ∷ [])
-    × (groups (cost G 4) 4 ≡ 15 ∷ []) × (heights (cost G 4) 4 ≡ 2 ∷ [])
-    × (groups (cost inside 5) 5 ≡ 9 ∷ 11 ∷ 31 ∷ []) × (heights (cost inside 5) 5 ≡ 3 ∷ 5 ∷ 8 ∷ [])
-unfolding groups height ones ones_in
-level_examples = (refl, refl, refl, refl, refl, refl)
-
-pub zeros_first : levels_checks limit 3 B 2 2 ≡ Refused (refusal 20 1 2 0 0)
-unfolding levels_checks check_all
-zeros_first = refl

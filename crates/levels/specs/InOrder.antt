@@ -5,7 +5,8 @@ use Rattle.ground.specs.Laws.InOrder.{join-order, room-order}
 use Rattle.ground.specs.Refusals.{room_check}
 use Rattle.ground.specs.Steps.{Step, ◌by◌}
 use Rattle.theory.specs.Tables.{cost}
-use Rattle.tables.specs.InOrder.{costs-order, costs_steps, size-order, size_steps}
+use Rattle.tables.specs.InOrder.{costs_steps, size_steps}
+use Rattle.tables.proofs.InOrder.{costs-order, size-order}
 use Rattle.leveling.specs.InOrder.{levels_order, levels_steps}
 use Rattle.levels.specs.Outcome.{levels_checks}
 
@@ -13,9 +14,3 @@ use Rattle.levels.specs.Outcome.{levels_checks}
 abbrev pub call_steps : ℕ → ℕ → List ℕ → ℕ → ℕ → List Step
 call_steps L n t g v =
     size_steps n t ++ (3 by room_check (n - 1) (min g v) ∷ (costs_steps L (cost t n) n ++ levels_steps (cost t n) n))
-
-pub call_order : (L n : ℕ) (t : List ℕ) (g v : ℕ) → InOrder (call_steps L n t g v) (levels_checks L n t g v)
-unfolding levels_checks
-call_order L n t g v =
-    join-order (size-order n t)
-    (join-order (room-order (n - 1) (min g v)) (join-order (costs-order L (cost t n) n) (levels_order (cost t n) n)))

@@ -12,7 +12,6 @@ pub mod Putting
 -- What the promise is worth, what the exact tree of such a table looks like, and settled examples.
 pub mod Links
 pub mod Reading
-pub mod Promises
 pub mod Examples
 -- Its checks by their numbers, in order.
 pub mod InOrder

@@ -2,17 +2,10 @@
 -- Heights are those of the groups, and 0 for one image. Assumes nothing.
 use Rattle.std.specs.Prelude.{false, true, ◌↔◌, ◌⊎◌, ◌≡◌, ℕ, ◌*◌, ◌+◌, ◌-◌, ◌<◌, ◌^◌}
 use mathlib.Core.List.{List, Memᴰ}
-use Rattle.std.proofs.Common.{inl}
 use Rattle.theory.specs.FarSides.{FarSide, holds, inner, own}
 use Rattle.theory.specs.LinkTables.{Row, cost_of, fars}
-use Rattle.theory.specs.Readings.{Exact}
-use Rattle.theory.specs.Tables.{WellFormed}
 use Rattle.levels.specs.Groups.{Group, height}
-use Rattle.levels.specs.Laws.Links.{far_link, inner_are, link_group, links_are, near_link}
-use Rattle.levels.specs.Laws.NextGroups.{cost-alone, cost-both, image_height, next-all, next_exists}
-use Rattle.levels.specs.Laws.Rest.{link_own}
 use Rattle.levels.specs.Sides.{NextGroup, Part, link_of, rest}
-use Rattle.leveling.specs.ThreePoint.{ThreePoint}
 
 pub record LevelTree (d : ℕ → ℕ → ℕ) (n : ℕ) (T : List Row) : Type 0 where
   -- every group but that of all images is one side of a link: the far side where it is without image 0, the near side where it has it
@@ -34,18 +27,3 @@ pub record LevelTree (d : ℕ → ℕ → ℕ) (n : ℕ) (T : List Row) : Type 0
   -- the link of one image is its own link
   pub own_link : (i : ℕ) → i < n → link_of n (2 ^ i) ≡ own n i
   pub own-height : (i : ℕ) → height d n (2 ^ i) ≡ 0
-
-pub level_tree : (L : ℕ) (d : ℕ → ℕ → ℕ) (n : ℕ) (T : List Row) → WellFormed L d n → ThreePoint d n → Exact L d n T → LevelTree d n T
-level_tree L d n T c t x = record {
-  far = λ S g e. far_link L d n c t T x S (inl g) e;
-  near = λ S g ne e. near_link L d n c t T x S (inl g) ne e;
-  groups = link_group L d n c t T x;
-  inner_links = inner_are L d n c t T x;
-  links = links_are L d n c t T x;
-  next = next_exists L d n c t;
-  cost = λ S P p q. cost-alone L d n c t S p P q T x;
-  top = λ S P p q. next-all L d n c t S p P q;
-  cost-top = λ S P p q. cost-both L d n c t S p P q T x;
-  own_link = λ i h. link_own n i h;
-  own-height = λ i. image_height L d n i c;
-}

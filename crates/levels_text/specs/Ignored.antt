@@ -1,7 +1,8 @@
 -- Bytes that cannot matter to a listing of levels: those behind the stored table, and so behind the longest one of either form. Assumes nothing.
 use Rattle.std.specs.Prelude.{List, ◌++◌, ◌≡◌, ℕ, ◌≤◌, length, take}
 use Rattle.cost_forms.specs.Form.{cost_form_at, cost_used}
-use Rattle.listing_text.specs.Ignored.{longest_table, stored_behind, stored_ignores}
+use Rattle.listing_text.specs.Ignored.{longest_table}
+use Rattle.listing_text.proofs.Ignored.{stored_behind, stored_ignores}
 use Rattle.listing_text.specs.Listing.{images_said}
 use Rattle.levels_text.specs.Listing.{levels_text, table_levels}
 

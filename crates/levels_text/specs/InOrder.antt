@@ -5,7 +5,8 @@ use Rattle.ground.specs.Laws.InOrder.{decides_last, join-order}
 use Rattle.ground.specs.Steps.{Step}
 use Rattle.leveling.specs.InOrder.{levels_order, levels_steps}
 use Rattle.cost_forms.specs.Form.{cost_form_at}
-use Rattle.stored_costs.specs.InOrder.{table-order, table_steps}
+use Rattle.stored_costs.specs.InOrder.{table_steps}
+use Rattle.stored_costs.proofs.InOrder.{table-order}
 use Rattle.listing_lines.specs.Lines.{refused_line}
 use Rattle.listing_text.specs.Listing.{images_said}
 use Rattle.levels_text.specs.Listing.{levels_text}

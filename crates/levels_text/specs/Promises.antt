@@ -8,13 +8,14 @@ use Rattle.ground.specs.declared.Check.TheVariants.{Passed, Refused}
 use Rattle.ground.specs.declared.Refusal.{Refusal}
 use Rattle.theory.specs.Tables.{CostTable, cost, limit}
 use Rattle.leveling.specs.Check.{levels_check}
-use Rattle.leveling.specs.Promises.{levels_passed}
+use Rattle.leveling.proofs.Promises.{levels_passed}
 use Rattle.leveling.specs.ThreePoint.{ThreePoint}
 use Rattle.levels.specs.Groups.{groups, heights}
-use Rattle.levels.specs.Reading.{LevelReading, level_reading}
+use Rattle.levels.specs.Reading.{LevelReading}
+use Rattle.levels.proofs.Reading.{level_reading}
 use Rattle.bits.specs.declared.Edition.{Edition}
 use Rattle.cost_forms.specs.Form.{cost_bytes, cost_form}
-use Rattle.stored_costs.specs.Laws.Enough.{table_said_lem}
+use Rattle.stored_costs.proofs.Laws.Enough.{table_said_lem}
 use Rattle.listing_lines.specs.Lines.{refused_line}
 use Rattle.listing_text.specs.Listing.{images_said, stored_checks, table_said}
 use Rattle.listing_text.specs.Promises.{stored_said, text_then}

@@ -18,9 +18,9 @@ use Rattle.links.specs.Links.{Links}
 use Rattle.link_forms.specs.Form.{link_bytes, link_form, link_form_at, link_used}
 use Rattle.link_forms.specs.Laws.Form.{length_links}
 use Rattle.stored_links.specs.Laws.Outcomes.{refused_alters_nothing}
-use Rattle.stored_links.specs.Laws.Positions.{table-at}
-use Rattle.stored_links.specs.Laws.ReadAt.{same_bytes}
-use Rattle.stored_links.specs.Laws.Told.{either_rest, either_written, form_limit, links_marked}
+use Rattle.stored_links.proofs.Laws.Positions.{table-at}
+use Rattle.stored_links.proofs.Laws.ReadAt.{same_bytes}
+use Rattle.stored_links.proofs.Laws.Told.{either_rest, either_written, form_limit, links_marked}
 use Rattle.stored_links.specs.Laws.WriteBack.{read_links}
 use Rattle.stored_links.specs.Outcomes.{judged_either, read_either, read_outcome}
 use Rattle.stored_links.specs.Reading.{read_at_checks}

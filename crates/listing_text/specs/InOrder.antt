@@ -10,7 +10,8 @@ use Rattle.theory.specs.Tables.{cost, limit}
 use Rattle.wiring.specs.Check.{wiring_check}
 use Rattle.wiring.specs.InOrder.{wiring_order, wiring_steps}
 use Rattle.cost_forms.specs.Form.{cost_form_at}
-use Rattle.stored_costs.specs.InOrder.{table-order, table_steps}
+use Rattle.stored_costs.specs.InOrder.{table_steps}
+use Rattle.stored_costs.proofs.InOrder.{table-order}
 use Rattle.tree.specs.Exact.{tree_check}
 use Rattle.listing_lines.specs.Lines.{refused_line}
 use Rattle.listing_text.specs.Listing.{images_said, listing_text, stored_checks, table_said}

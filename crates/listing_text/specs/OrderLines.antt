@@ -7,17 +7,17 @@ use Rattle.std.proofs.lemmas.List.{length-replicate}
 use Rattle.ground.specs.Members.{occurs}
 use Rattle.ground.specs.Outcomes.{Left}
 use Rattle.ground.specs.declared.Check.TheVariants.{Passed}
-use Rattle.theory.specs.Demands.{ordered}
+use Rattle.theory.proofs.Demands.{ordered}
 use Rattle.theory.specs.LinkTables.{costs, fars}
 use Rattle.theory.specs.Order.{AnOrder, closed, order}
 use Rattle.theory.specs.OrderRules.{counted_from0}
 use Rattle.theory.specs.Routes.{uppers}
 use Rattle.theory.specs.Tables.{CostTable, cost, limit}
 use Rattle.far_end.specs.FarEnd.{IsFarEnd, far_end}
-use Rattle.far_end.specs.Laws.FarEnd.{far_end_is, far_end_only}
+use Rattle.far_end.proofs.Laws.FarEnd.{far_end_is, far_end_only}
 use Rattle.order.specs.Laws.Counted.{back-suc}
 use Rattle.order.specs.Outcome.{images, order_outcome}
-use Rattle.order.specs.Promises.{order-accepted, order_wrote}
+use Rattle.order.proofs.Promises.{order-accepted, order_wrote}
 use Rattle.tree.specs.Exact.{exact_rows}
 use Rattle.table_text.specs.LastImage.{Other}
 use Rattle.listing_text.specs.LastImage.{last_image}

@@ -14,12 +14,12 @@ use Rattle.theory.specs.Tables.{CostTable, cost, limit, old_limit}
 use Rattle.wiring.specs.Check.{wiring_check}
 use Rattle.order.specs.Outcome.{images}
 use Rattle.tree.specs.Exact.{exact_rows, tree_check}
-use Rattle.tree.specs.Laws.Exact.{exact_rows_lem, table-passed, table_sized, tree_wiring}
+use Rattle.tree.proofs.Laws.Exact.{exact_rows_lem, table-passed, table_sized, tree_wiring}
 use Rattle.bits.specs.declared.Edition.{Edition}
 use Rattle.bits.specs.declared.Edition.TheVariants.{New, Old}
 use Rattle.cost_forms.specs.Form.{cost_bytes, cost_form, new_costs, old_costs}
 use Rattle.cost_forms.specs.Said.{stored_table}
-use Rattle.stored_costs.specs.Laws.Enough.{table_said_lem, table_stored}
+use Rattle.stored_costs.proofs.Laws.Enough.{table_said_lem, table_stored}
 use Rattle.listing_text.specs.LastImage.{last_image}
 use Rattle.listing_text.specs.Laws.Behind.{text_by, text_in}
 use Rattle.listing_lines.specs.Lines.{refused_line, room}

@@ -8,10 +8,10 @@ use Rattle.ground.specs.Filters.{Each}
 use Rattle.ground.specs.Laws.Filters.{each_cons, each_nil}
 use Rattle.ground.specs.declared.Check.TheVariants.{Passed, Refused}
 use Rattle.ground.specs.declared.Refusal.{Refusal}
-use Rattle.theory.specs.Demands.{ordered}
+use Rattle.theory.proofs.Demands.{ordered}
 use Rattle.theory.specs.Order.{order}
 use Rattle.theory.specs.Tables.{cost, limit}
-use Rattle.listing_lines.specs.Laws.Once.{order_line_once}
+use Rattle.listing_lines.proofs.Laws.Once.{order_line_once}
 use Rattle.listing_lines.specs.Lines.{order_line, refused_line}
 use Rattle.listing_text.specs.LastImage.{last_image}
 use Rattle.listing_text.specs.Laws.LastImage.{last_other}

@@ -1,3 +1,2 @@
 -- Turns of the loops, and rows that cannot stay.
 pub mod Turns
-pub mod Dead

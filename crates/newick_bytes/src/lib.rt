@@ -9,7 +9,7 @@ ghost use Rattle.newick_bytes.specs.Next.{image_begun, image_next, next_seen, st
 ghost use Rattle.newick_bytes.specs.Outer.{next_outer, vertex_outer};
 
 // What was read: x is the number so far.
-#[derive(Drop)]
+#[derive(Clone, Copy)]
 pub enum Seen {
     Start,
     Vertex {

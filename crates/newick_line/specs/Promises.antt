@@ -12,16 +12,17 @@ use Rattle.theory.specs.LinkTables.{Row}
 use Rattle.theory.specs.Readings.{Exact}
 use Rattle.theory.specs.Tables.{CostTable, cost, limit}
 use Rattle.tree.specs.Exact.{exact_rows, tree_check}
-use Rattle.tree.specs.Laws.Exact.{exact_rows_lem, table-passed, table_sized}
+use Rattle.tree.proofs.Laws.Exact.{exact_rows_lem, table-passed, table_sized}
 use Rattle.bits.specs.declared.Edition.{Edition}
 use Rattle.cost_forms.specs.Form.{cost_bytes, cost_form}
 use Rattle.listing_lines.specs.Lines.{newline, refused_line, room}
-use Rattle.listing_text.specs.Ignored.{longest_table, stored_ignores}
+use Rattle.listing_text.specs.Ignored.{longest_table}
+use Rattle.listing_text.proofs.Ignored.{stored_ignores}
 use Rattle.listing_text.specs.InOrder.{listing_order, listing_steps}
 use Rattle.listing_text.specs.Listing.{images_said, stored_checks, table_said}
 use Rattle.listing_text.specs.Promises.{listing_table, listing_checks, stored_said, text_then}
 use Rattle.table_text.specs.TableText.{text_if}
-use Rattle.newick_text.specs.Laws.Reading.{read_written}
+use Rattle.newick_text.proofs.Laws.Reading.{read_written}
 use Rattle.newick_text.specs.LinkTrees.{newick}
 use Rattle.newick_text.specs.Reading.{read_checks, tree_in}
 use Rattle.newick_text.specs.Tables.{table_of}

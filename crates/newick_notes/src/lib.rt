@@ -9,7 +9,7 @@ ghost use Rattle.newick_notes.specs.Able.{Closing, Room};
 
 // What was noted. Far, place and last are of the vertex whose cost is read: its far side, the place of its first byte, and the far side of
 // the sibling before it, 0 for none.
-#[derive(Drop)]
+#[derive(Clone, Copy)]
 pub struct Noted {
     // How many images were named.
     pub names: usize,

@@ -1,4 +1,2 @@
 -- What the searches find, and what is written below a row.
 pub mod Searches
-pub mod Below
-pub mod Chains

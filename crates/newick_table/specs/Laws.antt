@@ -9,5 +9,3 @@ pub mod Capped
 pub mod Collecting
 pub mod Searching
 pub mod Table
--- What is checked of the notes is what is checked of the tree.
-pub mod Checks

@@ -13,7 +13,3 @@ use Rattle.newick_writer.specs.Writing.{write_checks}
 -- 1, 10, 2, 12, 13, 3
 abbrev pub write_steps : ℕ → ℕ → List ℕ → List ℕ → ℕ → List Step
 write_steps n N l v room = (size_steps n N l v ++ row_steps limit n l v) ++ (3 by room_check (length (newick (rows_of l v))) room ∷ [])
-
-pub write_order : (n N : ℕ) (l v : List ℕ) (room : ℕ) → InOrder (write_steps n N l v room) (write_checks n N l v room)
-write_order n N l v room =
-    join-order (join-order (size-order n N l v) (row-order limit n l v)) (room-order (length (newick (rows_of l v))) room)

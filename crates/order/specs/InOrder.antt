@@ -6,16 +6,11 @@ use Rattle.ground.specs.Laws.InOrder.{join-order, refuse_order, room-order}
 use Rattle.ground.specs.Refusals.{refusal, room_check}
 use Rattle.ground.specs.Steps.{Step, ◌by◌}
 use Rattle.theory.specs.Tables.{cost}
-use Rattle.tables.specs.InOrder.{costs-order, costs_steps, size-order, size_steps}
+use Rattle.tables.specs.InOrder.{costs_steps, size_steps}
+use Rattle.tables.proofs.InOrder.{costs-order, size-order}
 use Rattle.order.specs.Outcome.{bad_ends, ends_check, order_checks}
 
 -- 1, 2, 3, 4, 5, 6, 20, 8
 abbrev pub order_steps : ℕ → ℕ → List ℕ → ℕ → ℕ → ℕ → List Step
 order_steps L n t first last room =
     size_steps n t ++ (3 by room_check n room ∷ (costs_steps L (cost t n) n ++ (8 by ends_check n first last ∷ [])))
-
-pub order-order : (L n : ℕ) (t : List ℕ) (first last room : ℕ) → InOrder (order_steps L n t first last room) (order_checks L n t first last room)
-unfolding order_checks
-order-order L n t first last room =
-    join-order (size-order n t)
-    (join-order (room-order n room) (join-order (costs-order L (cost t n) n) (refuse_order (bad_ends n first last) (refusal 8 0 0 0 0) (omega arith))))

@@ -2,8 +2,6 @@
 pub mod Outcome
 -- What was written then, that a refused call altered nothing, and that no second answer meets the promise.
 pub mod Promises
--- And of a table that is a little off.
-pub mod MeasuredRing
 -- Its checks by their numbers, in order.
 pub mod InOrder
 -- What is true of it.

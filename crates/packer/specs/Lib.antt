@@ -5,4 +5,3 @@ pub mod Start
 pub mod Laws
 -- What its promise is worth, and an example.
 pub mod Promises
-pub mod Examples

@@ -1,4 +1,2 @@
--- Where a reader stands behind a table, and that the table stands within the bytes.
-pub mod Stands
 -- How a field is taken.
 pub mod Fields

@@ -4,4 +4,3 @@ pub mod Recognition
 pub mod Seats
 -- What is true of them, and what the promises are worth.
 pub mod Laws
-pub mod Promises

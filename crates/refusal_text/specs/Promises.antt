@@ -9,7 +9,7 @@ use Rattle.ground.specs.Refusals.{refusal}
 use Rattle.ground.specs.declared.Written.{Written}
 use Rattle.ground.specs.declared.Written.TheVariants.{Places}
 use Rattle.ground.specs.declared.Written.TheVariants as written
-use Rattle.text.specs.Laws.Zeros.{no_zero_at}
+use Rattle.text.proofs.Laws.Zeros.{no_zero_at}
 use Rattle.refusal_text.specs.Laws.Lengths.{text_fits}
 use Rattle.refusal_text.specs.Laws.Zeros.{text_no_zero}
 use Rattle.refusal_text.specs.Text.{refusal_bytes, refusal_text, refusal_text_outcome, room}

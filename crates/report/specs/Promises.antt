@@ -14,9 +14,9 @@ use Rattle.theory.specs.LinkTables.{Row}
 use Rattle.theory.specs.Readings.{Exact}
 use Rattle.theory.specs.Tables.{cost, limit}
 use Rattle.wiring.specs.Check.{wiring_check}
-use Rattle.wiring.specs.Promises.{wiring_passed}
+use Rattle.wiring.proofs.Promises.{wiring_passed}
 use Rattle.tree.specs.Exact.{Wired}
-use Rattle.tree.specs.Laws.Exact.{exact_rows_lem}
+use Rattle.tree.proofs.Laws.Exact.{exact_rows_lem}
 use Rattle.report.specs.Laws.Call.{room-passed}
 use Rattle.report.specs.Laws.Follows.{reading}
 use Rattle.report.specs.Laws.Reported.{reported}

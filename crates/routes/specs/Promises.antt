@@ -11,7 +11,7 @@ use Rattle.ground.specs.declared.Check.TheVariants.{Passed}
 use Rattle.ground.specs.declared.Written.TheVariants.{Places}
 use Rattle.theory.specs.FarSides.{own}
 use Rattle.theory.specs.FourPoint.{FourPoint}
-use Rattle.theory.specs.Laws.Paths.{path_four_point, path_none_above, path_same, path_self}
+use Rattle.theory.proofs.Laws.Paths.{path_four_point, path_none_above, path_same, path_self}
 use Rattle.theory.specs.LinkTables.{Row, path, rows_of}
 use Rattle.theory.specs.Routes.{contains, route, uppers}
 use Rattle.links.specs.Links.{Links}

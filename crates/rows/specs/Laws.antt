@@ -1,12 +1,4 @@
--- Of a row put in its place in a list.
-pub mod Put
--- Of many rows, and of those with a cost.
-pub mod PutAll
--- Of rows in two arrays.
-pub mod Places
 -- Of the search for a place.
 pub mod Searching
 -- Of rows moved up.
 pub mod Shifting
--- Of a row put in its place in two arrays.
-pub mod Putting

@@ -17,37 +17,19 @@ use Rattle.link_forms.specs.Said.{costs_of, count_of, fars_of, fill_of, images_o
 abbrev pub head_steps : Form → List ℕ → List Step
 head_steps form s = 9 by end_check s (bytes_for (form.head + 14)) ∷ count_steps (images_of form s) (count_of form s)
 
-head_order : (form : Form) (s : List ℕ) → InOrder (head_steps form s) (head_checks form s)
-head_order form s = join-order (end_order s (bytes_for (form.head + 14))) (count-order (images_of form s) (count_of form s))
-
 -- 9, 11, 12, 13
 abbrev pub body_steps : Form → ℕ → ℕ → List ℕ → List Step
 body_steps form n N s =
     9 by end_check s (link_used form n N) ∷ 11 by fill_check (fill_of form n N s) ∷ row_steps form.limit n (fars_of form n N s) (costs_of form n N s)
 
-body_order : (form : Form) (n N : ℕ) (s : List ℕ) → InOrder (body_steps form n N s) (body_checks form n N s)
-body_order form n N s =
-    join-order (end_order s (link_used form n N))
-    (join-order (fill_order (fill_of form n N s)) (row-order form.limit n (fars_of form n N s) (costs_of form n N s)))
-
 -- 9, 1, 10, 9, 11, 12, 13
 abbrev pub stored_steps : Form → List ℕ → List Step
 stored_steps form s = head_steps form s ++ body_steps form (images_of form s) (count_of form s) s
-
-pub table-order : (form : Form) (s : List ℕ) → InOrder (stored_steps form s) (table_checks form s)
-table-order form s = join-order (head_order form s) (body_order form (images_of form s) (count_of form s) s)
 
 -- 9, 1, 10, 3, 9, 11, 12, 13
 abbrev pub read_steps : Form → List ℕ → ℕ → List Step
 read_steps form s room = head_steps form s ++ (3 by room_check (2 * images_of form s - 3) room ∷ body_steps form (images_of form s) (count_of form s) s)
 
-read_order : (form : Form) (s : List ℕ) (room : ℕ) → InOrder (read_steps form s room) (read_checks form s room)
-read_order form s room =
-    join-order (head_order form s) (join-order (room-order (2 * images_of form s - 3) room) (body_order form (images_of form s) (count_of form s) s))
-
 -- 9 of the position, then those of the bytes from there on
 abbrev pub read_at_steps : Form → List ℕ → ℕ → ℕ → List Step
 read_at_steps form bytes position room = 9 by position_check bytes position ∷ read_steps form (drop (position / 8) bytes) room
-
-pub read_at_order : (form : Form) (bytes : List ℕ) (position room : ℕ) → InOrder (read_at_steps form bytes position room) (read_at_checks form bytes position room)
-read_at_order form bytes position room = join-order (position_order bytes position) (read_order form (drop (position / 8) bytes) room)

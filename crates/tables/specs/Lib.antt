@@ -2,8 +2,6 @@
 pub mod Pairs
 pub mod Checks
 pub mod Formed
--- What is true of them.
-pub mod Laws
 -- What 20 says.
 pub mod Zeros
 -- Its checks by their numbers, in order.

@@ -1,6 +1,2 @@
--- Digits and pieces, how long they can be, and that they have no zero byte.
-pub mod Numbers
 pub mod Putting
 pub mod Pieces
-pub mod Lengths
-pub mod Zeros

@@ -5,7 +5,5 @@ pub mod Fields
 pub mod Zeros
 -- How text is written, piece by piece.
 pub mod Putting
--- Examples that antt computes.
-pub mod Examples
 -- What is true of it.
 pub mod Laws

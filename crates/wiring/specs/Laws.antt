@@ -1,3 +1,2 @@
 -- One test, and that the scan finds the first of all.
 pub mod Once
-pub mod Scan

@@ -5,8 +5,7 @@ use Rattle.ground.specs.Laws.First.{first_here, first_none}
 use Rattle.bad_rows.proofs.first_bad_row.Goals as goal
 
 pub loop-k-init : goal.loop-k-init
-loop-k-init c =
-    (search rules, below_none _)
+loop-k-init c = (search rules, below_none _)
 
 pub returns-then-is_bad_row : goal.returns-then-is_bad_row
 returns-then-is_bad_row c =
@@ -17,5 +16,4 @@ loop-k-preserved c =
     (search rules, below_more _ _ c.loop-k.invariant.1 (sym c.is_bad_row.ensures ∙ c.if-is_bad_row.false))
 
 pub returns : goal.returns
-returns c =
-    first_none _ _ _ (search rules) (search rules) c.loop-k.invariant.1
+returns c = first_none _ _ _ (search rules) (search rules) c.loop-k.invariant.1

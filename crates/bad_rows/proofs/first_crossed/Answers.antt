@@ -5,8 +5,7 @@ use Rattle.ground.specs.Laws.First.{first_here, first_none}
 use Rattle.bad_rows.proofs.first_crossed.Goals as goal
 
 pub loop-j-init : goal.loop-j-init
-loop-j-init c =
-    (search rules, below_none _)
+loop-j-init c = (search rules, below_none _)
 
 pub returns-then-is_crossing : goal.returns-then-is_crossing
 returns-then-is_crossing c =
@@ -17,5 +16,4 @@ loop-j-preserved c =
     (search rules, below_more _ _ c.loop-j.invariant.1 (sym c.is_crossing.ensures ∙ c.if-is_crossing.false))
 
 pub returns : goal.returns
-returns c =
-    first_none _ _ _ (search rules) (search rules) c.loop-j.invariant.1
+returns c = first_none _ _ _ (search rules) (search rules) c.loop-j.invariant.1

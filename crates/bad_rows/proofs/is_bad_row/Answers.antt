@@ -4,8 +4,7 @@ use Rattle.bad_rows.proofs.is_bad_row.Goals as goal
 
 pub returns-then-is_bad_side : goal.returns-then-is_bad_side
 unfolding bad_row
-returns-then-is_bad_side c =
-    rw (← c.row_before-before.ensures, ← c.is_bad_side.ensures, c.if-is_bad_side.true)
+returns-then-is_bad_side c = rw (← c.row_before-before.ensures, ← c.is_bad_side.ensures, c.if-is_bad_side.true)
 
 pub returns-then-is_bad_cost : goal.returns-then-is_bad_cost
 unfolding bad_row

@@ -5,12 +5,10 @@ use Rattle.ground.specs.Laws.Shifts.{beyond}
 use Rattle.bad_rows.proofs.is_bad_side.Goals as goal
 
 pub returns-then-s-before : goal.returns-then-s-before
-returns-then-s-before c =
-    rw (le-leb _ _ c.if-s-before.true)
+returns-then-s-before c = rw (le-leb _ _ c.if-s-before.true)
 
 pub returns-then-s-eq1 : goal.returns-then-s-eq1
-returns-then-s-eq1 c =
-    rw (lt-leb _ _ c.if-s-before.false, eq-eqb _ _ c.if-s-eq1.true)
+returns-then-s-eq1 c = rw (lt-leb _ _ c.if-s-before.false, eq-eqb _ _ c.if-s-eq1.true)
 
 pub returns-then-n-eq64 : goal.returns-then-n-eq64
 returns-then-n-eq64 c =

@@ -11,7 +11,7 @@ use Rattle.joined_tables.specs.Tables.{tables}
 use borrow.Author.Rules.{rules}
 use Rattle.batch.proofs.check_tables.Statement.{statement}
 use Rattle.link_forms.specs.Form.{link_form}
-use Rattle.stored_links.specs.Laws.Told.{form_small}
+use Rattle.stored_links.proofs.Laws.Told.{form_small}
 use Rattle.batch.proofs.check_tables.Tie as tie
 
 abbrev invariant-loop : tie.invariant-loop

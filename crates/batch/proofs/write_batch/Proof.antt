@@ -4,7 +4,7 @@ use lib.ListN.{length}
 use Rattle.batch.specs.Laws.Answers.{batch_accepted, by_goes, by_stops}
 use borrow.Author.Rules.{rules}
 use Rattle.link_forms.specs.Form.{link_form}
-use Rattle.stored_links.specs.Laws.Told.{form_limit}
+use Rattle.stored_links.proofs.Laws.Told.{form_limit}
 use Rattle.batch.proofs.write_batch.Statement.{statement}
 use Rattle.batch.proofs.write_batch.Tie as tie
 

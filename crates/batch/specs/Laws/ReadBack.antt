@@ -8,7 +8,7 @@ use Rattle.std.proofs.Math.ListN.{length-append}
 use Rattle.ground.specs.Buffers.{front}
 use Rattle.ground.specs.Outcomes.{Outcome}
 use Rattle.link_forms.specs.Form.{link_bytes, link_form, link_used}
-use Rattle.stored_links.specs.Laws.Told.{either_written, form_limit}
+use Rattle.stored_links.proofs.Laws.Told.{either_written, form_limit}
 use Rattle.stored_links.specs.Outcomes.{read_either}
 use Rattle.batch.specs.Batch.{batch_answer, batch_outcome}
 use Rattle.joined_tables.specs.Bytes.{batch_bytes}

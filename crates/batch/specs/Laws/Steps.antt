@@ -9,7 +9,7 @@ use Rattle.ground.specs.declared.Check.TheVariants.{Passed, Refused}
 use Rattle.ground.specs.declared.Refusal.{Refusal}
 use Rattle.ground.specs.Laws.Refusals.{if_goes, if_stops}
 use Rattle.link_forms.specs.Form.{link_used}
-use Rattle.joined_tables.specs.Laws.Steps.{table_is, tables_end}
+use Rattle.joined_tables.proofs.Laws.Steps.{table_is, tables_end}
 use Rattle.joined_tables.specs.Tables.{Table, left_over_checks, next_checks, tables}
 use Rattle.batch.specs.Batch.{batch_from, numbered}
 use Rattle.batch.specs.declared.Batched.{Batched}

@@ -9,5 +9,4 @@ every-other zero h = absurd (h refl)
 every-other (suc k) h = refl
 
 pub returns : goal.returns
-returns c =
-    every-other _ (λ e. c.if-number-eq0.false e)
+returns c = every-other _ (λ e. c.if-number-eq0.false e)

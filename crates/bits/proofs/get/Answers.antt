@@ -18,7 +18,8 @@ overflow_add-result c =
     let e : a.width - 32 + 32 ≡ a.width = omega arith in
     let both : c.raised.result + c.get_narrow-3.result ≡ number_at a.bytes.now a.position (a.width - 32 + 32) =
     omega (arith, number_more a.bytes.now a.position (a.width - 32) 32 (omega arith)) in
-    both ∙ ap (number_at a.bytes.now a.position) e in let a = c.args in
+    both ∙ ap (number_at a.bytes.now a.position) e in
+    let a = c.args in
     omega (arith, made, value_part_lt a.bytes.now a.position a.width 64 (omega arith) (omega arith))
 
 pub returns : goal.returns

@@ -6,8 +6,7 @@ use Rattle.bits.proofs.get_by_turns.Goals as goal
 
 pub loop-done-init : goal.loop-done-init
 unfolding part value_of
-loop-done-init c =
-    (search rules, refl)
+loop-done-init c = (search rules, refl)
 
 pub raised-requires : goal.raised-requires
 raised-requires c =
@@ -25,7 +24,8 @@ overflow_add-value c =
     / 2 ^ (8 - (c.args.position + c.loop-done.done) % 8 - c.turn_width-s.result)
     % 2 ^ c.turn_width-s.result < 2 ^ 64 = let l = c.loop-done in
     get_turn_lt c.args.position c.args.width l.done c.turn_width-s.result c.args.bytes.now c.requires c.turn_width-s.ensures l.value
-    l.invariant.1 in let made : c.raised.result + c.bits_above.result
+    l.invariant.1 in
+    let made : c.raised.result + c.bits_above.result
     ≡ c.loop-done.value * 2 ^ c.turn_width-s.result
     + get_or c.args.bytes.now
     ((c.args.position + c.loop-done.done) / 8) 0
@@ -37,7 +37,8 @@ loop-done-preserved c =
     ≡ c.loop-done.value * 2 ^ c.turn_width-s.result
     + get_or c.args.bytes.now
     ((c.args.position + c.loop-done.done) / 8) 0
-    / 2 ^ (8 - (c.args.position + c.loop-done.done) % 8 - c.turn_width-s.result) % 2 ^ c.turn_width-s.result = cc in let l = c.loop-done in (
+    / 2 ^ (8 - (c.args.position + c.loop-done.done) % 8 - c.turn_width-s.result) % 2 ^ c.turn_width-s.result = cc in
+    let l = c.loop-done in (
       omega arith,
       made
           ∙ get_turn c.args.position c.args.width l.done c.turn_width-s.result c.args.bytes.now c.requires c.turn_width-s.ensures l.value

@@ -3,9 +3,7 @@ use Rattle.std.proofs.Common.{le-ltb, lt-ltb}
 use Rattle.bits.proofs.is_misplaced.Goals as goal
 
 pub returns-then-bytes-position : goal.returns-then-bytes-position
-returns-then-bytes-position c =
-    rw (lt-ltb _ _ c.if-bytes-position.true)
+returns-then-bytes-position c = rw (lt-ltb _ _ c.if-bytes-position.true)
 
 pub returns : goal.returns
-returns c =
-    rw (le-ltb _ _ c.if-bytes-position.false)
+returns c = rw (le-ltb _ _ c.if-bytes-position.false)

@@ -1,15 +1,13 @@
 -- `brought::choose_out` meets its contract: the rows below i have gone by. Assumes nothing.
-use Rattle.std.proofs.Common.{arith, rules, sym, ◌∙◌, ◌≡◌}
+use Rattle.std.proofs.Common.{arith, rules, ◌≡◌}
 use Rattle.brought.specs.Laws.Choosing.{outs_few, outs_more, outs_none}
 use Rattle.brought.proofs.choose_out.Goals as goal
 
 pub loop-i-init : goal.loop-i-init
-loop-i-init c =
-    (search rules, outs_none _ _ _ _ _ _ _ c.requires.2)
+loop-i-init c = (search rules, outs_none _ _ _ _ _ _ _ c.requires.2)
 
 pub bounds-fars-i : goal.bounds-fars-i
-bounds-fars-i c =
-    omega (arith, c.loop-i-test.true, c.requires.1.room)
+bounds-fars-i c = omega (arith, c.loop-i-test.true, c.requires.1.room)
 
 pub store-m-requires : goal.store-m-requires
 store-m-requires c =
@@ -23,25 +21,12 @@ store-m-requires c =
     )
 
 pub loop-i-preserved : goal.loop-i-preserved
-loop-i-preserved c =
-    (
-      search rules,
-      outs_more _ _ _ _ _ _ _ _ _ _ c.requires.1 c.loop-i-test.true c.loop-i.invariant.1
-          (rw c.goes_out.ensures at
-          c.store-m.ensures),
-    )
-
-pub shape_of-sides : goal.shape_of-sides
-shape_of-sides c =
-    c.loop-i.invariant.1.room.sides ∙ sym c.requires.2.sides
-
-pub shape_of-outs : goal.shape_of-outs
-shape_of-outs c =
-    c.loop-i.invariant.1.room.places ∙ sym c.requires.2.places
-
-pub shape_of-best : goal.shape_of-best
-shape_of-best c =
-    c.loop-i.invariant.1.room.values ∙ sym c.requires.2.values
+loop-i-preserved c = (
+  search rules,
+  outs_more _ _ _ _ _ _ _ _ _ _ c.requires.1 c.loop-i-test.true c.loop-i.invariant.1
+      (rw c.goes_out.ensures at
+      c.store-m.ensures),
+)
 
 pub returns : goal.returns
 returns c =

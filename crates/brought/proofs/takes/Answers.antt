@@ -16,5 +16,4 @@ returns-then-live c =
     (rw (e, c.if-live.true), search rules)
 
 pub returns : goal.returns
-returns c =
-    (rw c.if-live.false, search rules)
+returns c = (rw c.if-live.false, search rules)

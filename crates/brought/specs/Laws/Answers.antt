@@ -21,7 +21,7 @@ use Rattle.brought.specs.Answers.{AllBrought}
 use Rattle.brought.specs.Choosing.{Ins, Outs, Same, in_live, in_side, out_live, out_side}
 use Rattle.brought.specs.Chosen.{Rowed, Slot, SidesStored, one_image, by_image, nowhere, stored, stored_of}
 use Rattle.near_images.specs.Near.{Closest, NearImages}
-use Rattle.near_images.specs.Laws.Dead.{b-below, in_dead, near-b, out_dead}
+use Rattle.near_images.proofs.Laws.Dead.{b-below, in_dead, near-b, out_dead}
 use Rattle.brought.specs.Laws.BothWays.{both_fit}
 use Rattle.brought.specs.Laws.Choosing.{of_none}
 use Rattle.brought.specs.Laws.Sides.{family}

@@ -22,5 +22,4 @@ overflow_add-result c =
     rw (l.1, to_z_pos w64 l.2) record { fits = omega (arith, l.2) }
 
 pub returns : goal.returns
-returns c =
-    tt
+returns c = tt

@@ -9,5 +9,4 @@ not-below (pos a) f e = rw (to_z-of_z {w = w64} {z = pos a} f) (tt, record { fit
 not-below (negsuc k) f e = absurd (true≢false (rw (to_z-of_z {w = w64} {z = negsuc k} f) at e))
 
 pub overflow_cast-x : goal.overflow_cast-x
-overflow_cast-x g c =
-    not-below c.args.x c.ranges.x c.if-x-lt0.false
+overflow_cast-x g c = not-below c.args.x c.ranges.x c.if-x-lt0.false

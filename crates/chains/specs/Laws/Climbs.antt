@@ -8,9 +8,9 @@ use Rattle.ground.specs.Least.{least_on}
 use Rattle.ground.specs.Laws.Least.{least_on_cap}
 use Rattle.upper_sides.specs.Chains.{Chained, ahead, depth_at, gap_on, held_at, near_on}
 use Rattle.chains.specs.Walks.{Up}
-use Rattle.upper_sides.specs.Laws.Chain.{depth_in, depth_none, depth_out, held_fits, held_in, held_none, held_out, held_within, near-more}
+use Rattle.upper_sides.proofs.Laws.Chain.{depth_in, depth_none, depth_out, held_fits, held_in, held_none, held_out, held_within, near-more}
 use Rattle.upper_sides.specs.Laws.Parts.{bits_le}
-use Rattle.upper_sides.specs.Laws.Places.{depth_le, depth_lt}
+use Rattle.upper_sides.proofs.Laws.Places.{depth_le, depth_lt}
 
 -- three numbers kept of the side of depth i
 abbrev pub kept3 : List ℕ → ℕ → ℕ → ℕ → ℕ → List ℕ

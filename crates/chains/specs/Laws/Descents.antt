@@ -11,9 +11,9 @@ use Rattle.theory.specs.OneMore.{brought_side}
 use Rattle.theory.specs.Tables.{WellFormed}
 use Rattle.upper_sides.specs.Chains.{Chained, Family, apart_on, depth_at, held_at, near_on}
 use Rattle.chains.specs.Walks.{Climbed}
-use Rattle.upper_sides.specs.Laws.Chain.{apart_more, depth_in, depth_none, held_in}
-use Rattle.upper_sides.specs.Laws.Ends.{apart-all, side-sum}
-use Rattle.upper_sides.specs.Laws.Places.{depth_last, depth_le, held_last, last_again, last_gap, last_holds, last_in, last_le, last_at}
+use Rattle.upper_sides.proofs.Laws.Chain.{apart_more, depth_in, depth_none, held_in}
+use Rattle.upper_sides.proofs.Laws.Ends.{apart-all, side-sum}
+use Rattle.upper_sides.proofs.Laws.Places.{depth_last, depth_le, held_last, last_again, last_gap, last_holds, last_in, last_le, last_at}
 
 -- the least value of the side j, lowered by what image k brings with z where z is in it
 abbrev pub lowered : ℕ → (ℕ → ℕ → ℕ) → ℕ → ℕ → List ℕ → ℕ → ℕ → ℕ

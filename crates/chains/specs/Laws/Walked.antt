@@ -17,9 +17,9 @@ use Rattle.theory.specs.OneMore.{brought_fast, brought_side}
 use Rattle.theory.specs.Tables.{WellFormed}
 use Rattle.upper_sides.specs.Chains.{Chained}
 use Rattle.chains.specs.Values.{Brought, Least}
-use Rattle.upper_sides.specs.Laws.Chain.{held_none}
+use Rattle.upper_sides.proofs.Laws.Chain.{held_none}
 use Rattle.chains.specs.Laws.Descents.{Down, DownTo, down_end, lowered}
-use Rattle.upper_sides.specs.Laws.Ends.{near-own, side-sum}
+use Rattle.upper_sides.proofs.Laws.Ends.{near-own, side-sum}
 
 module _ (L : ℕ) (d : ℕ → ℕ → ℕ) (k z : ℕ) (w : WellFormed L d (suc k)) (hz : z < k) where
   side_cap : brought_side L d k (bit (2 ^ z)) z ≤ 4 * L

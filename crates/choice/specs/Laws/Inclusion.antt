@@ -12,7 +12,7 @@ use Rattle.ground.specs.Laws.Members.{is_in-mem, mem-is_in}
 use Rattle.ground.specs.Laws.Tests.{and_l, and_r}
 use Rattle.theory.specs.Comparison.{common}
 use Rattle.theory.specs.Laws.Comparison.{common_same}
-use Rattle.counts.specs.Laws.Formula.{filter_le}
+use Rattle.counts.proofs.Laws.Formula.{filter_le}
 use Rattle.choice.specs.Inclusion.{includes}
 
 -- ## What it says

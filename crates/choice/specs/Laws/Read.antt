@@ -11,8 +11,8 @@ use Rattle.theory.specs.Outcomes.{LeftRows, RowsOutcome}
 use Rattle.bits.specs.Laws.Listed.{length-listed}
 use Rattle.choice.specs.Call.{sides_of}
 use Rattle.stored_links.specs.Laws.Outcomes.{front-taken, table-passed, table-refused}
-use Rattle.stored_links.specs.Laws.Enough.{table-begins}
-use Rattle.stored_links.specs.Laws.ReadAt.{read_enough}
+use Rattle.stored_links.proofs.Laws.Enough.{table-begins}
+use Rattle.stored_links.proofs.Laws.ReadAt.{read_enough}
 use Rattle.stored_links.specs.Outcomes.{read_outcome, rows_if}
 use Rattle.stored_links.specs.Reading.{table_at_checks, table_checks}
 use Rattle.link_forms.specs.Said.{cost_at, costs_of, count_of, far_at, fars_of, images_of, used_of}

@@ -5,8 +5,7 @@ use Rattle.climbing.specs.Laws.PathSums.{path_end, path-more}
 use Rattle.climbing.proofs.path_cost.Goals as goal
 
 pub loop-k-init : goal.loop-k-init
-loop-k-init c =
-    (search rules, omega arith)
+loop-k-init c = (search rules, omega arith)
 
 pub overflow_add-sum : goal.overflow_add-sum
 overflow_add-sum c =

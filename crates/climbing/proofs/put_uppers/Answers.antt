@@ -6,8 +6,7 @@ use Rattle.climbing.specs.Laws.UpperRows.{upper-most, uppers-length}
 use Rattle.climbing.proofs.put_uppers.Goals as goal
 
 pub loop-r-init : goal.loop-r-init
-loop-r-init c =
-    (search rules, search rules, over_none _ _)
+loop-r-init c = (search rules, search rules, over_none _ _)
 
 pub overflow_cast-out : goal.overflow_cast-out
 overflow_cast-out c =
@@ -25,5 +24,4 @@ loop-r-preserved c =
     )
 
 pub returns : goal.returns
-returns c =
-    over_end _ _ _ _ _ (search rules) (search rules) c.loop-r.invariant.2
+returns c = over_end _ _ _ _ _ (search rules) (search rules) c.loop-r.invariant.2

@@ -8,7 +8,7 @@ use Rattle.ground.specs.Bits.{bit}
 use Rattle.ground.specs.Laws.Bits.{bit_lt}
 use Rattle.ground.specs.Filters.{Each}
 use Rattle.ground.specs.Sums.{when}
-use Rattle.theory.specs.Laws.RowCount.{row_count}
+use Rattle.theory.proofs.Laws.RowCount.{row_count}
 use Rattle.theory.specs.LinkTables.{Row, apart, path, rows_of}
 use Rattle.theory.specs.Tables.{limit}
 use Rattle.links.specs.Links.{Links}

@@ -8,7 +8,7 @@ use borrow.Author.Rules.{rules}
 use Rattle.theory.specs.Tables.{limit}
 use Rattle.counts.specs.Differ.{differ}
 use Rattle.tree.specs.Exact.{SidesStand}
-use Rattle.tree.specs.Laws.Exact.{read_accepted, read_refused}
+use Rattle.tree.proofs.Laws.Exact.{read_accepted, read_refused}
 use Rattle.compare.specs.declared.Comparison.TheVariants.{Compared}
 use Rattle.ground.specs.Laws.Refusals.{if_goes, if_stops}
 use Rattle.compare.specs.declared.Comparison.TheVariants as answer

@@ -8,7 +8,7 @@ use borrow.Author.Rules.{rules}
 use Rattle.theory.specs.Tables.{limit}
 use Rattle.compare.specs.Call.{against_second}
 use Rattle.tree.specs.Exact.{SidesStand}
-use Rattle.tree.specs.Laws.Exact.{read_accepted, read_refused}
+use Rattle.tree.proofs.Laws.Exact.{read_accepted, read_refused}
 use Rattle.ground.specs.Laws.Refusals.{if_goes, if_stops}
 use Rattle.compare.specs.declared.Comparison.TheVariants as answer
 use Rattle.compare.proofs.both_tables.Statement.{statement}

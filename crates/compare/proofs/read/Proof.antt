@@ -3,7 +3,7 @@ use native.Mathlib.Omega.{arith}
 use lib.ListN.{replicate}
 use borrow.Author.Rules.{rules}
 use Rattle.theory.specs.Tables.{limit}
-use Rattle.tree.specs.Laws.Exact.{sides_read}
+use Rattle.tree.proofs.Laws.Exact.{sides_read}
 use Rattle.compare.proofs.read.Statement.{statement}
 use Rattle.compare.proofs.read.Tie as tie
 

@@ -4,7 +4,7 @@ use borrow.Author.Rules.{rules}
 use Rattle.ground.specs.Laws.Refusals.{then_goes, then_stops}
 use Rattle.theory.specs.Laws.Checks.{images-passed}
 use Rattle.consensus.specs.Call.{team_check}
-use Rattle.consensus.specs.Laws.Taking.{number_passed}
+use Rattle.consensus.proofs.Laws.Taking.{number_passed}
 use Rattle.consensus.proofs.check_team.Statement.{statement}
 use Rattle.consensus.proofs.check_team.Tie as tie
 

@@ -2,7 +2,7 @@
 use mathlib.Core.Path.{sym, ◌∙◌}
 use borrow.Author.Rules.{rules}
 use Rattle.theory.specs.Tables.{limit}
-use Rattle.consensus.specs.Laws.Taking.{left_team, left_through, team_passed}
+use Rattle.consensus.proofs.Laws.Taking.{left_team, left_through, team_passed}
 use Rattle.consensus.proofs.consensus.Statement.{statement}
 use Rattle.consensus.proofs.consensus.Tie as tie
 

@@ -1,7 +1,7 @@
 -- `consensus::take_all` meets its contract: the first table, and then the others. Assumes nothing.
 use borrow.Author.Rules.{rules}
 use Rattle.theory.specs.Tables.{limit}
-use Rattle.consensus.specs.Laws.Taking.{taken_on}
+use Rattle.consensus.proofs.Laws.Taking.{taken_on}
 use Rattle.consensus.proofs.take_all.Statement.{statement}
 use Rattle.consensus.proofs.take_all.Tie as tie
 

@@ -3,7 +3,7 @@ use borrow.Author.Rules.{rules}
 use Rattle.theory.specs.Tables.{limit}
 use Rattle.tree.specs.Exact.{Wired}
 use Rattle.consensus.specs.Laws.Joined.{no_table}
-use Rattle.consensus.specs.Laws.Taking.{shares_first, taken_refused, taken-rows}
+use Rattle.consensus.proofs.Laws.Taking.{shares_first, taken_refused, taken-rows}
 use Rattle.consensus.proofs.take_first.Statement.{statement}
 use Rattle.consensus.proofs.take_first.Tie as tie
 

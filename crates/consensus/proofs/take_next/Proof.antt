@@ -7,7 +7,7 @@ use Rattle.theory.specs.Tables.{limit}
 use Rattle.tree.specs.Exact.{Wired, exact_rows}
 use Rattle.consensus.specs.Laws.Held.{held_ascends, held_cost_length, held_far_length, held_met}
 use Rattle.consensus.specs.Laws.Sharing.{first_tree, tree_of}
-use Rattle.consensus.specs.Laws.Taking.{shares_next, taken_refused, taken-rows}
+use Rattle.consensus.proofs.Laws.Taking.{shares_next, taken_refused, taken-rows}
 use Rattle.consensus.specs.Taking.{RowsHeld}
 use Rattle.consensus.specs.Team.{table_at}
 use Rattle.consensus.proofs.take_next.Statement.{statement}

@@ -4,7 +4,7 @@ use Prim.Native.Nat.{◌-◌, ◌≤◌}
 use native.Mathlib.Omega.{arith}
 use borrow.Author.Rules.{rules}
 use Rattle.theory.specs.Tables.{limit}
-use Rattle.consensus.specs.Laws.Taking.{taken_on, taken-rows}
+use Rattle.consensus.proofs.Laws.Taking.{taken_on, taken-rows}
 use Rattle.consensus.specs.Taking.{Shares}
 use Rattle.consensus.proofs.take_others.Statement.{statement}
 use Rattle.consensus.proofs.take_others.Tie as tie

@@ -4,7 +4,7 @@ use native.Mathlib.Omega.{arith}
 use borrow.Author.Rules.{rules}
 use Rattle.theory.specs.Tables.{limit}
 use Rattle.consensus.specs.Laws.Held.{held_written}
-use Rattle.consensus.specs.Laws.Taking.{left-rows, left-table, shares_room}
+use Rattle.consensus.proofs.Laws.Taking.{left-rows, left-table, shares_room}
 use Rattle.consensus.specs.Taking.{Shares}
 use Rattle.consensus.proofs.write_shared.Statement.{statement}
 use Rattle.consensus.proofs.write_shared.Tie as tie

@@ -1,6 +1,6 @@
 -- Trees held in local arrays: one read exactly, by the promise of the tree part alone; one more met there; and the rows written out.
 -- Assumes nothing.
-use Rattle.std.specs.Prelude.{List, [], ◌∷◌, refl, ◌≡◌, suc, ℕ, ◌*◌, ◌-◌, ◌^◌, ◌≤◌, drop, length, take}
+use Rattle.std.specs.Prelude.{List, [], ◌∷◌, refl, ◌≡◌, suc, ℕ, ◌*◌, ◌^◌, ◌≤◌, drop, length, take}
 use Rattle.std.proofs.Common.{ap, ap₂, sym, ◌∙◌, arith, length-append, length-drop, pow_mono, length-take-le, take_at}
 use Rattle.std.proofs.lemmas.List.{length-map}
 use Rattle.ground.specs.Ascending.{Between}
@@ -10,13 +10,11 @@ use Rattle.ground.specs.declared.Check.{Check}
 use Rattle.ground.specs.declared.Check.TheVariants.{Passed}
 use Rattle.ground.specs.declared.Check.TheVariants as check
 use Rattle.ground.specs.declared.Written.{Written}
-use Rattle.ground.specs.declared.Written.TheVariants.{Places}
-use Rattle.ground.specs.declared.Written.TheVariants as written
 use Rattle.theory.specs.Laws.JoinedRows.{rows_of-all, rows_of-costs, rows_of-fars}
 use Rattle.theory.specs.LinkTables.{LinkTable, Row, costs, far, fars, rows_of}
 use Rattle.theory.specs.Outcomes.{LeftRows}
 use Rattle.tree.specs.Exact.{exact_rows, tree_check}
-use Rattle.tree.specs.Laws.Exact.{exact_check_lem, exact_tree, table-passed, table_sized}
+use Rattle.tree.proofs.Laws.Exact.{exact_check_lem, exact_tree, table-passed, table_sized}
 use Rattle.tree.specs.Readings.{exact_outcome, outcome}
 use Rattle.tree.specs.Writing.{RowsWritten, rows_left}
 use Rattle.shared_rows.specs.Meet.{meet}

@@ -15,7 +15,7 @@ use Rattle.ground.specs.declared.Check.TheVariants.{Passed}
 use Rattle.ground.specs.declared.Check.TheVariants as check
 use Rattle.ground.specs.declared.Refusal.{Refusal}
 use Rattle.tree.specs.Exact.{Wired, tree_check}
-use Rattle.tree.specs.Laws.Exact.{table-passed, table_sized}
+use Rattle.tree.proofs.Laws.Exact.{table-passed, table_sized}
 use Rattle.consensus.specs.Call.{table_by_table}
 use Rattle.consensus.specs.Team.{Joined, table_at, tables_in}
 use Rattle.consensus.specs.declared.Shared.{Shared}

@@ -9,8 +9,8 @@ use Rattle.ground.specs.Laws.Ranges.{from_last}
 use Rattle.ground.specs.Ranges.{from}
 use Rattle.theory.specs.LinkTables.{LinkTable, Row}
 use Rattle.tree.specs.Exact.{Wired, exact_rows}
-use Rattle.tree.specs.Laws.Exact.{exact_tree}
-use Rattle.shared_rows.specs.Laws.Fold.{consensus-fold, consensus-one, consensus_tree}
+use Rattle.tree.proofs.Laws.Exact.{exact_tree}
+use Rattle.shared_rows.proofs.Laws.Fold.{consensus-fold, consensus-one, consensus_tree}
 use Rattle.shared_rows.specs.Meet.{meet, meet_all}
 use Rattle.consensus.specs.Laws.Joined.{each_table, table_in_lem}
 use Rattle.consensus.specs.Team.{shared_links, table_at, tables_in}

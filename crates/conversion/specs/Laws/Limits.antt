@@ -16,7 +16,7 @@ use Rattle.bits.specs.Kinds.{end_check}
 use Rattle.bits.specs.declared.Form.{Form}
 use Rattle.cost_forms.specs.Entries.{entry_cost, table_of}
 use Rattle.cost_forms.specs.Said.{entry_of, fill_of, images_of, stored_table}
-use Rattle.stored_costs.specs.Laws.Enough.{readable_table, table_readable}
+use Rattle.stored_costs.proofs.Laws.Enough.{readable_table, table_readable}
 use Rattle.cost_forms.specs.Laws.Tables.{table-cost, table_formed}
 use Rattle.stored_costs.specs.Reading.{body_checks, stored_check, table_checks, values_check}
 use Rattle.cost_limits.specs.Laws.Fitting.{passed_fit}

@@ -7,8 +7,7 @@ use Rattle.cost_fields.specs.Laws.Putting.{length_rows_bits, rows_put_end, rows_
 use Rattle.cost_fields.proofs.put_entries.Goals as goal
 
 pub loop-i-init : goal.loop-i-init
-loop-i-init c =
-    (search rules, refl, rows_put_none c.args.w _ c.args.n c.args.out.now c.args.g c.requires.2.part)
+loop-i-init c = (search rules, refl, rows_put_none c.args.w _ c.args.n c.args.out.now c.args.g c.requires.2.part)
 
 pub put_row-gathered-requires : goal.put_row-gathered-requires
 put_row-gathered-requires c =
@@ -25,8 +24,7 @@ put_row-gathered-requires c =
 pub loop-i-preserved : goal.loop-i-preserved
 loop-i-preserved c =
     let l = c.loop-i in
-    let a = c.args in
-    (
+    let a = c.args in (
       search rules,
       c.put_row-gathered.auto.out ∙ l.invariant.1,
       rows_put_more a.w (cost a.t.now a.n) a.n l.i l.invariant.2 c.put_row-gathered.ensures,

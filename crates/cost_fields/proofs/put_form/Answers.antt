@@ -8,8 +8,7 @@ use Rattle.cost_fields.specs.Laws.Putting.{form_put, length_rows_bits}
 use Rattle.cost_fields.proofs.put_form.Goals as goal
 
 pub start-begun-requires : goal.start-begun-requires
-start-begun-requires c =
-    (omega (arith, c.requires.1.short), omega (arith, c.requires.2))
+start-begun-requires c = (omega (arith, c.requires.1.short), omega (arith, c.requires.2))
 
 pub put_entries-entered-requires : goal.put_entries-entered-requires
 put_entries-entered-requires c =
@@ -19,7 +18,8 @@ put_entries-entered-requires c =
 pub finish-requires : goal.finish-requires
 finish-requires c =
     let room : Room (length c.start-begun.new.out) c.start-begun.result (c.args.form.width * entry_count c.args.n) = let a = c.args in
-    room-begun a.form a.n (a.form.width * entry_count a.n) (omega (arith, c.requires.2, c.start-begun.auto.out)) c.start-begun.ensures in let a = c.args in
+    room-begun a.form a.n (a.form.width * entry_count a.n) (omega (arith, c.requires.2, c.start-begun.auto.out)) c.start-begun.ensures in
+    let a = c.args in
     let r = room_then 0 room c.put_entries-entered.ensures (omega (arith, length_rows_bits a.form.width (cost a.t.now a.n) a.n a.n)) in
     (r.part, omega (arith, r.within, c.put_entries-entered.auto.out))
 

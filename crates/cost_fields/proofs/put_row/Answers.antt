@@ -7,8 +7,7 @@ use Rattle.cost_fields.specs.Laws.Putting.{length_listed_bits, row_put_end, row_
 use Rattle.cost_fields.proofs.put_row.Goals as goal
 
 pub loop-k-init : goal.loop-k-init
-loop-k-init c =
-    (search rules, refl, row_put_none c.args.w _ c.args.out.now c.args.g c.requires.3.part)
+loop-k-init c = (search rules, refl, row_put_none c.args.w _ c.args.out.now c.args.g c.requires.3.part)
 
 pub put-gathered-requires : goal.put-gathered-requires
 put-gathered-requires c =
@@ -24,8 +23,7 @@ put-gathered-requires c =
 pub loop-k-preserved : goal.loop-k-preserved
 loop-k-preserved c =
     let l = c.loop-k in
-    let a = c.args in
-    (
+    let a = c.args in (
       search rules,
       c.put-gathered.auto.out ∙ l.invariant.1,
       row_put_more a.w (λ k. cost a.t.now a.n a.i (a.i + 1 + k)) c.entry.ensures.0 l.invariant.2 c.put-gathered.ensures,

@@ -9,7 +9,7 @@ use Rattle.bits.specs.Laws.OneWidth.{fields-append, fields-more, length_fields}
 use Rattle.bits.specs.Listed.{listed}
 use Rattle.bits.specs.declared.Form.{Form}
 use Rattle.packer.specs.Gathering.{Finished, Part, Put}
-use Rattle.packer.specs.Laws.Finished.{form_packed}
+use Rattle.packer.proofs.Laws.Finished.{form_packed}
 use Rattle.packer.specs.Laws.Putting.{put_none, put_then}
 use Rattle.packer.specs.Start.{start_bits, started}
 use Rattle.packer.specs.declared.Gathered.{Gathered}

@@ -2,5 +2,4 @@
 use Rattle.cost_forms.proofs.form_at.Goals as goal
 
 pub returns : goal.returns
-returns c =
-    rw c.edition_at.ensures at c.form_of.ensures
+returns c = rw c.edition_at.ensures at c.form_of.ensures

@@ -13,8 +13,7 @@ counted : (n i : ℕ) → i ≤ n → i * n - i * (i + 1) / 2 ≡ row_start n i
 counted n i h = omega (arith, row-twice n i h)
 
 pub overflow_mul-result : goal.overflow_mul-result
-overflow_mul-result c =
-    omega (arith, square c.args.n c.args.i c.requires.0.few c.requires.1)
+overflow_mul-result c = omega (arith, square c.args.n c.args.i c.requires.0.few c.requires.1)
 
 pub overflow_mul-result-2 : goal.overflow_mul-result-2
 overflow_mul-result-2 c =
@@ -26,8 +25,7 @@ overflow_mul-result-2 c =
     )
 
 pub overflow_sub-result : goal.overflow_sub-result
-overflow_sub-result c =
-    omega (arith, row-twice c.args.n c.args.i c.requires.1)
+overflow_sub-result c = omega (arith, row-twice c.args.n c.args.i c.requires.1)
 
 pub overflow_mul-result-3 : goal.overflow_mul-result-3
 overflow_mul-result-3 c =
@@ -48,5 +46,4 @@ overflow_add-result-3 c =
     ))
 
 pub returns : goal.returns
-returns c =
-    rw (counted c.args.n c.args.i c.requires.1)
+returns c = rw (counted c.args.n c.args.i c.requires.1)

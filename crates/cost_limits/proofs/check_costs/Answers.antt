@@ -8,5 +8,4 @@ returns-in-Passed c =
     sym (passed-both c.args.most c.args.n c.args.t.now c.requires (sym c.check_table.ensures ∙ c.in-Passed.is))
 
 pub returns-in-Refused : goal.returns-in-Refused
-returns-in-Refused c =
-    c.check_again.ensures
+returns-in-Refused c = c.check_again.ensures

@@ -2,5 +2,4 @@
 use Rattle.cost_limits.proofs.check_large.Goals as goal
 
 pub returns : goal.returns
-returns c =
-    rw (← c.entry.ensures.0) c.refuse_if.ensures
+returns c = rw (← c.entry.ensures.0) c.refuse_if.ensures

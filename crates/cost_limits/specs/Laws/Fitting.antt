@@ -8,8 +8,8 @@ use Rattle.ground.specs.Laws.Refusals.{refuse_if-passed}
 use Rattle.ground.specs.declared.Check.TheVariants.{Passed}
 use Rattle.theory.specs.Tables.{CostTable, cost, limit}
 use Rattle.theory.specs.Laws.Limits.{table_wide}
-use Rattle.tables.specs.Laws.Formed.{cost-table}
-use Rattle.tables.specs.Laws.Pairs.{pairs_passed, passed_pairs}
+use Rattle.tables.proofs.Laws.Formed.{cost-table}
+use Rattle.tables.proofs.Laws.Pairs.{pairs_passed, passed_pairs}
 use Rattle.cost_limits.specs.Checks.{fit_check, large_check, table_checks}
 
 module _ (L : ℕ) (d : ℕ → ℕ → ℕ) (n : ℕ) where

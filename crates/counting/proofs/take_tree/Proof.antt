@@ -8,7 +8,7 @@ use borrow.Author.Rules.{rules}
 use Rattle.counting.specs.Laws.Before.{last_few, last_is, numbers_fit, sides_few}
 use Rattle.counting.specs.Laws.PutIn.{moved_tree, put_ready}
 use Rattle.counting.specs.Laws.Taken.{far_ascends, far_few, fresh_ready, more-sides, moved_many}
-use Rattle.counts.specs.Laws.Formula.{inners_le}
+use Rattle.counts.proofs.Laws.Formula.{inners_le}
 use Rattle.figures.specs.Laws.Pairs.{pair_cap}
 use Rattle.counting.proofs.take_tree.Statement.{statement}
 use Rattle.counting.proofs.take_tree.Tie as tie

@@ -7,7 +7,7 @@ use Rattle.theory.specs.LinkTables.{Row, fars}
 use Rattle.theory.specs.Tables.{CostTable, limit}
 use Rattle.seen.specs.Seen.{entries, seen}
 use Rattle.figures.specs.Figures.{entries_at, sides_at}
-use Rattle.figures.specs.Laws.Grown.{figures_apart}
+use Rattle.figures.proofs.Laws.Grown.{figures_apart}
 use Rattle.figures.specs.Laws.Tables.{entries-at, images-more, sides-at, trees_no}
 use Rattle.figures.specs.Checks.{many_check, most_sides}
 use Rattle.counting.specs.Ready.{TableReady}

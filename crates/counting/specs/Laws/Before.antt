@@ -9,7 +9,7 @@ use Rattle.ground.specs.Sums.{sum}
 use Rattle.theory.specs.Demands.{OneTree}
 use Rattle.theory.specs.LinkTables.{Row, far, fars}
 use Rattle.theory.specs.Tables.{limit}
-use Rattle.counts.specs.Laws.Formula.{filter_le, inners_le}
+use Rattle.counts.proofs.Laws.Formula.{filter_le, inners_le}
 use Rattle.seen.specs.Columns.{Room, sides_in}
 use Rattle.seen.specs.Seen.{Entry, seen}
 use Rattle.figures.specs.Figures.{counts, entries_at}

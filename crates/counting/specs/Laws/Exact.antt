@@ -17,10 +17,10 @@ use Rattle.theory.specs.Tables.{CostTable, cost, limit}
 use Rattle.wiring.specs.Check.{wiring_check}
 use Rattle.tree.specs.Exact.{exact_rows}
 use Rattle.tree.specs.LocalRows.{rows_in}
-use Rattle.tree.specs.Laws.Exact.{exact_check_lem, table_sized, tree_wiring}
+use Rattle.tree.proofs.Laws.Exact.{exact_check_lem, table_sized, tree_wiring}
 use Rattle.tree.specs.Laws.LocalRows.{rows_in-costs, rows_in-fars}
-use Rattle.tree.specs.Laws.Writing.{left_stand}
-use Rattle.tree.specs.Promises.{exact_answer}
+use Rattle.tree.proofs.Laws.Writing.{left_stand}
+use Rattle.tree.proofs.Promises.{exact_answer}
 use Rattle.tree.specs.Readings.{exact_check, exact_outcome}
 use Rattle.tree.specs.Writing.{rows_left}
 use Rattle.figures.specs.Tables.{Table, is_accepted, table_of, tree_of}

@@ -8,7 +8,7 @@ use Rattle.theory.specs.LinkTables.{fars}
 use Rattle.theory.specs.Tables.{CostTable, limit}
 use Rattle.tree.specs.LocalRows.{rows_in}
 use Rattle.tree.specs.Laws.Held.{rows_in-mem}
-use Rattle.counts.specs.Laws.Formula.{filter_le}
+use Rattle.counts.proofs.Laws.Formula.{filter_le}
 use Rattle.seen.specs.Columns.{Stored, entries_in}
 use Rattle.seen.specs.Laws.Back.{all-grows}
 use Rattle.seen.specs.Laws.Columns.{stored_in}
@@ -21,7 +21,7 @@ use Rattle.seen.specs.Seen.{entries}
 use Rattle.figures.specs.Figures.{entries_at, sides_at}
 use Rattle.counting.specs.Laws.Before.{links}
 use Rattle.figures.specs.Laws.Pairs.{last_more}
-use Rattle.figures.specs.Laws.Grown.{figures_tree}
+use Rattle.figures.proofs.Laws.Grown.{figures_tree}
 use Rattle.figures.specs.Laws.Tables.{entries-at, entries-count, entries-sides, images-more, trees-length, trees_yes}
 use Rattle.figures.specs.Checks.{many_check, most_sides}
 use Rattle.counting.specs.Ready.{TreeReady}

@@ -1,7 +1,7 @@
 -- `counts::differ` meets its contract: the count is the sum of the inner far sides less twice the common ones. Assumes nothing.
 use Rattle.std.proofs.Common.{arith, length, ◌+◌, ◌≤◌}
 use Rattle.theory.specs.Comparison.{inners}
-use Rattle.counts.specs.Laws.Formula.{difference_is, formula, inners_le}
+use Rattle.counts.proofs.Laws.Formula.{difference_is, formula, inners_le}
 use Rattle.counts.proofs.differ.Goals as goal
 
 pub overflow_add-inner : goal.overflow_add-inner

@@ -4,8 +4,7 @@ use Rattle.counts.specs.Laws.Tally.{one_inner_le, tally_end, tally-more, tally_n
 use Rattle.counts.proofs.inner_rows.Goals as goal
 
 pub loop-i-init : goal.loop-i-init
-loop-i-init c =
-    (search rules, search rules, tally_none _ _)
+loop-i-init c = (search rules, search rules, tally_none _ _)
 
 pub overflow_add-count : goal.overflow_add-count
 overflow_add-count c =
@@ -20,5 +19,4 @@ loop-i-preserved c =
     )
 
 pub returns : goal.returns
-returns c =
-    tally_end _ _ _ (search rules) c.loop-i.invariant.2
+returns c = tally_end _ _ _ (search rules) c.loop-i.invariant.2

@@ -6,11 +6,11 @@ use Rattle.ground.specs.Filters.{filter}
 use Rattle.ground.specs.Laws.Filters.{mem-filter}
 use Rattle.ground.specs.Laws.Tests.{false_not}
 use Rattle.theory.specs.Comparison.{inners}
-use Rattle.theory.specs.Demands.{one_tree}
+use Rattle.theory.proofs.Demands.{one_tree}
 use Rattle.theory.specs.FarSides.{inner, own}
 use Rattle.theory.specs.Laws.Comparison.{split_length}
-use Rattle.theory.specs.Laws.OwnLinks.{own_not_inner}
-use Rattle.theory.specs.Laws.RowCount.{length_least, own-differ}
+use Rattle.theory.proofs.Laws.OwnLinks.{own_not_inner}
+use Rattle.theory.proofs.Laws.RowCount.{length_least, own-differ}
 use Rattle.theory.specs.LinkTables.{LinkTable, Row, far, fars}
 
 pub inner-most : (L n : ℕ) (T : List Row) → 3 ≤ n → LinkTable L n T → length (inners n (fars T)) + 3 ≤ n

@@ -1,12 +1,11 @@
 -- `far_end::far_end` meets its contract: before image w the farthest of the images from 1 on is found. Assumes nothing.
 use Rattle.std.proofs.Common.{rules}
 use Rattle.theory.specs.Tables.{cost}
-use Rattle.far_end.specs.Laws.FarEnd.{farther_lt, farthest_end, farthest-more, farthest_none}
+use Rattle.far_end.proofs.Laws.FarEnd.{farther_lt, farthest_end, farthest-more, farthest_none}
 use Rattle.far_end.proofs.far_end.Goals as goal
 
 pub loop-w-init : goal.loop-w-init
-loop-w-init c =
-    (search rules, search rules, farthest_none _, search rules)
+loop-w-init c = (search rules, search rules, farthest_none _, search rules)
 
 pub loop-w-preserved : goal.loop-w-preserved
 loop-w-preserved c =
@@ -20,5 +19,4 @@ loop-w-preserved c =
     )
 
 pub returns : goal.returns
-returns c =
-    farthest_end _ _ _ _ (search rules) (search rules) c.loop-w.invariant.2
+returns c = farthest_end _ _ _ _ (search rules) (search rules) c.loop-w.invariant.2

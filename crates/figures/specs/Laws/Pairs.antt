@@ -12,7 +12,7 @@ use Rattle.theory.specs.Comparison.{common, differing, inners}
 use Rattle.theory.specs.Laws.Comparison.{common_same}
 use Rattle.theory.specs.FarSides.{inner}
 use Rattle.theory.specs.LinkTables.{Row, fars}
-use Rattle.counts.specs.Laws.Formula.{filter_le}
+use Rattle.counts.proofs.Laws.Formula.{filter_le}
 use Rattle.figures.specs.Figures.{count_of, largest, neighbours, pairs_from}
 use Rattle.figures.specs.Pairing.{last_from, last_tree, pair_count}
 

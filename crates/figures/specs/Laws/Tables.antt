@@ -1,5 +1,5 @@
 -- The trees of the tables read, once a table more was read. Assumes nothing.
-use Rattle.std.specs.Prelude.{false, true, ◌&&◌, ◌≡◌, ℕ, ◌+◌}
+use Rattle.std.specs.Prelude.{false, true, ◌&&◌, ◌≡◌, ℕ}
 use mathlib.Core.List.Memᴰ
 use mathlib.Core.List.{List, [], append-nil, map, ◌++◌, ◌∷◌}
 use Rattle.std.proofs.Math.Path.{ap, refl, sym}
@@ -10,11 +10,12 @@ use borrow.Table.Steps.{cases}
 use Rattle.ground.specs.Filters.{Each}
 use Rattle.ground.specs.Laws.Filters.{filter-append, filter-mem, filter_none}
 use Rattle.ground.specs.Laws.Maps.{map-append, map-mem}
-use Rattle.theory.specs.Demands.{OneTree, measured_reading}
+use Rattle.theory.specs.Demands.{OneTree}
+use Rattle.theory.proofs.Demands.{measured_reading}
 use Rattle.theory.specs.FarSides.{inner, sides}
 use Rattle.theory.specs.LinkTables.{Row}
 use Rattle.theory.specs.Tables.{CostTable, cost}
-use Rattle.tree.specs.Laws.Exact.{readings_agree}
+use Rattle.tree.proofs.Laws.Exact.{readings_agree}
 use Rattle.seen.specs.Columns.{sides_in}
 use Rattle.seen.specs.Seen.{cost_sum, entries, in_some, in_trees, seen}
 use Rattle.figures.specs.Figures.{count_of, counts, entries_at, neighbours, sides_at}

@@ -5,8 +5,7 @@ use Rattle.filled_costs.specs.Laws.Filling.{rows_above, rows_end, rows_more, row
 use Rattle.filled_costs.proofs.fill.Goals as goal
 
 pub loop-i-init : goal.loop-i-init
-loop-i-init c =
-    (search rules, refl, rows_none _ _ _)
+loop-i-init c = (search rules, refl, rows_none _ _ _)
 
 pub fill_row-requires : goal.fill_row-requires
 fill_row-requires c =
@@ -29,5 +28,4 @@ loop-i-preserved c =
     )
 
 pub returns : goal.returns
-returns c =
-    rows_end _ _ c.loop-i.i _ _ (search rules) (search rules) c.loop-i.invariant.2
+returns c = rows_end _ _ c.loop-i.i _ _ (search rules) (search rules) c.loop-i.invariant.2

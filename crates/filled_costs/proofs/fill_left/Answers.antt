@@ -15,18 +15,19 @@ overflow_mul-start c =
     (omega (arith, r, c.requires.2), omega (arith, r, square_le c.requires.0)) in omega (arith, inside.1)
 
 pub loop-j-init : goal.loop-j-init
-loop-j-init c =
-    (search rules, refl, omega (arith, zero-mul c.args.n), listed_over_none _ _ _)
+loop-j-init c = (search rules, refl, omega (arith, zero-mul c.args.n), listed_over_none _ _ _)
 
 pub offset_bounds-out-above : goal.offset_bounds-out-above
 offset_bounds-out-above c =
     let inside : (c.args.i * c.args.n + c.args.n ≤ length c.args.out.now) × (c.args.i * c.args.n + c.args.n ≤ 4096) = let r = row_inside c.args.n c.args.i c.requires.1 in
-    (omega (arith, r, c.requires.2), omega (arith, r, square_le c.requires.0)) in let before-row : c.loop-j.j * c.args.n + c.args.i < c.args.i * c.args.n = digits_lt c.loop-j-test.true c.requires.1 in omega (arith, before-row, inside.1, c.loop-j.invariant.2)
+    (omega (arith, r, c.requires.2), omega (arith, r, square_le c.requires.0)) in
+    let before-row : c.loop-j.j * c.args.n + c.args.i < c.args.i * c.args.n = digits_lt c.loop-j-test.true c.requires.1 in omega (arith, before-row, inside.1, c.loop-j.invariant.2)
 
 pub bounds-out-above : goal.bounds-out-above
 bounds-out-above c =
     let inside : (c.args.i * c.args.n + c.args.n ≤ length c.args.out.now) × (c.args.i * c.args.n + c.args.n ≤ 4096) = let r = row_inside c.args.n c.args.i c.requires.1 in
-    (omega (arith, r, c.requires.2), omega (arith, r, square_le c.requires.0)) in let before-row : c.loop-j.j * c.args.n + c.args.i < c.args.i * c.args.n = digits_lt c.loop-j-test.true c.requires.1 in omega (arith, before-row, inside.0, c.loop-j.invariant.1, c.loop-j.invariant.2)
+    (omega (arith, r, c.requires.2), omega (arith, r, square_le c.requires.0)) in
+    let before-row : c.loop-j.j * c.args.n + c.args.i < c.args.i * c.args.n = digits_lt c.loop-j-test.true c.requires.1 in omega (arith, before-row, inside.0, c.loop-j.invariant.1, c.loop-j.invariant.2)
 
 pub overflow_add-out : goal.overflow_add-out
 overflow_add-out c =
@@ -46,12 +47,15 @@ bounds-out-start c =
 pub overflow_add-above : goal.overflow_add-above
 overflow_add-above c =
     let inside : (c.args.i * c.args.n + c.args.n ≤ length c.args.out.now) × (c.args.i * c.args.n + c.args.n ≤ 4096) = let r = row_inside c.args.n c.args.i c.requires.1 in
-    (omega (arith, r, c.requires.2), omega (arith, r, square_le c.requires.0)) in let before-row : c.loop-j.j * c.args.n + c.args.i < c.args.i * c.args.n = digits_lt c.loop-j-test.true c.requires.1 in omega (arith, before-row, inside.1, c.loop-j.invariant.2)
+    (omega (arith, r, c.requires.2), omega (arith, r, square_le c.requires.0)) in
+    let before-row : c.loop-j.j * c.args.n + c.args.i < c.args.i * c.args.n = digits_lt c.loop-j-test.true c.requires.1 in omega (arith, before-row, inside.1, c.loop-j.invariant.2)
 
 pub loop-j-preserved : goal.loop-j-preserved
 loop-j-preserved c =
     let inside : (c.args.i * c.args.n + c.args.n ≤ length c.args.out.now) × (c.args.i * c.args.n + c.args.n ≤ 4096) = let r = row_inside c.args.n c.args.i c.requires.1 in
-    (omega (arith, r, c.requires.2), omega (arith, r, square_le c.requires.0)) in let before-row : c.loop-j.j * c.args.n + c.args.i < c.args.i * c.args.n = digits_lt c.loop-j-test.true c.requires.1 in let a = c.args in
+    (omega (arith, r, c.requires.2), omega (arith, r, square_le c.requires.0)) in
+    let before-row : c.loop-j.j * c.args.n + c.args.i < c.args.i * c.args.n = digits_lt c.loop-j-test.true c.requires.1 in
+    let a = c.args in
     let l = c.loop-j in
     let r = inside in
     let column : ℕ → ℕ = λ k. cost a.out.now a.n k a.i in
@@ -67,5 +71,4 @@ loop-j-preserved c =
     )
 
 pub returns : goal.returns
-returns c =
-    listed_over_end _ _ c.loop-j.j _ _ _ (search rules) (search rules) c.loop-j.invariant.3
+returns c = listed_over_end _ _ c.loop-j.j _ _ _ (search rules) (search rules) c.loop-j.invariant.3

@@ -8,13 +8,13 @@ use Rattle.bits.specs.Laws.Places.{listed_over_end, listed_over_more, listed_ove
 use Rattle.filled_costs.proofs.fill_right.Goals as goal
 
 pub loop-k-init : goal.loop-k-init
-loop-k-init c =
-    (search rules, refl, omega (arith, mul-zero c.args.w), listed_over_none _ _ _)
+loop-k-init c = (search rules, refl, omega (arith, mul-zero c.args.w), listed_over_none _ _ _)
 
 pub entry_at-requires : goal.entry_at-requires
 entry_at-requires c =
     let ends : c.args.position + c.args.w * c.loop-k.k + c.args.w
-    ≤ c.args.position + c.args.w * c.args.count = let a = c.args in field_end a.position a.w a.count c.loop-k.k c.loop-k-test.true in let s = c.requires.0 in
+    ≤ c.args.position + c.args.w * c.args.count = let a = c.args in field_end a.position a.w a.count c.loop-k.k c.loop-k-test.true in
+    let s = c.requires.0 in
     let l = c.loop-k.invariant in
     (s.narrow, record { width = omega (arith, s.narrow); within = omega (arith, ends, s.within, l.2); counted = omega (arith, ends, s.counted, l.2) })
 
@@ -38,5 +38,4 @@ loop-k-preserved c =
     )
 
 pub returns : goal.returns
-returns c =
-    listed_over_end _ _ c.loop-k.k _ _ _ (search rules) (search rules) c.loop-k.invariant.3
+returns c = listed_over_end _ _ c.loop-k.k _ _ _ (search rules) (search rules) c.loop-k.invariant.3

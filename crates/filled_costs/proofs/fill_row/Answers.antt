@@ -40,7 +40,8 @@ overflow_add-i-3 c =
 pub fill_right-requires : goal.fill_right-requires
 fill_right-requires c =
     let inside : (c.args.i * c.args.n + c.args.n ≤ length c.args.out.now) × (c.args.i * c.args.n + c.args.n ≤ 4096) = let r = row_inside c.args.n c.args.i c.requires.1 in
-    (omega (arith, r, c.requires.2), omega (arith, r, square_le c.requires.0.small.few)) in let a = c.args in (
+    (omega (arith, r, c.requires.2), omega (arith, r, square_le c.requires.0.small.few)) in
+    let a = c.args in (
       rw c.row_at-p.ensures (row_span a.form a.n a.i (length a.bytes.now) c.requires.0 c.requires.1),
       omega (arith, c.requires.1, inside.1),
       simp length-set (omega (arith, c.requires.1, inside.0, c.fill_left.auto.out)),
@@ -54,7 +55,8 @@ shape_of-out c =
 pub returns : goal.returns
 returns c =
     let inside : (c.args.i * c.args.n + c.args.n ≤ length c.args.out.now) × (c.args.i * c.args.n + c.args.n ≤ 4096) = let r = row_inside c.args.n c.args.i c.requires.1 in
-    (omega (arith, r, c.requires.2), omega (arith, r, square_le c.requires.0.small.few)) in let a = c.args in
+    (omega (arith, r, c.requires.2), omega (arith, r, square_le c.requires.0.small.few)) in
+    let a = c.args in
     row-filled (entry_of a.form a.bytes.now) a.n a.i (field_value (bits a.bytes.now) c.row_at-p.result a.form.width) a.out.now
     c.fill_left.new.out _
     c.requires.1 inside.0 c.fill_left.auto.out c.requires.3 c.fill_left.ensures

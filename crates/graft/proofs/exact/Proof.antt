@@ -2,7 +2,7 @@
 use mathlib.Core.Path.{sym, ◌∙◌}
 use borrow.Author.Rules.{rules}
 use Rattle.theory.specs.Tables.{limit}
-use Rattle.tree.specs.Laws.Writing.{measured-passed}
+use Rattle.tree.proofs.Laws.Writing.{measured-passed}
 use Rattle.graft.specs.Laws.Answer.{exact_read, exact_refused}
 use Rattle.graft.proofs.exact.Statement.{statement}
 use Rattle.graft.proofs.exact.Tie as tie

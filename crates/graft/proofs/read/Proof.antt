@@ -5,7 +5,7 @@ use native.Mathlib.Omega.{arith}
 use lib.ListN.{length-replicate, replicate}
 use borrow.Author.Rules.{rules}
 use Rattle.theory.specs.Tables.{cost}
-use Rattle.recognition.specs.Laws.Seats.{order_ordered}
+use Rattle.recognition.proofs.Laws.Seats.{order_ordered}
 use Rattle.recognition.specs.Seats.{Ordered}
 use Rattle.graft.specs.Laws.Answer.{read_refused, read_written}
 use Rattle.graft.proofs.read.Statement.{statement}

@@ -8,19 +8,19 @@ use Rattle.ground.specs.declared.Check.TheVariants.{Passed, Refused}
 use Rattle.ground.specs.declared.Refusal.{Refusal}
 use Rattle.ground.specs.declared.Written.{Written}
 use Rattle.ground.specs.declared.Written.TheVariants as written
-use Rattle.theory.specs.Demands.{measured_reading}
+use Rattle.theory.proofs.Demands.{measured_reading}
 use Rattle.theory.specs.Outcomes.{LeftRows}
 use Rattle.theory.specs.Tables.{CostTable, cost, limit}
 use Rattle.wiring.specs.Check.{wiring_check}
-use Rattle.wiring.specs.Promises.{wiring_passed}
+use Rattle.wiring.proofs.Promises.{wiring_passed}
 use Rattle.tree.specs.Exact.{exact_rows}
-use Rattle.tree.specs.Laws.Exact.{readings_agree}
+use Rattle.tree.proofs.Laws.Exact.{readings_agree}
 use Rattle.tree.specs.Laws.LocalRows.{rows_in-length}
-use Rattle.tree.specs.Laws.Writing.{left_written, rows-over}
+use Rattle.tree.proofs.Laws.Writing.{left_written, rows-over}
 use Rattle.tree.specs.LocalRows.{rows_in}
 use Rattle.tree.specs.Readings.{exact_outcome, measured_check, outcome}
 use Rattle.tree.specs.Writing.{RowsWritten}
-use Rattle.recognition.specs.Laws.Seats.{seats_condition}
+use Rattle.recognition.proofs.Laws.Seats.{seats_condition}
 use Rattle.recognition.specs.Recognition.{all_graft, placed}
 use Rattle.recognition.specs.Seats.{Ordered, Seated, seat}
 use Rattle.grafting.specs.Held.{TableGrafted}

@@ -6,8 +6,8 @@ use Rattle.ground.specs.Laws.Sums.{sum-append}
 use Rattle.theory.specs.LinkTables.{Row, all_costs}
 use Rattle.tree.specs.Laws.LocalRows.{rows_in-length, rows_in-more, rows_in_none}
 use Rattle.tree.specs.LocalRows.{rows_in}
-use Rattle.rows.specs.Laws.Places.{in_at}
-use Rattle.rows.specs.Laws.PutAll.{costly-append, costly-total, put_all-append, put_all-length, put_all-total}
+use Rattle.rows.proofs.Laws.Places.{in_at}
+use Rattle.rows.proofs.Laws.PutAll.{costly-append, costly-total, put_all-append, put_all-length, put_all-total}
 use Rattle.rows.specs.Putting.{CloseRow, PutRoom, rows_from}
 use Rattle.rows.specs.Rows.{costly, put_all}
 use Rattle.path_cuts.specs.Cuts.{closed}

@@ -9,14 +9,14 @@ use Rattle.ground.specs.Sums.{sum, when}
 use Rattle.theory.specs.FarSides.{inner, own}
 use Rattle.theory.specs.Laws.FarSides.{far_image}
 use Rattle.theory.specs.Laws.Nested.{bit-holds, bit_holds_not, uncrossed_nested}
-use Rattle.theory.specs.Laws.OnlyOne.{unique}
-use Rattle.theory.specs.Laws.Paths.{path_same}
+use Rattle.theory.proofs.Laws.OnlyOne.{unique}
+use Rattle.theory.proofs.Laws.Paths.{path_same}
 use Rattle.theory.specs.LinkTables.{LinkTable, Row, apart, path}
 use Rattle.theory.specs.Readings.{Exact, Meets, measured}
 use Rattle.theory.specs.Tables.{WellFormed}
 use Rattle.recognition.specs.Recognition.{Places, Recognised, placed}
-use Rattle.rows.specs.Laws.Put.{Costs}
-use Rattle.rows.specs.Laws.PutAll.{costly-sum, put_all_between, put_all-costs, put_all_keeps, put_all-sum}
+use Rattle.rows.proofs.Laws.Put.{Costs}
+use Rattle.rows.proofs.Laws.PutAll.{costly-sum, put_all_between, put_all-costs, put_all_keeps, put_all-sum}
 use Rattle.rows.specs.Rows.{cost_if, costly}
 use Rattle.path_cuts.specs.Cuts.{height}
 use Rattle.grafting.specs.Grafting.{closed_to, grafted, own_rows, path_to, table_to}

@@ -11,7 +11,7 @@ use Rattle.tree.specs.Laws.LocalRows.{rows_in-length, rows_in_none}
 use Rattle.tree.specs.LocalRows.{rows_in}
 use Rattle.recognition.specs.Recognition.{Places, placed}
 use Rattle.recognition.specs.Seats.{seat}
-use Rattle.rows.specs.Laws.PutAll.{costly-append, costly-total}
+use Rattle.rows.proofs.Laws.PutAll.{costly-append, costly-total}
 use Rattle.rows.specs.Rows.{costly, put_all}
 use Rattle.path_cuts.specs.Cuts.{closed, height, kept, own_cost}
 use Rattle.grafting.specs.Grafting.{grafted, path_to}

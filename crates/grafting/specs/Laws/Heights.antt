@@ -5,7 +5,7 @@ use Rattle.std.proofs.lemmas.Bool.{eqb-false}
 use Rattle.std.proofs.Common.{eqb-true}
 use borrow.Table.Steps.{cases}
 use Rattle.theory.specs.FourPoint.{FourPoint}
-use Rattle.theory.specs.Laws.FourPoint.{four_low}
+use Rattle.theory.proofs.Laws.FourPoint.{four_low}
 use Rattle.theory.specs.Tables.{WellFormed}
 use Rattle.path_cuts.specs.Cuts.{height, own_cost}
 use Rattle.recognition.specs.Recognition.{Recognised}

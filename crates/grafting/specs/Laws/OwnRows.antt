@@ -13,9 +13,9 @@ use Rattle.ground.specs.Laws.Ranges.{from-length, from-mem, mem-from}
 use Rattle.ground.specs.Ranges.{from}
 use Rattle.ground.specs.Sums.{sum}
 use Rattle.theory.specs.FarSides.{inner, own}
-use Rattle.theory.specs.Laws.OwnLinks.{own_not_inner}
+use Rattle.theory.proofs.Laws.OwnLinks.{own_not_inner}
 use Rattle.theory.specs.LinkTables.{Row, all_costs, far, fars}
-use Rattle.rows.specs.Laws.Put.{Costs}
+use Rattle.rows.proofs.Laws.Put.{Costs}
 use Rattle.rows.specs.Rows.{cost_if}
 use Rattle.grafting.specs.Grafting.{own_rows}
 

@@ -3,8 +3,8 @@ use Rattle.std.specs.Prelude.{true, ◌≡◌, suc, zero, ℕ, ◌-◌, ◌≤�
 use Rattle.std.proofs.Common.{ap, subst, sym, ◌∙◌, arith}
 use Rattle.theory.specs.Readings.{Exact, measured}
 use Rattle.theory.specs.Tables.{WellFormed}
-use Rattle.recognition.specs.Laws.Condition.{placed_formed}
-use Rattle.recognition.specs.Laws.Facts.{graft_facts}
+use Rattle.recognition.proofs.Laws.Condition.{placed_formed}
+use Rattle.recognition.proofs.Laws.Facts.{graft_facts}
 use Rattle.recognition.specs.Recognition.{Places, all_graft, placed}
 use Rattle.grafting.specs.Grafting.{grafted}
 use Rattle.grafting.specs.Laws.Grafted.{grafted_exact, grafted-measured}

@@ -9,7 +9,7 @@ use Rattle.ground.specs.Filters.{Each}
 use Rattle.ground.specs.Laws.Sums.{sum-append}
 use Rattle.theory.specs.LinkTables.{Row, all_costs, far}
 use Rattle.theory.specs.Tables.{limit}
-use Rattle.rows.specs.Laws.PutAll.{costly-append, costly-total, put_all-append, put_all-length, put_all-total}
+use Rattle.rows.proofs.Laws.PutAll.{costly-append, costly-total, put_all-append, put_all-length, put_all-total}
 use Rattle.rows.specs.Rows.{costly, put_all}
 use Rattle.path_cuts.specs.Cuts.{closed, height, kept, own_cost}
 use Rattle.grafting.specs.Grafting.{closed_to, own_rows, path_to, table_to}

@@ -16,12 +16,12 @@ use Rattle.ground.specs.Ranges.{from}
 use Rattle.theory.specs.FarSides.{FarSide, inner}
 use Rattle.theory.specs.Index.{AtLeast}
 use Rattle.theory.specs.Laws.Nested.{Uncrossed, uncrossed_sym}
-use Rattle.theory.specs.Laws.OneTree.{low_uncrossed}
-use Rattle.theory.specs.Laws.OwnLinks.{own-far, own_not_inner, own_uncrossed}
+use Rattle.theory.proofs.Laws.OneTree.{low_uncrossed}
+use Rattle.theory.proofs.Laws.OwnLinks.{own-far, own_not_inner, own_uncrossed}
 use Rattle.theory.specs.LinkTables.{Row, far}
 use Rattle.theory.specs.Tables.{WellFormed}
 use Rattle.recognition.specs.Recognition.{Places, Recognised, placed}
-use Rattle.rows.specs.Laws.PutAll.{put_all-sides}
+use Rattle.rows.proofs.Laws.PutAll.{put_all-sides}
 use Rattle.rows.specs.Rows.{costly}
 use Rattle.path_cuts.specs.Cuts.{closed, height}
 use Rattle.grafting.specs.Grafting.{closed_to, grafted, own_rows, path_to, table_to}

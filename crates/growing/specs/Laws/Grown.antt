@@ -6,9 +6,9 @@ use Rattle.ground.specs.Filters.{filter, keep}
 use Rattle.ground.specs.Laws.Tests.{false_not, or_l}
 use Rattle.theory.specs.FarSides.{inner}
 use Rattle.theory.specs.OneMore.{more, stays}
-use Rattle.theory.specs.Laws.OwnLinks.{own_not_inner}
-use Rattle.theory.specs.Laws.ReadingGrows.{measured-step}
-use Rattle.theory.specs.Laws.RowsGrow.{rows-most}
+use Rattle.theory.proofs.Laws.OwnLinks.{own_not_inner}
+use Rattle.theory.proofs.Laws.ReadingGrows.{measured-step}
+use Rattle.theory.proofs.Laws.RowsGrow.{rows-most}
 use Rattle.theory.specs.LinkTables.{Row}
 use Rattle.theory.specs.Readings.{measured}
 use Rattle.theory.specs.Tables.{WellFormed}

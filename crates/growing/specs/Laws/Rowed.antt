@@ -7,8 +7,8 @@ use Rattle.ground.specs.Ascending.{Between}
 use Rattle.ground.specs.Laws.Maps.{map-mem}
 use Rattle.theory.specs.FarSides.{FarSide}
 use Rattle.theory.specs.Laws.Nested.{uncrossed_nested}
-use Rattle.theory.specs.Laws.OneTree.{drawn_uncrossed, fars-measured, rows_between, rows-far}
-use Rattle.theory.specs.Laws.RowsGrow.{rows-most}
+use Rattle.theory.proofs.Laws.OneTree.{drawn_uncrossed, fars-measured, rows_between, rows-far}
+use Rattle.theory.proofs.Laws.RowsGrow.{rows-most}
 use Rattle.theory.specs.LinkTables.{Row, far, fars}
 use Rattle.theory.specs.Readings.{drawn, row, rows}
 use Rattle.theory.specs.Tables.{WellFormed}

@@ -2,12 +2,11 @@
 use Rattle.std.proofs.Common.{sym, ◌∙◌}
 use Rattle.ground.specs.Laws.Refusals.{then_goes, then_stops}
 use Rattle.tables.specs.Formed.{Sized}
-use Rattle.tables.specs.Laws.Formed.{size-passed}
+use Rattle.tables.proofs.Laws.Formed.{size-passed}
 use Rattle.index.proofs.check_index.Goals as goal
 
 pub returns-in_default : goal.returns-in_default
-returns-in_default c =
-    then_stops _ _ c.in_default.is c.check_size-c.ensures
+returns-in_default c = then_stops _ _ c.in_default.is c.check_size-c.ensures
 
 pub check_costs-e-requires : goal.check_costs-e-requires
 check_costs-e-requires c =

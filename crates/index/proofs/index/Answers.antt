@@ -3,8 +3,8 @@ use Rattle.std.proofs.Common.{sym, ◌∙◌}
 use mir.Facts.{to_z-of_z}
 use mir.Syntax.{w64}
 use Rattle.ground.specs.Laws.Refusals.{if_stops}
-use Rattle.index.specs.Laws.Passed.{index-passed}
-use Rattle.index.specs.Laws.Value.{value_answered}
+use Rattle.index.proofs.Laws.Passed.{index-passed}
+use Rattle.index.proofs.Laws.Value.{value_answered}
 use Rattle.theory.specs.Tables.{limit}
 use Rattle.ground.specs.declared.SignedAnswer.TheVariants as answer
 use Rattle.index.proofs.index.Goals as goal
@@ -14,8 +14,7 @@ shifted_index-requires c =
     let a = (index-passed limit _ _ _).0 (sym c.check_index-c.ensures ∙ c.in-Passed.is) in (a.table, a.side)
 
 pub returns-in-Refused : goal.returns-in-Refused
-returns-in-Refused c =
-    if_stops answer.Refused _ _ c.in-Refused.is c.check_index-c.ensures
+returns-in-Refused c = if_stops answer.Refused _ _ c.in-Refused.is c.check_index-c.ensures
 
 pub returns-in-Passed : goal.returns-in-Passed
 returns-in-Passed c =

@@ -4,12 +4,10 @@ use Rattle.ground.specs.Laws.Shifts.{all_within, beyond}
 use Rattle.index.proofs.is_bad_far_side.Goals as goal
 
 pub returns-then-s-eq0 : goal.returns-then-s-eq0
-returns-then-s-eq0 c =
-    rw (eq-eqb _ _ c.if-s-eq0.true)
+returns-then-s-eq0 c = rw (eq-eqb _ _ c.if-s-eq0.true)
 
 pub returns-then-side-eq1 : goal.returns-then-side-eq1
-returns-then-side-eq1 c =
-    rw (ne_eqb _ _ c.if-s-eq0.false, eq-eqb _ _ (sym c.side.ensures ∙ c.if-side-eq1.true))
+returns-then-side-eq1 c = rw (ne_eqb _ _ c.if-s-eq0.false, eq-eqb _ _ (sym c.side.ensures ∙ c.if-side-eq1.true))
 
 pub returns-then-n-eq64 : goal.returns-then-n-eq64
 returns-then-n-eq64 c =

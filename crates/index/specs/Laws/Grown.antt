@@ -6,9 +6,9 @@ use Rattle.ground.specs.Laws.Bits.{bit_lt}
 use Rattle.theory.specs.FarSides.{FarSide}
 use Rattle.theory.specs.Index.{shifted}
 use Rattle.theory.specs.OneMore.{brought_fast}
-use Rattle.theory.specs.Laws.FewSteps.{brought_fast_lem}
-use Rattle.theory.specs.Laws.FourPoint.{well_formed_less}
-use Rattle.theory.specs.Laws.OneMore.{shifted-more, shifted_none}
+use Rattle.theory.proofs.Laws.FewSteps.{brought_fast_lem}
+use Rattle.theory.proofs.Laws.FourPoint.{well_formed_less}
+use Rattle.theory.proofs.Laws.OneMore.{shifted-more, shifted_none}
 use Rattle.theory.specs.Tables.{WellFormed}
 
 module _ (L : ℕ) (d : ℕ → ℕ → ℕ) (n S : ℕ) (c : WellFormed L d n) where

@@ -4,12 +4,10 @@ use Rattle.ground.specs.Laws.Least.{least_on_end, least_on_none, least_on-turn}
 use Rattle.index_more.proofs.least_side.Goals as goal
 
 pub loop-i-init : goal.loop-i-init
-loop-i-init c =
-    (search rules, least_on_none _ _ _ _)
+loop-i-init c = (search rules, least_on_none _ _ _ _)
 
 pub image_at-requires : goal.image_at-requires
-image_at-requires c =
-    omega (arith, c.requires.1.room)
+image_at-requires c = omega (arith, c.requires.1.room)
 
 pub turn_side-best-requires : goal.turn_side-best-requires
 turn_side-best-requires c =
@@ -21,5 +19,4 @@ loop-i-preserved c =
     (search rules, least_on-turn _ _ _ _ _ c.loop-i.invariant.1 (rw c.image_at.ensures at c.turn_side-best.ensures))
 
 pub returns : goal.returns
-returns c =
-    least_on_end _ _ _ _ _ _ (search rules) (search rules) c.loop-i.invariant.1
+returns c = least_on_end _ _ _ _ _ _ (search rules) (search rules) c.loop-i.invariant.1

@@ -4,12 +4,10 @@ use Rattle.ground.specs.Laws.Least.{least_on_cap, least_on_end, least_on_none, l
 use Rattle.index_more.proofs.near.Goals as goal
 
 pub loop-i-init : goal.loop-i-init
-loop-i-init c =
-    (search rules, least_on_none _ _ _ _)
+loop-i-init c = (search rules, least_on_none _ _ _ _)
 
 pub image_at-requires : goal.image_at-requires
-image_at-requires c =
-    omega (arith, c.requires.1.room)
+image_at-requires c = omega (arith, c.requires.1.room)
 
 pub turn_near-best-requires : goal.turn_near-best-requires
 turn_near-best-requires c =

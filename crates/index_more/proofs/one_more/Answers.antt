@@ -21,13 +21,15 @@ sides-count-requires c =
 pub least_more-requires : goal.least_more-requires
 least_more-requires c =
     let split : let a = c.args in BothSides (bit a.s) (bit a.s a.k) (a.k + 1) c.sides-count.result
-    c.sides-count.new.own c.sides-count.new.other = rw c.side.ensures at c.sides-count.ensures in let p = c.requires in
+    c.sides-count.new.own c.sides-count.new.other = rw c.side.ensures at c.sides-count.ensures in
+    let p = c.requires in
     let q = split in
     (p.0, images_wider _ _ _ _ (omega arith) q.mine.images, images_wider _ _ _ _ (omega arith) q.rest.images, p.1)
 
 pub returns : goal.returns
 returns c =
     let split : let a = c.args in BothSides (bit a.s) (bit a.s a.k) (a.k + 1) c.sides-count.result
-    c.sides-count.new.own c.sides-count.new.other = rw c.side.ensures at c.sides-count.ensures in let brought : let a = c.args in c.least_more.result ≡ brought_fast limit
+    c.sides-count.new.own c.sides-count.new.other = rw c.side.ensures at c.sides-count.ensures in
+    let brought : let a = c.args in c.least_more.result ≡ brought_fast limit
     (cost a.t.now a.n) a.k (bit a.s) = let a = c.args in
     c.least_more.ensures ∙ more-at limit _ a.k (bit a.s) _ _ _ (bit_lt a.s a.k) split in omega (arith, c.lower.ensures, brought)

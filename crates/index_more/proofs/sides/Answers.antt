@@ -4,8 +4,7 @@ use Rattle.index_more.specs.Laws.Sides.{split_none}
 use Rattle.index_more.proofs.sides.Goals as goal
 
 pub loop-b-init : goal.loop-b-init
-loop-b-init c =
-    (search rules, search rules, search rules, split_none _ _ _ _)
+loop-b-init c = (search rules, search rules, search rules, split_none _ _ _ _)
 
 pub returns : goal.returns
 returns c =

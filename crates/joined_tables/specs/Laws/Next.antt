@@ -4,7 +4,7 @@ use Rattle.std.proofs.Common.{ap, subst, sym, ◌∙◌, arith, length-take, len
 use Rattle.ground.specs.Refusals.{refusal, refuse_if, ◌then◌}
 use Rattle.ground.specs.Laws.Refusals.{refuse_if-passed, then_passed}
 use Rattle.ground.specs.declared.Check.TheVariants.{Passed}
-use Rattle.theory.specs.Laws.RowCount.{row_count}
+use Rattle.theory.proofs.Laws.RowCount.{row_count}
 use Rattle.theory.specs.LinkTables.{rows_of}
 use Rattle.theory.specs.Tables.{limit}
 use Rattle.links.specs.Checks.{count_checks, length_checks, row_checks, size_checks}

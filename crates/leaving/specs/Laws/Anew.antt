@@ -4,14 +4,14 @@ use Rattle.std.proofs.Common.{sym, ◌∙◌}
 use Rattle.ground.specs.Buffers.{front}
 use Rattle.ground.specs.declared.Check.TheVariants.{Passed}
 use Rattle.ground.specs.declared.Written.TheVariants.{Places}
-use Rattle.theory.specs.Laws.OnlyOne.{unique}
+use Rattle.theory.proofs.Laws.OnlyOne.{unique}
 use Rattle.theory.specs.LinkTables.{Row, costs, fars}
 use Rattle.theory.specs.Outcomes.{LeftRows}
 use Rattle.theory.specs.Readings.{Exact}
 use Rattle.theory.specs.Tables.{WellFormed}
 use Rattle.tree.specs.Exact.{Wired, exact_rows}
-use Rattle.tree.specs.Laws.Exact.{exact_check_lem, exact_rows_lem, table-passed, wired_exactly}
-use Rattle.tree.specs.Laws.Writing.{exact_ready}
+use Rattle.tree.proofs.Laws.Exact.{exact_check_lem, exact_rows_lem, table-passed, wired_exactly}
+use Rattle.tree.proofs.Laws.Writing.{exact_ready}
 use Rattle.tree.specs.Readings.{exact_check, exact_outcome}
 use Rattle.leaving.specs.Laws.Table.{table_exact, table_formed}
 use Rattle.leaving.specs.Replay.{table_of}

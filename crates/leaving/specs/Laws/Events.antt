@@ -9,7 +9,7 @@ use Rattle.theory.specs.Tables.{limit}
 use Rattle.tree.specs.LocalRows.{rows_in}
 use Rattle.mending.specs.Leaving.{mend}
 use Rattle.mending.specs.Mending.{Kept}
-use Rattle.events.specs.Laws.{event_passed}
+use Rattle.events.proofs.Laws.{event_passed}
 use Rattle.leaving.specs.Laws.Replay.{replay_goes, replay_none, replay_stops}
 use Rattle.leaving.specs.Laws.Sound.{sound_kept}
 use Rattle.events.specs.Checks.{event_check}

@@ -7,12 +7,12 @@ use Rattle.ground.specs.declared.Check.TheVariants.{Passed, Refused}
 use Rattle.ground.specs.declared.Refusal.{Refusal}
 use Rattle.ground.specs.declared.Written.{Written}
 use Rattle.ground.specs.declared.Written.TheVariants as written
-use Rattle.theory.specs.Demands.{one_tree}
+use Rattle.theory.proofs.Demands.{one_tree}
 use Rattle.theory.specs.LinkTables.{Row}
 use Rattle.theory.specs.Outcomes.{LeftRows}
 use Rattle.theory.specs.Tables.{limit}
 use Rattle.tree.specs.Laws.LocalRows.{rows_in-length}
-use Rattle.tree.specs.Laws.Writing.{rows-over}
+use Rattle.tree.proofs.Laws.Writing.{rows-over}
 use Rattle.tree.specs.LocalRows.{rows_in}
 use Rattle.tree.specs.Readings.{exact_check, exact_outcome}
 use Rattle.leaving.specs.declared.Replayed.{Replayed}

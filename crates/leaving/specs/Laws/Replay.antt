@@ -5,12 +5,12 @@ use Rattle.std.proofs.Common.{sym, ◌∙◌, arith}
 use Rattle.ground.specs.declared.Check.{Check}
 use Rattle.ground.specs.declared.Check.TheVariants.{Passed, Refused}
 use Rattle.ground.specs.declared.Refusal.{Refusal}
-use Rattle.mending.specs.Laws.Mended.{leave_formed, mended_exact}
+use Rattle.mending.proofs.Laws.Mended.{leave_formed, mended_exact}
 use Rattle.mending.specs.Leaving.{leave, mend}
 use Rattle.theory.specs.LinkTables.{Row}
 use Rattle.theory.specs.Readings.{Exact}
 use Rattle.events.specs.Checks.{event_check}
-use Rattle.events.specs.Laws.{event_passed}
+use Rattle.events.proofs.Laws.{event_passed}
 use Rattle.leaving.specs.Replay.{Standing, after, replay}
 use Rattle.leaving.specs.Taken.{Ended, Taken, all, at}
 use Rattle.theory.specs.Tables.{WellFormed}

@@ -3,8 +3,8 @@ use mathlib.Core.List.Memᴰ
 use Rattle.std.specs.Prelude.{List, [], ◌∷◌, refl, suc, ℕ, ◌*◌, ◌+◌, ◌≤◌, get_or, length}
 use Rattle.std.proofs.Common.{arith}
 use Rattle.ground.specs.Filters.{Each}
-use Rattle.theory.specs.Demands.{one_tree}
-use Rattle.theory.specs.Laws.Paths.{row-far}
+use Rattle.theory.proofs.Demands.{one_tree}
+use Rattle.theory.proofs.Laws.Paths.{row-far}
 use Rattle.theory.specs.LinkTables.{Row, all_costs}
 use Rattle.theory.specs.Tables.{limit}
 use Rattle.tree.specs.Laws.Held.{rows_in-mem}
@@ -12,7 +12,7 @@ use Rattle.tree.specs.Laws.LocalRows.{rows_in-length}
 use Rattle.tree.specs.LocalRows.{rows_in}
 use Rattle.mending.specs.Leaving.{leave, mend}
 use Rattle.mending.specs.Mending.{Kept, Mendable}
-use Rattle.mending.specs.Promises.{mended}
+use Rattle.mending.proofs.Promises.{mended}
 use Rattle.leaving.specs.Standing.{Sound, SoundRows}
 
 -- all costs together

@@ -11,18 +11,18 @@ use Rattle.ground.specs.declared.Written.{Written}
 use Rattle.ground.specs.declared.Written.TheVariants.{Places}
 use Rattle.ground.specs.declared.Written.TheVariants as written
 use Rattle.tables.specs.Checks.{size_check}
-use Rattle.tables.specs.Laws.Formed.{size-passed}
+use Rattle.tables.proofs.Laws.Formed.{size-passed}
 use Rattle.theory.specs.Laws.JoinedRows.{rows_of-all}
 use Rattle.theory.specs.LinkTables.{rows_of}
 use Rattle.theory.specs.Outcomes.{LeftRows}
 use Rattle.theory.specs.Readings.{Exact}
 use Rattle.theory.specs.Tables.{cost, limit}
 use Rattle.tree.specs.Exact.{exact_rows}
-use Rattle.tree.specs.Laws.Exact.{exact_check_lem}
+use Rattle.tree.proofs.Laws.Exact.{exact_check_lem}
 use Rattle.tree.specs.Laws.LocalRows.{rows_in-costs, rows_in-fars}
-use Rattle.tree.specs.Laws.Writing.{left_stand}
+use Rattle.tree.proofs.Laws.Writing.{left_stand}
 use Rattle.tree.specs.LocalRows.{rows_in}
-use Rattle.tree.specs.Promises.{exact_answer}
+use Rattle.tree.proofs.Promises.{exact_answer}
 use Rattle.tree.specs.Readings.{exact_check, exact_outcome, outputs_room_check, short}
 use Rattle.tree.specs.Writing.{rows_left}
 use Rattle.leaving.specs.Standing.{SoundRows}

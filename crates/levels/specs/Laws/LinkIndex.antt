@@ -10,12 +10,12 @@ use Rattle.ground.specs.Least.{On}
 use Rattle.theory.specs.FarSides.{FarSide, holds, inner}
 use Rattle.theory.specs.Index.{AtLeast, clipped}
 use Rattle.theory.specs.Laws.FarSides.{far_image}
-use Rattle.theory.specs.Laws.Index.{clipped_low, low_clipped}
+use Rattle.theory.proofs.Laws.Index.{clipped_low, low_clipped}
 use Rattle.theory.specs.Laws.Nested.{holds_false, holds_true}
-use Rattle.theory.specs.Laws.OneTree.{drawn_cases, drawn_low, fars-drawn, fars-measured, index-drawn, rows-mem}
-use Rattle.theory.specs.Laws.OnlyOne.{unique}
-use Rattle.theory.specs.Laws.Paths.{row-far}
-use Rattle.theory.specs.Laws.Stable.{measured-cost}
+use Rattle.theory.proofs.Laws.OneTree.{drawn_cases, drawn_low, fars-drawn, fars-measured, index-drawn, rows-mem}
+use Rattle.theory.proofs.Laws.OnlyOne.{unique}
+use Rattle.theory.proofs.Laws.Paths.{row-far}
+use Rattle.theory.proofs.Laws.Stable.{measured-cost}
 use Rattle.theory.specs.LinkTables.{Row, cost_of, far, fars}
 use Rattle.theory.specs.Readings.{Exact}
 use Rattle.theory.specs.Tables.{WellFormed}

@@ -9,10 +9,10 @@ use Rattle.ground.specs.declared.Written.TheVariants.{Places}
 use Rattle.ground.specs.declared.Written.TheVariants as written
 use Rattle.theory.specs.Tables.{CostTable, cost, limit}
 use Rattle.leveling.specs.Check.{levels_check}
-use Rattle.leveling.specs.Promises.{levels_passed}
+use Rattle.leveling.proofs.Promises.{levels_passed}
 use Rattle.levels.specs.Groups.{groups, height, heights}
-use Rattle.levels.specs.Laws.Asked.{asked_checks}
-use Rattle.levels.specs.Laws.Count.{groups-most}
+use Rattle.levels.proofs.Laws.Asked.{asked_checks}
+use Rattle.levels.proofs.Laws.Count.{groups-most}
 use Rattle.levels.specs.Outcome.{LeftLevels, levels_checks, levels_outcome, outcome}
 use Rattle.listing_lines.specs.Lines.{refused_line}
 use Rattle.levels_text.specs.Laws.Lengths.{levels_most}

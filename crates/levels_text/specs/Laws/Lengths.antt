@@ -9,11 +9,11 @@ use Rattle.theory.specs.FarSides.{holds}
 use Rattle.theory.specs.Tables.{CostTable, WellFormed, cost, limit}
 use Rattle.leveling.specs.ThreePoint.{ThreePoint}
 use Rattle.levels.specs.Groups.{groups, height, heights}
-use Rattle.levels.specs.Laws.Count.{groups-most}
+use Rattle.levels.proofs.Laws.Count.{groups-most}
 use Rattle.levels.specs.Laws.Heights.{height_le}
 use Rattle.text.specs.Fields.{fields}
-use Rattle.text.specs.Laws.Lengths.{field-most}
-use Rattle.text.specs.Laws.Numbers.{decimal-most}
+use Rattle.text.proofs.Laws.Lengths.{field-most}
+use Rattle.text.proofs.Laws.Numbers.{decimal-most}
 use Rattle.text.specs.Putting.{Fits}
 use Rattle.text.specs.Words.{bytes_of}
 use Rattle.listing_lines.specs.Laws.Lengths.{refused-most}

@@ -9,8 +9,7 @@ use Rattle.link_forms.specs.Sizes.{last_row_end}
 use Rattle.link_forms.proofs.fill.Goals as goal
 
 pub loop-k-init : goal.loop-k-init
-loop-k-init c =
-    (search rules, refl, refl, listed_front_none _ _, listed_front_none _ _)
+loop-k-init c = (search rules, refl, refl, listed_front_none _ _, listed_front_none _ _)
 
 pub row_at-p-requires : goal.row_at-p-requires
 row_at-p-requires c =
@@ -24,13 +23,13 @@ far_at-requires c =
     let h = c.requires.0 in
     let k = c.loop-k.k in
     let e = row_within a.form a.n a.count k c.loop-k-test.true in
-    (omega (arith, c.row_at-p.ensures, e, h.within), omega (arith, c.row_at-p.ensures, e, end_le a.form a.n a.count h.small)) in let h = c.requires.0.small in
+    (omega (arith, c.row_at-p.ensures, e, h.within), omega (arith, c.row_at-p.ensures, e, end_le a.form a.n a.count h.small)) in
+    let h = c.requires.0.small in
     let p = placed in
     (omega (arith, h.some), h.few, omega (arith, p.0), omega (arith, p.1))
 
 pub overflow_sub-n : goal.overflow_sub-n
-overflow_sub-n c =
-    omega (arith, c.requires.0.small.some)
+overflow_sub-n c = omega (arith, c.requires.0.small.some)
 
 pub overflow_add-p : goal.overflow_add-p
 overflow_add-p c =
@@ -48,7 +47,8 @@ cost_at-requires c =
     let h = c.requires.0 in
     let k = c.loop-k.k in
     let e = row_within a.form a.n a.count k c.loop-k-test.true in
-    (omega (arith, c.row_at-p.ensures, e, h.within), omega (arith, c.row_at-p.ensures, e, end_le a.form a.n a.count h.small)) in let h = c.requires.0.small in
+    (omega (arith, c.row_at-p.ensures, e, h.within), omega (arith, c.row_at-p.ensures, e, end_le a.form a.n a.count h.small)) in
+    let h = c.requires.0.small in
     let p = placed in
     (h.narrow, omega (arith, p.0), omega (arith, p.1))
 

@@ -4,5 +4,4 @@ use Rattle.link_forms.proofs.images.Goals as goal
 
 pub returns : goal.returns
 unfolding images_of
-returns c =
-    c.get.ensures
+returns c = c.get.ensures

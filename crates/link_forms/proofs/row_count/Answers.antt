@@ -4,5 +4,4 @@ use Rattle.link_forms.proofs.row_count.Goals as goal
 
 pub returns : goal.returns
 unfolding count_of
-returns c =
-    c.get.ensures
+returns c = c.get.ensures

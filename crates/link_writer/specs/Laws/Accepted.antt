@@ -4,7 +4,7 @@ use Rattle.std.proofs.Common.{sym, arith, le-ltb}
 use Rattle.ground.specs.Refusals.{room_check, ◌then◌}
 use Rattle.ground.specs.Laws.Refusals.{then_passed}
 use Rattle.ground.specs.declared.Check.TheVariants.{Passed}
-use Rattle.theory.specs.Laws.RowCount.{row_count}
+use Rattle.theory.proofs.Laws.RowCount.{row_count}
 use Rattle.theory.specs.LinkTables.{rows_of}
 use Rattle.theory.specs.Tables.{limit}
 use Rattle.link_writer.specs.Laws.Fitting.{links_narrow, links_wide, passed_fit}
@@ -13,7 +13,7 @@ use Rattle.links.specs.Checks.{row_checks, size_checks}
 use Rattle.links.specs.Links.{Links}
 use Rattle.links.specs.Laws.LinkChecks.{link_checks_lem, rows-length}
 use Rattle.link_forms.specs.Form.{link_used}
-use Rattle.stored_links.specs.Laws.Passed.{room-passed}
+use Rattle.stored_links.proofs.Laws.Passed.{room-passed}
 use Rattle.link_forms.specs.Sizes.{Small}
 use Rattle.bits.specs.declared.Form.{Form}
 

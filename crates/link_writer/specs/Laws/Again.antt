@@ -9,7 +9,7 @@ use Rattle.link_writer.specs.Laws.Accepted.{passed_write}
 use Rattle.link_writer.specs.Writing.{write_outcome}
 use Rattle.links.specs.Links.{Links}
 use Rattle.link_forms.specs.Form.{link_bytes, link_used}
-use Rattle.stored_links.specs.Laws.ReadAt.{used_bytes}
+use Rattle.stored_links.proofs.Laws.ReadAt.{used_bytes}
 use Rattle.stored_links.specs.Laws.WriteBack.{read_links}
 use Rattle.link_forms.specs.Said.{costs_of, fars_of}
 use Rattle.bits.specs.declared.Form.{Form}

@@ -13,8 +13,7 @@ overflow_sub-n c =
     let inside : let n = c.args.n in (3 ≤ n) × (n ≤ 64) = images-passed _ (sym c.check_images-images.ensures ∙ c.in-Passed.is) in omega (arith, inside)
 
 pub returns-in-Refused : goal.returns-in-Refused
-returns-in-Refused c =
-    then_stops _ _ c.in-Refused.is c.check_images-images.ensures
+returns-in-Refused c = then_stops _ _ c.in-Refused.is c.check_images-images.ensures
 
 pub returns-in-Passed : goal.returns-in-Passed
 returns-in-Passed c =

@@ -3,9 +3,7 @@ use Rattle.ground.specs.Laws.Refusals.{then_goes, then_stops}
 use Rattle.links.proofs.check_rows_size.Goals as goal
 
 pub returns-in-Refused : goal.returns-in-Refused
-returns-in-Refused c =
-    then_stops _ _ c.in-Refused.is c.check_count-counts.ensures
+returns-in-Refused c = then_stops _ _ c.in-Refused.is c.check_count-counts.ensures
 
 pub returns-in-Passed : goal.returns-in-Passed
-returns-in-Passed c =
-    then_goes _ _ c.in-Passed.is c.check_count-counts.ensures c.check_lengths.ensures
+returns-in-Passed c = then_goes _ _ c.in-Passed.is c.check_count-counts.ensures c.check_lengths.ensures

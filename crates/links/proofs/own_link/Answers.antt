@@ -5,8 +5,7 @@ use Rattle.links.specs.Laws.Shifts.{full_fits, full_side, one_side}
 use Rattle.links.proofs.own_link.Goals as goal
 
 pub overflow_sub-result-then-i-eq0 : goal.overflow_sub-result-then-i-eq0
-overflow_sub-result-then-i-eq0 c =
-    rw (shift_one (c.args.n - 1) (search rules)) (pow_pos _)
+overflow_sub-result-then-i-eq0 c = rw (shift_one (c.args.n - 1) (search rules)) (pow_pos _)
 
 pub overflow_mul-result : goal.overflow_mul-result
 overflow_mul-result c =

@@ -16,7 +16,7 @@ use Rattle.theory.specs.Checks.{images_check}
 use Rattle.theory.specs.Laws.Checks.{images-passed}
 use Rattle.theory.specs.FarSides.{Nested, own}
 use Rattle.theory.specs.Laws.JoinedRows.{rows_of-fars}
-use Rattle.theory.specs.Laws.RowCount.{row_count}
+use Rattle.theory.proofs.Laws.RowCount.{row_count}
 use Rattle.theory.specs.LinkTables.{LinkTable, fars, rows_of}
 use Rattle.theory.specs.Readings.{drawn}
 use Rattle.bad_rows.specs.BadRows.{bad_row, missing}

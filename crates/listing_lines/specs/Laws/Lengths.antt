@@ -4,8 +4,8 @@ use Rattle.std.proofs.Common.{arith, length-append}
 use Rattle.ground.specs.declared.Refusal.{Refusal}
 use Rattle.listing_lines.specs.Lines.{header, order_line, reading_text, refused_line, room, row_line, row_lines}
 use Rattle.text.specs.Putting.{Fits}
-use Rattle.text.specs.Laws.Lengths.{field-most, fields-most}
-use Rattle.text.specs.Laws.Numbers.{decimal-most}
+use Rattle.text.proofs.Laws.Lengths.{field-most, fields-most}
+use Rattle.text.proofs.Laws.Numbers.{decimal-most}
 use Rattle.text.specs.Words.{bytes_of}
 
 header-most : (n r : ℕ) → length (header n r) ≤ 60

@@ -2,7 +2,7 @@
 use native.Mathlib.Omega.{arith}
 use borrow.Author.Rules.{rules}
 use Rattle.theory.specs.Tables.{cost}
-use Rattle.far_end.specs.Laws.FarEnd.{far_end_is}
+use Rattle.far_end.proofs.Laws.FarEnd.{far_end_is}
 use Rattle.listing_text.proofs.last_image.Statement.{statement}
 use Rattle.listing_text.proofs.last_image.Tie as tie
 

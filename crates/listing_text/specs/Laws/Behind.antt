@@ -8,8 +8,8 @@ use Rattle.bits.specs.declared.Edition.{Edition}
 use Rattle.bits.specs.declared.Form.{Form}
 use Rattle.cost_forms.specs.Form.{cost_form, cost_form_at}
 use Rattle.cost_forms.specs.Said.{images_of, stored_table}
-use Rattle.stored_costs.specs.Laws.Behind.{Reaching, checks_behind, images-behind, table-behind}
-use Rattle.stored_costs.specs.Laws.Enough.{enough_room, table_readable}
+use Rattle.stored_costs.proofs.Laws.Behind.{Reaching, checks_behind, images-behind, table-behind}
+use Rattle.stored_costs.proofs.Laws.Enough.{enough_room, table_readable}
 use Rattle.stored_costs.specs.Reading.{table_checks}
 use Rattle.listing_text.specs.Listing.{stored_text}
 use Rattle.table_text.specs.TableText.{text_if}

@@ -2,7 +2,7 @@
 use Rattle.std.specs.Prelude.{List, ℕ}
 use Rattle.std.proofs.Common.{arith}
 use Rattle.theory.specs.Tables.{CostTable, cost, limit}
-use Rattle.far_end.specs.Laws.FarEnd.{far_end_is}
+use Rattle.far_end.proofs.Laws.FarEnd.{far_end_is}
 use Rattle.table_text.specs.LastImage.{Other}
 use Rattle.listing_text.specs.LastImage.{last_image}
 use Rattle.listing_text.specs.declared.Last.{Last}

@@ -8,7 +8,7 @@ use Rattle.ground.specs.declared.Refusal.{Refusal}
 use Rattle.theory.specs.Tables.{CostTable, limit}
 use Rattle.cost_forms.specs.Form.{cost_form_at}
 use Rattle.cost_forms.specs.Said.{stored_table}
-use Rattle.stored_costs.specs.Laws.Enough.{front_read, front-refused}
+use Rattle.stored_costs.proofs.Laws.Enough.{front_read, front-refused}
 use Rattle.stored_costs.specs.Outcomes.{read_either}
 use Rattle.stored_costs.specs.declared.StoredCosts.TheVariants.{Table}
 use Rattle.stored_costs.specs.declared.StoredCosts.TheVariants as stored

@@ -4,12 +4,10 @@ use Rattle.lowered_rows.specs.Laws.Putting.{put_end, put-more, put_none, put-roo
 use Rattle.lowered_rows.proofs.put_rows.Goals as goal
 
 pub loop-i-init : goal.loop-i-init
-loop-i-init c =
-    (search rules, put_none _ _ _ _ _ _ _ _ _ _)
+loop-i-init c = (search rules, put_none _ _ _ _ _ _ _ _ _ _)
 
 pub overflow_add-add : goal.overflow_add-add
-overflow_add-add c =
-    record { fits = c.requires.1.fits c.loop-i.i c.loop-i-test.true }
+overflow_add-add c = record { fits = c.requires.1.fits c.loop-i.i c.loop-i-test.true }
 
 pub offset_bounds-best-slot : goal.offset_bounds-best-slot
 offset_bounds-best-slot c =

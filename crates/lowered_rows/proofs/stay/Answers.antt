@@ -13,5 +13,4 @@ returns-then-is_inner c =
     (rw (← c.is_inner.ensures, c.if-is_inner.true, le-ltb 0 v (omega (arith, c.if-c-gt0.false))), search rules)
 
 pub returns : goal.returns
-returns c =
-    (rw (← c.is_inner.ensures, c.if-is_inner.false), search rules)
+returns c = (rw (← c.is_inner.ensures, c.if-is_inner.false), search rules)

@@ -9,8 +9,8 @@ use Rattle.ground.specs.Laws.Sums.{sum-append, sum-map}
 use Rattle.theory.specs.LinkTables.{Row, all_costs}
 use Rattle.tree.specs.Laws.LocalRows.{rows_in-length, rows_in-more, rows_in_none}
 use Rattle.tree.specs.LocalRows.{rows_in}
-use Rattle.rows.specs.Laws.Places.{in_at}
-use Rattle.rows.specs.Laws.PutAll.{put_all-append, put_all-length, put_all-total}
+use Rattle.rows.proofs.Laws.Places.{in_at}
+use Rattle.rows.proofs.Laws.PutAll.{put_all-append, put_all-length, put_all-total}
 use Rattle.rows.specs.Putting.{Ascends, PutRoom, PutRow}
 use Rattle.rows.specs.Rows.{put_all}
 use Rattle.mending.specs.Leaving.{grouped, joined, mend, rename_row, renamed}

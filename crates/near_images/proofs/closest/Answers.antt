@@ -4,8 +4,7 @@ use Rattle.near_images.specs.Laws.Turns.{closest_end, closest_more, closest_none
 use Rattle.near_images.proofs.closest.Goals as goal
 
 pub loop-y-init : goal.loop-y-init
-loop-y-init c =
-    (search rules, search rules, closest_none _ _)
+loop-y-init c = (search rules, search rules, closest_none _ _)
 
 pub closer-b-requires : goal.closer-b-requires
 closer-b-requires c =

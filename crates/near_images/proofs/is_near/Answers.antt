@@ -3,8 +3,7 @@ use Rattle.std.proofs.Common.{eq-eqb, ne_eqb}
 use Rattle.near_images.proofs.is_near.Goals as goal
 
 pub returns-then-y-b : goal.returns-then-y-b
-returns-then-y-b c =
-    rw (eq-eqb _ _ c.if-y-b.true)
+returns-then-y-b c = rw (eq-eqb _ _ c.if-y-b.true)
 
 pub returns : goal.returns
 returns c =

@@ -4,8 +4,7 @@ use Rattle.near_images.specs.Laws.Turns.{near_none}
 use Rattle.near_images.proofs.near_images.Goals as goal
 
 pub loop-y-init : goal.loop-y-init
-loop-y-init c =
-    (search rules, search rules, near_none _ _ _)
+loop-y-init c = (search rules, search rules, near_none _ _ _)
 
 pub with_near-m-requires : goal.with_near-m-requires
 with_near-m-requires c =
@@ -14,8 +13,7 @@ with_near-m-requires c =
     (p.0, p.2, p.3, i.0, search rules, i.2)
 
 pub loop-y-preserved : goal.loop-y-preserved
-loop-y-preserved c =
-    (search rules, search rules, c.with_near-m.ensures)
+loop-y-preserved c = (search rules, search rules, c.with_near-m.ensures)
 
 pub returns : goal.returns
 returns c =

@@ -2,9 +2,7 @@
 use Rattle.newick_allowed.proofs.may_open.Goals as goal
 
 pub returns-then-is_first : goal.returns-then-is_first
-returns-then-is_first c =
-    rw (← c.is_first.ensures, c.if-is_first.true)
+returns-then-is_first c = rw (← c.is_first.ensures, c.if-is_first.true)
 
 pub returns : goal.returns
-returns c =
-    rw (← c.is_first.ensures, c.if-is_first.false)
+returns c = rw (← c.is_first.ensures, c.if-is_first.false)

@@ -3,9 +3,7 @@ use Rattle.std.proofs.Common.{le-ltb, lt-ltb}
 use Rattle.newick_allowed.proofs.one_more.Goals as goal
 
 pub returns-then-count-lt3 : goal.returns-then-count-lt3
-returns-then-count-lt3 c =
-    rw (lt-ltb _ _ c.if-count-lt3.true)
+returns-then-count-lt3 c = rw (lt-ltb _ _ c.if-count-lt3.true)
 
 pub returns : goal.returns
-returns c =
-    rw (le-ltb _ _ c.if-count-lt3.false)
+returns c = rw (le-ltb _ _ c.if-count-lt3.false)

@@ -4,9 +4,9 @@ use Rattle.std.proofs.Common.{ap, sym, ◌∙◌, arith, add-one, take_all, take
 use Rattle.newick_text.specs.Bytes.{run, step}
 use Rattle.newick_text.specs.States.{start}
 use Rattle.newick_text.specs.Ends.{is_dead, is_done, lived}
-use Rattle.newick_text.specs.Laws.Fine.{run_fine}
-use Rattle.newick_text.specs.Laws.Place.{dead_not_done, lived_is}
-use Rattle.newick_text.specs.Laws.Live.{run-append}
+use Rattle.newick_text.proofs.Laws.Fine.{run_fine}
+use Rattle.newick_text.proofs.Laws.Place.{dead_not_done, lived_is}
+use Rattle.newick_text.proofs.Laws.Live.{run-append}
 use Rattle.newick_bytes.specs.Seen.{Bounded, is_dead_seen, is_done_seen}
 use Rattle.newick_bytes.specs.Next.{next_seen}
 use Rattle.newick_bytes.specs.Outer.{next_outer}

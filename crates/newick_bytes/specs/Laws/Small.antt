@@ -4,7 +4,7 @@ use Rattle.std.proofs.Common.{arith}
 use Rattle.newick_text.specs.Trees as trees
 use Rattle.newick_text.specs.States.{Open, State, blank, costing, dead, depth, done, ended, head, outermost, start, value, vertex, within}
 use Rattle.newick_text.specs.Ends.{is_dead, is_done}
-use Rattle.newick_text.specs.Laws.Fine.{Fine, FineOpen}
+use Rattle.newick_text.proofs.Laws.Fine.{Fine, FineOpen}
 use Rattle.newick_bytes.specs.Seen.{Bounded, is_dead_seen, is_done_seen}
 use Rattle.newick_bytes.specs.Kept.{narrow}
 

@@ -14,7 +14,7 @@ use Rattle.text.specs.Laws.Putting.{put-length, rest_begin, rest_last, rest-step
 use Rattle.text.specs.Putting.{Fits, Put}
 use Rattle.newick_text.specs.LinkTrees.{newick}
 use Rattle.newick_writer.specs.Laws.Longest.{text_longest}
-use Rattle.newick_writer.specs.Promises.{written}
+use Rattle.newick_writer.proofs.Promises.{written}
 use Rattle.newick_writer.specs.Writing.{write_outcome}
 use Rattle.newick_line.specs.Line.{line_of}
 

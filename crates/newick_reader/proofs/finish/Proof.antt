@@ -6,7 +6,7 @@ use Rattle.theory.specs.LinkTables.{Row}
 use native.Mathlib.Omega.{arith}
 use lib.ListN.{length}
 use Rattle.newick_table.specs.Notes.{name_checks, noted_table, row_checks}
-use Rattle.newick_reader.specs.Laws.Outcomes.{first_goes, first_stops, marked-some, names-passed}
+use Rattle.newick_reader.proofs.Laws.Outcomes.{first_goes, first_stops, marked-some, names-passed}
 use borrow.Author.Rules.{rules}
 use Rattle.newick_reader.proofs.finish.Statement.{statement}
 use Rattle.newick_reader.proofs.finish.Tie as tie

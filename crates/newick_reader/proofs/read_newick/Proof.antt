@@ -1,6 +1,6 @@
 -- `newick_reader::read_newick` meets its contract: a text is looked through once, and nothing is stored before all checks passed. Assumes nothing.
 use native.Mathlib.Omega.{arith}
-use Rattle.newick_reader.specs.Laws.Reading.{stopped_read, stopped_within, whole_fits, whole_read}
+use Rattle.newick_reader.proofs.Laws.Reading.{stopped_read, stopped_within, whole_fits, whole_read}
 use borrow.Author.Rules.{rules}
 use Rattle.newick_reader.proofs.read_newick.Statement.{statement}
 use Rattle.newick_reader.proofs.read_newick.Tie as tie

@@ -2,10 +2,10 @@
 use mathlib.Core.Path.{ap, ◌∙◌, ◌≡◌}
 use Prim.Native.Nat.{◌≤◌}
 use native.Mathlib.Omega.{arith}
-use Rattle.tree.specs.Laws.Writing.{rows-over}
+use Rattle.tree.proofs.Laws.Writing.{rows-over}
 use Rattle.newick_table.specs.Notes.{noted_table, row_checks}
 use Rattle.newick_table.specs.Laws.Collecting.{collect_few}
-use Rattle.newick_reader.specs.Laws.Outcomes.{rows_go, rows_stop}
+use Rattle.newick_reader.proofs.Laws.Outcomes.{rows_go, rows_stop}
 use borrow.Author.Rules.{rules}
 use Rattle.newick_reader.proofs.store.Statement.{statement}
 use Rattle.newick_reader.proofs.store.Tie as tie

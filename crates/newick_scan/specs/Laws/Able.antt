@@ -4,8 +4,8 @@ use Rattle.std.proofs.Common.{ap, ◌∙◌, arith, length-set}
 use borrow.Table.Steps.{cases}
 use Rattle.newick_text.specs.Trees as trees
 use Rattle.newick_text.specs.States.{Open, State, blank, costing, dead, depth, done, ended, head, outermost, start, value, vertex, within}
-use Rattle.newick_text.specs.Laws.Fine.{Fine}
-use Rattle.newick_text.specs.Laws.Live.{Live, dead_not}
+use Rattle.newick_text.proofs.Laws.Fine.{Fine}
+use Rattle.newick_text.proofs.Laws.Live.{Live, dead_not}
 use Rattle.newick_bytes.specs.Kept.{narrow}
 use Rattle.newick_bytes.specs.Laws.Small.{fine_bounded}
 use Rattle.newick_bytes.specs.declared.Seen.{Seen}

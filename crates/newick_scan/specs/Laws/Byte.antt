@@ -10,7 +10,7 @@ use Rattle.newick_text.specs.Trees as trees
 use Rattle.newick_text.specs.States.{Open, State, add_to, at_one, blank, costing, dead, depth, done, ended, head, outermost, start, value, vertex, within}
 use Rattle.newick_text.specs.Bytes.{begins, close, digit_of, grows, is_digit, opens, second, step}
 use Rattle.newick_text.specs.Spelled.{spelled}
-use Rattle.newick_text.specs.Laws.Live.{Live, dead_not, only}
+use Rattle.newick_text.proofs.Laws.Live.{Live, dead_not, only}
 use Rattle.newick_bytes.specs.Kept.{narrow}
 use Rattle.newick_bytes.specs.Laws.Shows.{depth-add}
 use Rattle.newick_notes.specs.Stacks.{Sized}

@@ -13,8 +13,8 @@ use Rattle.newick_text.specs.States.{State, costing, dead, done, ended, head, st
 use Rattle.newick_text.specs.Ends.{is_done, tree_of}
 use Rattle.newick_text.specs.Spelled.{spelled}
 use Rattle.newick_text.specs.Noting.{fallen, last_far, marked, noted}
-use Rattle.newick_text.specs.Laws.Fine.{run_fine}
-use Rattle.newick_text.specs.Laws.Steps.{run-spelled}
+use Rattle.newick_text.proofs.Laws.Fine.{run_fine}
+use Rattle.newick_text.proofs.Laws.Steps.{run-spelled}
 use Rattle.newick_bytes.specs.Seen.{is_dead_seen, is_done_seen}
 use Rattle.newick_bytes.specs.Next.{next_seen}
 use Rattle.newick_bytes.specs.Outer.{next_outer}

@@ -16,8 +16,8 @@ use Rattle.ground.specs.Laws.Members.{is_in-mem, mem-is_in, mem_split}
 use Rattle.theory.specs.FarSides.{FarSide, own}
 use Rattle.theory.specs.LinkTables.{LinkTable, Row, far, fars}
 use Rattle.theory.specs.Routes.{contains}
-use Rattle.theory.specs.Laws.Paths.{row-far}
-use Rattle.theory.specs.Laws.Routes.{full_contains}
+use Rattle.theory.proofs.Laws.Paths.{row-far}
+use Rattle.theory.proofs.Laws.Routes.{full_contains}
 use Rattle.newick_text.specs.Trees.{Siblings, add, bracket, image, none}
 use Rattle.newick_text.specs.LinkTrees.{grown, head_of, image_of}
 use Rattle.newick_text.specs.Laws.Numbers.{even_pow}

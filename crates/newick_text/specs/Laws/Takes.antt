@@ -20,7 +20,7 @@ use Rattle.ground.specs.Laws.Members.{mem-is_in}
 use Rattle.theory.specs.FarSides.{FarSide, Nested}
 use Rattle.theory.specs.LinkTables.{LinkTable, Row, far, fars}
 use Rattle.theory.specs.Routes.{contains}
-use Rattle.theory.specs.Laws.Paths.{row-far}
+use Rattle.theory.proofs.Laws.Paths.{row-far}
 use Rattle.newick_text.specs.Trees.{Siblings, none}
 use Rattle.newick_text.specs.Tables.{side}
 use Rattle.newick_text.specs.LinkTrees.{part}

@@ -10,7 +10,7 @@ use Rattle.ground.specs.Filters.{Each}
 use Rattle.ground.specs.Laws.Ascending.{between_le}
 use Rattle.ground.specs.Laws.Ones.{ones_one}
 use Rattle.ground.specs.Sums.{sum}
-use Rattle.theory.specs.Laws.RowCount.{row_count}
+use Rattle.theory.proofs.Laws.RowCount.{row_count}
 use Rattle.theory.specs.LinkTables.{LinkTable, Row, fars}
 use Rattle.theory.specs.Tables.{limit}
 use Rattle.text.specs.Decimal.{decimal}

@@ -7,7 +7,7 @@ use Rattle.ground.specs.Laws.Ones.{ones_none, ones_one, ones_pow}
 use Rattle.ground.specs.Sums.{sum}
 use Rattle.theory.specs.LinkTables.{Row, rows_of}
 use Rattle.text.specs.Decimal.{decimal, digit}
-use Rattle.text.specs.Laws.Numbers.{decimal-more, decimal-most, decimal_small}
+use Rattle.text.proofs.Laws.Numbers.{decimal-more, decimal-most, decimal_small}
 use Rattle.newick_text.specs.Laws.Sides.{image_of_lem}
 use Rattle.newick_text.specs.Tables.{image_side}
 use Rattle.newick_text.specs.LinkTrees.{image_of}

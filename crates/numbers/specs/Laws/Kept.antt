@@ -30,7 +30,7 @@ use Rattle.compare.specs.declared.Comparison.TheVariants as compared
 use Rattle.consensus.specs.declared.Shared.TheVariants as shared
 
 -- the refusal
-abbrev refusal_of : KemotuikiHead → Refusal
+abbrev pub refusal_of : KemotuikiHead → Refusal
 refusal_of h = record { number = h.number; a = h.a; b = h.b; c = h.c; d = h.d }
 
 -- an answer is a refusal that crosses with its number and places, or is accepted and read back
@@ -58,59 +58,3 @@ module _ {A K : Type 0} (head : K → KemotuikiHead) (numbers : A → K) (refuse
       read : (x : A) → Numbered refuse x → ReadBack head numbers refuse value x → back (numbers x) ≡ x
       read x n (inl (m, q, e, k)) = rw (k, ne_eqb q.number 0 (λ z. omega (arith, z, n m q e))) (sym e)
       read x n (inr (z, e)) = rw z e
-
--- ## Each kind of answer
-
-pub index_kept : Kept (λ (k : KemotuikiIndex). k.head) of_index (λ m. signed.Refused)
-index_kept = kept _ of_index (λ m. signed.Refused) (λ k. signed.Value k.signed_index) (λ m q. refl) each
-  where
-    each : (x : SignedAnswer) → ReadBack (λ (k : KemotuikiIndex). k.head) of_index (λ m. signed.Refused) (λ k. signed.Value k.signed_index) x
-    each (signed.Value v) = inr (refl, refl)
-    each (signed.Refused q) = inl (0, q, refl, refl)
-
-pub order-kept : Kept (λ (k : KemotuikiOrder). k.head) of_order (λ m. written.Refused)
-order-kept = kept _ of_order (λ m. written.Refused) (λ k. Places k.images) (λ m q. refl) each
-  where
-    each : (x : Written) → ReadBack (λ (k : KemotuikiOrder). k.head) of_order (λ m. written.Refused) (λ k. Places k.images) x
-    each (Places m) = inr (refl, refl)
-    each (written.Refused q) = inl (0, q, refl, refl)
-
-pub levels_kept : Kept (λ (k : KemotuikiLevels). k.head) of_levels (λ m. written.Refused)
-levels_kept = kept _ of_levels (λ m. written.Refused) (λ k. Places k.groups) (λ m q. refl) each
-  where
-    each : (x : Written) → ReadBack (λ (k : KemotuikiLevels). k.head) of_levels (λ m. written.Refused) (λ k. Places k.groups) x
-    each (Places m) = inr (refl, refl)
-    each (written.Refused q) = inl (0, q, refl, refl)
-
-pub rows-kept : Kept (λ (k : KemotuikiRows). k.head) of_rows (λ m. written.Refused)
-rows-kept = kept _ of_rows (λ m. written.Refused) (λ k. Places k.rows) (λ m q. refl) each
-  where
-    each : (x : Written) → ReadBack (λ (k : KemotuikiRows). k.head) of_rows (λ m. written.Refused) (λ k. Places k.rows) x
-    each (Places m) = inr (refl, refl)
-    each (written.Refused q) = inl (0, q, refl, refl)
-
-pub path-kept : Kept (λ (k : KemotuikiPath). k.head) of_path (λ m. answer.Refused)
-path-kept = kept _ of_path (λ m. answer.Refused) (λ k. Value k.cost) (λ m q. refl) each
-  where
-    each : (x : Answer) → ReadBack (λ (k : KemotuikiPath). k.head) of_path (λ m. answer.Refused) (λ k. Value k.cost) x
-    each (Value v) = inr (refl, refl)
-    each (answer.Refused q) = inl (0, q, refl, refl)
-
--- the five values of a comparison
-abbrev differs : KemotuikiComparison → Comparison
-differs k =
-    Compared (record { first = k.inner_first; second = k.inner_second; common = k.common; count = k.count; over = k.over })
-
-pub comparison-kept : Kept (λ (k : KemotuikiComparison). k.head) of_comparison compared.Refused
-comparison-kept = kept _ of_comparison compared.Refused differs (λ m q. refl) each
-  where
-    each : (x : Comparison) → ReadBack (λ (k : KemotuikiComparison). k.head) of_comparison compared.Refused differs x
-    each (Compared w) = inr (refl, refl)
-    each (compared.Refused m q) = inl (m, q, refl, refl)
-
-pub shared_kept : Kept (λ (k : KemotuikiRows). k.head) of_shared shared.Refused
-shared_kept = kept _ of_shared shared.Refused (λ k. Rows k.rows) (λ m q. refl) each
-  where
-    each : (x : Shared) → ReadBack (λ (k : KemotuikiRows). k.head) of_shared shared.Refused (λ k. Rows k.rows) x
-    each (Rows m) = inr (refl, refl)
-    each (shared.Refused m q) = inl (m, q, refl, refl)

@@ -1,14 +1,13 @@
 -- `order::check_order` meets its contract: the first refusal is the answer. Assumes nothing.
 use Rattle.std.proofs.Common.{sym, ◌∙◌}
 use Rattle.ground.specs.Laws.Refusals.{then_goes, then_stops}
-use Rattle.tables.specs.Laws.Formed.{size-passed}
+use Rattle.tables.proofs.Laws.Formed.{size-passed}
 use Rattle.order.specs.Outcome.{order_checks}
 use Rattle.order.proofs.check_order.Goals as goal
 
 pub returns-in_default : goal.returns-in_default
 unfolding order_checks
-returns-in_default c =
-    then_stops _ _ c.in_default.is c.check_size-size.ensures
+returns-in_default c = then_stops _ _ c.in_default.is c.check_size-size.ensures
 
 pub returns-in_default-space : goal.returns-in_default-space
 unfolding order_checks
@@ -17,8 +16,7 @@ returns-in_default-space c =
     (then_stops _ _ c.in_default-space.is c.refuse_if-space.ensures)
 
 pub check_costs-costs-requires : goal.check_costs-costs-requires
-check_costs-costs-requires c =
-    size-passed _ _ (sym c.check_size-size.ensures ∙ c.in-Passed.is)
+check_costs-costs-requires c = size-passed _ _ (sym c.check_size-size.ensures ∙ c.in-Passed.is)
 
 pub returns-in_default-costs : goal.returns-in_default-costs
 unfolding order_checks

@@ -1,8 +1,8 @@
 -- `order::order` meets its contract: everything is checked, then written. Assumes nothing.
 use Rattle.std.proofs.Common.{arith, sym, ◌∙◌}
 use Rattle.theory.specs.Tables.{limit}
-use Rattle.order.specs.Laws.Asked.{passed_asked}
-use Rattle.order.specs.Promises.{left-refused, left_written}
+use Rattle.order.proofs.Laws.Asked.{passed_asked}
+use Rattle.order.proofs.Promises.{left-refused, left_written}
 use Rattle.order.proofs.order.Goals as goal
 
 pub overflow_sub-first : goal.overflow_sub-first
@@ -19,8 +19,7 @@ write_order-requires c =
     (a.table, omega (arith, a.first_low, a.first_high), omega (arith, a.last_low, a.last_high), a.space)
 
 pub returns-in-Refused : goal.returns-in-Refused
-returns-in-Refused c =
-    left-refused limit _ _ _ _ _ c.in-Refused.is c.check_order-c.ensures
+returns-in-Refused c = left-refused limit _ _ _ _ _ c.in-Refused.is c.check_order-c.ensures
 
 pub returns-in-Passed : goal.returns-in-Passed
 returns-in-Passed c =

@@ -3,8 +3,7 @@ use Rattle.std.proofs.Common.{ap₂, eq-eqb, ltb, ne_eqb, ◌+◌, ◌∙◌}
 use Rattle.ordering.proofs.is_better.Goals as goal
 
 pub returns-then-b-f : goal.returns-then-b-f
-returns-then-b-f c =
-    rw (eq-eqb _ _ c.if-b-f.true)
+returns-then-b-f c = rw (eq-eqb _ _ c.if-b-f.true)
 
 pub returns : goal.returns
 returns c =

@@ -1,7 +1,7 @@
 -- `ordering::is_less` meets its contract: two signed differences compare as two sums do. Assumes nothing.
 use mir.Facts.{to_z-of_z}
 use mir.Syntax.{w64}
-use Rattle.ground.specs.Laws.Signed.{signed_less}
+use Rattle.ground.proofs.Laws.Signed.{signed_less}
 use Rattle.ordering.proofs.is_less.Goals as goal
 
 pub returns : goal.returns

@@ -3,5 +3,4 @@ use Rattle.ground.specs.Laws.Shifts.{shift_one}
 use Rattle.ordering.proofs.mark.Goals as goal
 
 pub returns : goal.returns
-returns c =
-    rw (shift_one c.args.x c.requires)
+returns c = rw (shift_one c.args.x c.requires)

@@ -6,8 +6,7 @@ use Rattle.ordering.specs.Laws.Next.{turn_lt}
 use Rattle.ordering.proofs.next_left.Goals as goal
 
 pub loop-w-init : goal.loop-w-init
-loop-w-init c =
-    (search rules, fold_none _ _, search rules)
+loop-w-init c = (search rules, fold_none _ _, search rules)
 
 pub loop-w-preserved : goal.loop-w-preserved
 loop-w-preserved c =
@@ -19,5 +18,4 @@ loop-w-preserved c =
 
 pub returns : goal.returns
 unfolding next_left
-returns c =
-    fold_end _ _ _ _ _ (search rules) (search rules) c.loop-w.invariant.1
+returns c = fold_end _ _ _ _ _ (search rules) (search rules) c.loop-w.invariant.1

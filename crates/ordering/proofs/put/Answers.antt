@@ -3,5 +3,4 @@ use native.Mathlib.Numerals.{add-one}
 use Rattle.ordering.proofs.put.Goals as goal
 
 pub returns : goal.returns
-returns c =
-    rw add-one
+returns c = rw add-one

@@ -4,5 +4,4 @@ use Rattle.packer.specs.Laws.Putting.{same_byte}
 use Rattle.packer.proofs.byte_out.Goals as goal
 
 pub returns : goal.returns
-returns c =
-    (same_byte c.args.out.now _ c.args.g c.requires (omega arith) c.store.ensures, omega arith)
+returns c = (same_byte c.args.out.now _ c.args.g c.requires (omega arith) c.store.ensures, omega arith)

@@ -1,7 +1,7 @@
 -- `packer::finish` meets its contract: with the fill bits put, nothing is gathered any more. Assumes nothing.
 use Rattle.std.proofs.Common.{arith}
 use Rattle.bits.specs.Laws.Numbers.{length-bits_of}
-use Rattle.packer.specs.Laws.Finished.{fill_put}
+use Rattle.packer.proofs.Laws.Finished.{fill_put}
 use Rattle.packer.proofs.finish.Goals as goal
 
 pub returns : goal.returns

@@ -5,8 +5,8 @@ use borrow.Table.Steps.{cases}
 use Rattle.theory.specs.LinkTables.{Row}
 use Rattle.tree.specs.Laws.LocalRows.{rows_in-more, rows_in_none, stored_more}
 use Rattle.tree.specs.LocalRows.{rows_in}
-use Rattle.rows.specs.Laws.Places.{in_split}
-use Rattle.rows.specs.Laws.PutAll.{costly-append}
+use Rattle.rows.proofs.Laws.Places.{in_split}
+use Rattle.rows.proofs.Laws.PutAll.{costly-append}
 use Rattle.rows.specs.Putting.{rows_from}
 use Rattle.rows.specs.Rows.{costly}
 use Rattle.path_cuts.specs.Cuts.{kept}

@@ -4,17 +4,14 @@ use Rattle.recognition.specs.Laws.Below.{below_end, below_fails, below_more, bel
 use Rattle.recognition.proofs.can_graft_all.Goals as goal
 
 pub loop-p-init : goal.loop-p-init
-loop-p-init c =
-    (search rules, below_none _)
+loop-p-init c = (search rules, below_none _)
 
 pub loop-p-preserved : goal.loop-p-preserved
 loop-p-preserved c =
     (search rules, below_more _ _ c.loop-p.invariant.1 (sym c.can_graft.ensures ∙ c.if-can_graft.true))
 
 pub returns-else-can_graft : goal.returns-else-can_graft
-returns-else-can_graft c =
-    below_fails _ c.loop-p.p _ (omega arith) (sym c.can_graft.ensures ∙ c.if-can_graft.false)
+returns-else-can_graft c = below_fails _ c.loop-p.p _ (omega arith) (sym c.can_graft.ensures ∙ c.if-can_graft.false)
 
 pub returns : goal.returns
-returns c =
-    below_end _ _ _ (omega (arith, c.loop-p.invariant.0)) (omega arith) c.loop-p.invariant.1
+returns c = below_end _ _ _ (omega (arith, c.loop-p.invariant.0)) (omega arith) c.loop-p.invariant.1

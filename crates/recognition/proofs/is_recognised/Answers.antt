@@ -10,7 +10,8 @@ overflow_add-result c =
       omega (arith, p.4, p.0.formed.small {i = 0} {j = c.args.x} (omega (arith, some)) p.1),
       omega (arith, p.5, p.0.formed.small {i = 0} {j = c.args.z} (omega (arith, some)) p.2),
       omega (arith, p.6, p.0.formed.small {i = c.args.x} {j = c.args.z} p.1 p.2),
-    ) in let g = given in search rules
+    ) in
+    let g = given in search rules
 
 pub overflow_add-fj : goal.overflow_add-fj
 overflow_add-fj c =
@@ -19,7 +20,8 @@ overflow_add-fj c =
       omega (arith, p.4, p.0.formed.small {i = 0} {j = c.args.x} (omega (arith, some)) p.1),
       omega (arith, p.5, p.0.formed.small {i = 0} {j = c.args.z} (omega (arith, some)) p.2),
       omega (arith, p.6, p.0.formed.small {i = c.args.x} {j = c.args.z} p.1 p.2),
-    ) in let g = given in search rules
+    ) in
+    let g = given in search rules
 
 pub overflow_add-fz : goal.overflow_add-fz
 overflow_add-fz c =
@@ -28,7 +30,8 @@ overflow_add-fz c =
       omega (arith, p.4, p.0.formed.small {i = 0} {j = c.args.x} (omega (arith, some)) p.1),
       omega (arith, p.5, p.0.formed.small {i = 0} {j = c.args.z} (omega (arith, some)) p.2),
       omega (arith, p.6, p.0.formed.small {i = c.args.x} {j = c.args.z} p.1 p.2),
-    ) in let g = given in search rules
+    ) in
+    let g = given in search rules
 
 pub returns : goal.returns
 returns c =

@@ -4,8 +4,7 @@ use Rattle.recognition.specs.Seats.{seat}
 use Rattle.recognition.proofs.seat_of.Goals as goal
 
 pub overflow_sub-result : goal.overflow_sub-result
-overflow_sub-result c =
-    omega (arith, c.wide.ensures, c.requires.0.named c.requires.1)
+overflow_sub-result c = omega (arith, c.wide.ensures, c.requires.0.named c.requires.1)
 
 pub returns : goal.returns
 returns c =

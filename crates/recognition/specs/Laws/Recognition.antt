@@ -9,8 +9,8 @@ use Rattle.ground.specs.Laws.Maps.{map-mem}
 use Rattle.ground.specs.Laws.Ranges.{from-mem, gather-mem}
 use Rattle.ground.specs.Ranges.{from}
 use Rattle.theory.specs.FourPoint.{FourPoint, fails, four, fours₁, fours₂, fours₃, times_largest}
-use Rattle.theory.specs.Laws.FourPoint.{above_none, four_low}
-use Rattle.theory.specs.Laws.ImageOne.{image_one}
+use Rattle.theory.proofs.Laws.FourPoint.{above_none, four_low}
+use Rattle.theory.proofs.Laws.ImageOne.{image_one}
 use Rattle.theory.specs.Tables.{WellFormed}
 use Rattle.recognition.specs.Recognition.{Recognised, Yushmanov}
 

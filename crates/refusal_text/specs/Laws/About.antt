@@ -3,7 +3,7 @@ use Rattle.std.specs.Prelude.{◌||◌, [], ◌++◌, refl, ◌≡◌, ℕ, ◌�
 use Rattle.std.proofs.Common.{arith, length-append, ne_eqb}
 use borrow.Table.Steps.{cases}
 use Rattle.text.specs.Fields.{field}
-use Rattle.text.specs.Laws.Lengths.{field-most}
+use Rattle.text.proofs.Laws.Lengths.{field-most}
 use Rattle.text.specs.Words.{bytes_of}
 use Rattle.refusal_text.specs.Text.{about_table}
 

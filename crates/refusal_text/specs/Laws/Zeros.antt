@@ -5,7 +5,7 @@ use Rattle.std.proofs.Math.Dec.{eqb}
 use Rattle.std.proofs.Math.ListN.{length-append}
 use borrow.Table.Steps.{cases}
 use Rattle.text.specs.Fields.{field}
-use Rattle.text.specs.Laws.Zeros.{field_no_zero, no_zero_join}
+use Rattle.text.proofs.Laws.Zeros.{field_no_zero, no_zero_join}
 use Rattle.text.specs.Words.{bytes_of}
 use Rattle.text.specs.Zeros.{no_zero}
 use Rattle.sayings.specs.Laws.Zeros.{said_no_zero, said_some}

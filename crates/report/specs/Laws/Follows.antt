@@ -11,13 +11,13 @@ use Rattle.ground.specs.declared.Check.TheVariants.{Passed, Refused}
 use Rattle.theory.specs.Tables.{CostTable, limit}
 use Rattle.seen.specs.Seen.{seen}
 use Rattle.figures.specs.Figures.{sides_at}
-use Rattle.figures.specs.Laws.Grown.{sum_end}
+use Rattle.figures.proofs.Laws.Grown.{sum_end}
 use Rattle.figures.specs.Laws.Tables.{images-more}
 use Rattle.figures.specs.Checks.{many_check, next_check, same_check, stored_checks, most_sides, most_tables}
 use Rattle.figures.specs.Reading.{go_on, read_all, read_on}
 use Rattle.counting.specs.Standing.{Sound}
 use Rattle.figures.specs.Tables.{Table, table_at, trees}
-use Rattle.stored_costs.specs.Laws.Enough.{table_said_lem}
+use Rattle.stored_costs.proofs.Laws.Enough.{table_said_lem}
 use Rattle.report.specs.Follows.{Follows, ReadSo, bytes_end, more, none, refused, tables_end, used_by}
 use Rattle.report.specs.Laws.Onward.{next_within, on_some}
 use Rattle.report.specs.Laws.Next.{same_passed}

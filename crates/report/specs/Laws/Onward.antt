@@ -8,12 +8,12 @@ use Rattle.ground.specs.declared.Check.TheVariants.{Passed, Refused}
 use Rattle.ground.specs.declared.Refusal.{Refusal}
 use Rattle.theory.specs.Tables.{limit}
 use Rattle.cost_forms.specs.Form.{cost_form_at}
-use Rattle.stored_costs.specs.Laws.Enough.{table_readable}
+use Rattle.stored_costs.proofs.Laws.Enough.{table_readable}
 use Rattle.seen.specs.Columns.{Room}
 use Rattle.seen.specs.Laws.Columns.{stored_then}
 use Rattle.figures.specs.Figures.{entries_at}
 use Rattle.report.specs.Laws.Run.{Running, held}
-use Rattle.figures.specs.Laws.Grown.{sum_end}
+use Rattle.figures.proofs.Laws.Grown.{sum_end}
 use Rattle.report.specs.Outcome.{LeftReport, outcome}
 use Rattle.figures.specs.Checks.{many_check, most_sides, most_tables, next_check, same_check, stored_checks}
 use Rattle.figures.specs.Reading.{go_on, read_all, read_on}

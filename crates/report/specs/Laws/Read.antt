@@ -7,8 +7,8 @@ use Rattle.ground.specs.declared.Check.TheVariants.{Passed, Refused}
 use Rattle.ground.specs.declared.Refusal.{Refusal}
 use Rattle.theory.specs.Tables.{CostTable, limit}
 use Rattle.cost_forms.specs.Form.{cost_form_at}
-use Rattle.stored_costs.specs.Laws.Enough.{front_read, front-refused}
-use Rattle.stored_costs.specs.Laws.Passed.{table-at}
+use Rattle.stored_costs.proofs.Laws.Enough.{front_read, front-refused}
+use Rattle.stored_costs.proofs.Laws.Passed.{table-at}
 use Rattle.cost_forms.specs.Laws.Sizes.{square_le}
 use Rattle.stored_costs.specs.Outcomes.{read_either}
 use Rattle.stored_costs.specs.declared.StoredCosts.{StoredCosts}

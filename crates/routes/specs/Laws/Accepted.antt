@@ -7,7 +7,7 @@ use Rattle.ground.specs.Laws.Refusals.{outside_false, refuse_if-passed, then_pas
 use Rattle.ground.specs.declared.Check.TheVariants.{Passed}
 use Rattle.theory.specs.FarSides.{own}
 use Rattle.theory.specs.Laws.JoinedRows.{rows_of-fars}
-use Rattle.theory.specs.Laws.RowCount.{row_count}
+use Rattle.theory.proofs.Laws.RowCount.{row_count}
 use Rattle.theory.specs.LinkTables.{rows_of}
 use Rattle.links.specs.Checks.{row_checks, size_checks}
 use Rattle.links.specs.Links.{Links}

@@ -11,7 +11,7 @@ use Rattle.theory.specs.Laws.Contained.{and_within, within_and}
 use Rattle.theory.specs.Laws.FarSides.{far_image}
 use Rattle.theory.specs.Laws.Nested.{bit-holds}
 use Rattle.theory.specs.Laws.JoinedRows.{rows_of-fars}
-use Rattle.theory.specs.Laws.Routes.{full_contains}
+use Rattle.theory.proofs.Laws.Routes.{full_contains}
 use Rattle.theory.specs.Routes.{contains, uppers}
 use Rattle.links.specs.Links.{Links}
 use Rattle.links.specs.Laws.LinkChecks.{link_rows}

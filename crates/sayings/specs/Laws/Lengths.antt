@@ -2,7 +2,7 @@
 use Rattle.std.specs.Prelude.{Bool, true, refl, ◌≡◌, ℕ, ◌*◌, ◌+◌, ◌≤◌, leb, length}
 use Rattle.std.proofs.Common.{arith, length-append, leb-true}
 use Rattle.text.specs.Fields.{fields}
-use Rattle.text.specs.Laws.Lengths.{fields-most}
+use Rattle.text.proofs.Laws.Lengths.{fields-most}
 use Rattle.text.specs.Words.{bytes_of}
 use Rattle.sayings.specs.Laws.Said.{all_pass, by_zeros, said_passes}
 use Rattle.phrases.specs.Saying.{Saying, saying_in}

@@ -4,7 +4,7 @@ use Rattle.std.proofs.Common.{arith}
 use Rattle.std.proofs.Math.ListN.{length-append}
 use borrow.Author.Tests.{ltb-true}
 use Rattle.text.specs.Fields.{fields}
-use Rattle.text.specs.Laws.Zeros.{fields_no_zero, no_zero_join}
+use Rattle.text.proofs.Laws.Zeros.{fields_no_zero, no_zero_join}
 use Rattle.text.specs.Words.{bytes_of}
 use Rattle.text.specs.Zeros.{no_zero}
 use Rattle.sayings.specs.Laws.Said.{all_pass, by_zeros, said_passes}

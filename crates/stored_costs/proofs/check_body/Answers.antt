@@ -11,8 +11,7 @@ overflow_add-used c =
     let end-small : c.row_at-end.result ≤ last_entry_end = rw c.row_at-end.ensures (end_le c.args.form c.args.n c.requires) in omega (arith, end-small)
 
 pub returns-in_default : goal.returns-in_default
-returns-in_default c =
-    rw (← c.row_at-end.ensures) (then_stops _ _ c.in_default.is c.refuse_if-short.ensures)
+returns-in_default c = rw (← c.row_at-end.ensures) (then_stops _ _ c.in_default.is c.refuse_if-short.ensures)
 
 pub overflow_mul-used : goal.overflow_mul-used
 overflow_mul-used c =
@@ -20,8 +19,10 @@ overflow_mul-used c =
 
 pub get-requires : goal.get-requires
 get-requires c =
-    let end-small : c.row_at-end.result ≤ last_entry_end = rw c.row_at-end.ensures (end_le c.args.form c.args.n c.requires) in let whole : (c.row_at-end.result + 7) / 8 ≤ length c.args.bytes.now = ltb-false _ _ (refuse_if-passed (ltb (length c.args.bytes.now) ((c.row_at-end.result + 7) / 8)) _
-    (sym c.refuse_if-short.ensures ∙ c.in-Passed.is)) in let z = end-small in
+    let end-small : c.row_at-end.result ≤ last_entry_end = rw c.row_at-end.ensures (end_le c.args.form c.args.n c.requires) in
+    let whole : (c.row_at-end.result + 7) / 8 ≤ length c.args.bytes.now = ltb-false _ _ (refuse_if-passed (ltb (length c.args.bytes.now) ((c.row_at-end.result + 7) / 8)) _
+    (sym c.refuse_if-short.ensures ∙ c.in-Passed.is)) in
+    let z = end-small in
     let g = whole in
     record { width = omega arith; within = omega arith; counted = omega arith }
 

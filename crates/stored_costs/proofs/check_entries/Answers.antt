@@ -4,21 +4,17 @@ use Rattle.ground.specs.Laws.Lowest.{all-begins, all_ends, all_goes, all_stops}
 use Rattle.stored_costs.proofs.check_entries.Goals as goal
 
 pub loop-i-init : goal.loop-i-init
-loop-i-init c =
-    (search rules, all-begins _ _)
+loop-i-init c = (search rules, all-begins _ _)
 
 pub returns-in-Refused : goal.returns-in-Refused
-returns-in-Refused c =
-    all_stops _ _ _ (search rules) c.loop-i.invariant.1 c.in-Refused.is c.check_row-c.ensures
+returns-in-Refused c = all_stops _ _ _ (search rules) c.loop-i.invariant.1 c.in-Refused.is c.check_row-c.ensures
 
 pub loop-i-preserved : goal.loop-i-preserved
-loop-i-preserved c =
-    (
+loop-i-preserved c = (
   search rules,
   all_goes _ _ _ (search rules) c.loop-i.invariant.1 c.in-Passed.is
       c.check_row-c.ensures,
 )
 
 pub returns : goal.returns
-returns c =
-    all_ends _ _ _ (search rules) c.loop-i.invariant.1
+returns c = all_ends _ _ _ (search rules) c.loop-i.invariant.1

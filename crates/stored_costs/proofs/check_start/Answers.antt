@@ -7,16 +7,14 @@ use Rattle.cost_forms.specs.Laws.Sizes.{square_le}
 use Rattle.stored_costs.proofs.check_start.Goals as goal
 
 pub returns-in_default : goal.returns-in_default
-returns-in_default c =
-    then_stops _ _ c.in_default.is c.refuse_if-short.ensures
+returns-in_default c = then_stops _ _ c.in_default.is c.refuse_if-short.ensures
 
 pub images-n-requires : goal.images-n-requires
-images-n-requires c =
-    (
-      c.requires,
-      ltb-false _ _
-          (refuse_if-passed (ltb (length c.args.bytes.now) (bytes_for (c.args.form.head + 7))) _ (sym c.refuse_if-short.ensures ∙ c.in-Passed.is)),
-    )
+images-n-requires c = (
+  c.requires,
+  ltb-false _ _
+      (refuse_if-passed (ltb (length c.args.bytes.now) (bytes_for (c.args.form.head + 7))) _ (sym c.refuse_if-short.ensures ∙ c.in-Passed.is)),
+)
 
 pub returns-in_default-outside : goal.returns-in_default-outside
 returns-in_default-outside c =

@@ -1,12 +1,11 @@
 -- `stored_costs::check_stored` meets its contract: the first refusal is the answer; each part is looked at once those before it passed. Assumes nothing.
 use Rattle.std.proofs.Common.{arith, sym, ◌∙◌}
 use Rattle.ground.specs.Laws.Refusals.{then_goes, then_stops}
-use Rattle.stored_costs.specs.Laws.Passed.{body_passed, start-passed}
+use Rattle.stored_costs.proofs.Laws.Passed.{body_passed, start-passed}
 use Rattle.stored_costs.proofs.check_stored.Goals as goal
 
 pub returns-in_default : goal.returns-in_default
-returns-in_default c =
-    then_stops _ _ c.in_default.is c.check_start-start.ensures
+returns-in_default c = then_stops _ _ c.in_default.is c.check_start-start.ensures
 
 pub images-n-requires : goal.images-n-requires
 images-n-requires c =

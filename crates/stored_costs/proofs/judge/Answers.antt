@@ -4,7 +4,7 @@ use Rattle.ground.specs.Laws.Buffers.{rest_part}
 use Rattle.ground.specs.Laws.Refusals.{if_goes, if_stops}
 use Rattle.stored_costs.specs.declared.StoredCosts.TheVariants.{Table}
 use Rattle.stored_costs.specs.declared.StoredCosts.TheVariants as stored
-use Rattle.stored_costs.specs.Laws.Passed.{read_at_passed}
+use Rattle.stored_costs.proofs.Laws.Passed.{read_at_passed}
 use Rattle.cost_forms.specs.Laws.Sizes.{end_le}
 use Rattle.cost_forms.specs.Sizes.{Small}
 use Rattle.stored_costs.specs.Stored.{Readable}
@@ -35,7 +35,8 @@ row_at-requires c =
     × Readable c.args.form
     (drop (c.args.position / 8) c.args.bytes.now)
     c.args.room = let a = c.args in
-    read_at_passed a.form a.bytes.now a.position a.room (sym c.check_at.ensures ∙ c.in-Passed.is) in let small : Small c.args.form c.images-n.result = let n = rw (rest_part c.args.bytes.now (c.args.position / 8)) at c.images-n.ensures in
+    read_at_passed a.form a.bytes.now a.position a.room (sym c.check_at.ensures ∙ c.in-Passed.is) in
+    let small : Small c.args.form c.images-n.result = let n = rw (rest_part c.args.bytes.now (c.args.position / 8)) at c.images-n.ensures in
     record { short = c.requires.0; narrow = c.requires.1; few = rw n there.2.few } in (small, omega arith)
 
 pub overflow_add-result : goal.overflow_add-result
@@ -45,12 +46,12 @@ overflow_add-result c =
     × Readable c.args.form
     (drop (c.args.position / 8) c.args.bytes.now)
     c.args.room = let a = c.args in
-    read_at_passed a.form a.bytes.now a.position a.room (sym c.check_at.ensures ∙ c.in-Passed.is) in let small : Small c.args.form c.images-n.result = let n = rw (rest_part c.args.bytes.now (c.args.position / 8)) at c.images-n.ensures in
+    read_at_passed a.form a.bytes.now a.position a.room (sym c.check_at.ensures ∙ c.in-Passed.is) in
+    let small : Small c.args.form c.images-n.result = let n = rw (rest_part c.args.bytes.now (c.args.position / 8)) at c.images-n.ensures in
     record { short = c.requires.0; narrow = c.requires.1; few = rw n there.2.few } in rw c.row_at.ensures (omega (arith, end_le c.args.form c.images-n.result small))
 
 pub returns-in-Refused : goal.returns-in-Refused
-returns-in-Refused c =
-    if_stops stored.Refused _ _ c.in-Refused.is c.check_at.ensures
+returns-in-Refused c = if_stops stored.Refused _ _ c.in-Refused.is c.check_at.ensures
 
 pub returns-in-Passed : goal.returns-in-Passed
 returns-in-Passed c =

@@ -7,8 +7,7 @@ use Rattle.bits.specs.Kinds.{misplaced}
 use Rattle.stored_links.proofs.check_at.Goals as goal
 
 pub returns-in_default : goal.returns-in_default
-returns-in_default c =
-    then_stops _ _ c.in_default.is (rw c.is_misplaced.ensures at c.refuse_if-c.ensures)
+returns-in_default c = then_stops _ _ c.in_default.is (rw c.is_misplaced.ensures at c.refuse_if-c.ensures)
 
 pub slice_bounds-check_stored-count : goal.slice_bounds-check_stored-count
 slice_bounds-check_stored-count c =

@@ -2,7 +2,7 @@
 use Rattle.std.proofs.Common.{arith, length, sym, ◌+◌, ◌/◌, ◌∙◌, ◌≤◌}
 use Rattle.ground.specs.Laws.Refusals.{then_goes, then_stops}
 use Rattle.link_forms.specs.Said.{fill_of}
-use Rattle.stored_links.specs.Laws.Passed.{end_passed}
+use Rattle.stored_links.proofs.Laws.Passed.{end_passed}
 use Rattle.link_forms.specs.Laws.Sizes.{end_le}
 use Rattle.link_forms.specs.Sizes.{last_row_end}
 use Rattle.stored_links.proofs.check_body.Goals as goal
@@ -12,8 +12,7 @@ overflow_add-used c =
     let end-small : c.row_at-end.result ≤ last_row_end = omega (arith, c.row_at-end.ensures, end_le c.args.form c.args.n c.args.count c.requires) in omega (arith, end-small)
 
 pub returns-in_default : goal.returns-in_default
-returns-in_default c =
-    then_stops _ _ c.in_default.is (rw c.row_at-end.ensures at c.refuse_if-short.ensures)
+returns-in_default c = then_stops _ _ c.in_default.is (rw c.row_at-end.ensures at c.refuse_if-short.ensures)
 
 pub overflow_mul-used : goal.overflow_mul-used
 overflow_mul-used c =
@@ -21,7 +20,9 @@ overflow_mul-used c =
 
 pub get-requires : goal.get-requires
 get-requires c =
-    let end-small : c.row_at-end.result ≤ last_row_end = omega (arith, c.row_at-end.ensures, end_le c.args.form c.args.n c.args.count c.requires) in let whole : (c.row_at-end.result + 7) / 8 ≤ length c.args.bytes.now = end_passed c.args.bytes.now ((c.row_at-end.result + 7) / 8) (sym c.refuse_if-short.ensures ∙ c.in-Passed.is) in let z = end-small in
+    let end-small : c.row_at-end.result ≤ last_row_end = omega (arith, c.row_at-end.ensures, end_le c.args.form c.args.n c.args.count c.requires) in
+    let whole : (c.row_at-end.result + 7) / 8 ≤ length c.args.bytes.now = end_passed c.args.bytes.now ((c.row_at-end.result + 7) / 8) (sym c.refuse_if-short.ensures ∙ c.in-Passed.is) in
+    let z = end-small in
     let g = whole in
     record { width = omega arith; within = omega arith; counted = omega arith }
 

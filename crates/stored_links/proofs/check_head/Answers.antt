@@ -2,12 +2,11 @@
 use Rattle.std.proofs.Common.{length, sym, ◌+◌, ◌∙◌, ◌≤◌}
 use Rattle.bits.specs.Forms.{bytes_for}
 use Rattle.ground.specs.Laws.Refusals.{then_goes, then_stops}
-use Rattle.stored_links.specs.Laws.Passed.{end_passed}
+use Rattle.stored_links.proofs.Laws.Passed.{end_passed}
 use Rattle.stored_links.proofs.check_head.Goals as goal
 
 pub returns-in_default : goal.returns-in_default
-returns-in_default c =
-    then_stops _ _ c.in_default.is c.refuse_if-short.ensures
+returns-in_default c = then_stops _ _ c.in_default.is c.refuse_if-short.ensures
 
 pub images-n-requires : goal.images-n-requires
 images-n-requires c =

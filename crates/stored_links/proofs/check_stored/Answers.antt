@@ -3,12 +3,11 @@ use Rattle.std.proofs.Common.{arith, sym, ◌∙◌, ◌≡◌}
 use Rattle.ground.specs.Laws.Refusals.{then_goes, then_stops}
 use Rattle.ground.specs.declared.Check.TheVariants.{Passed}
 use Rattle.stored_links.specs.Reading.{head_checks}
-use Rattle.stored_links.specs.Laws.Passed.{head_passed}
+use Rattle.stored_links.proofs.Laws.Passed.{head_passed}
 use Rattle.stored_links.proofs.check_stored.Goals as goal
 
 pub returns-in_default : goal.returns-in_default
-returns-in_default c =
-    then_stops _ _ c.in_default.is c.check_head-start.ensures
+returns-in_default c = then_stops _ _ c.in_default.is c.check_head-start.ensures
 
 pub images-n-requires : goal.images-n-requires
 images-n-requires c =
@@ -33,7 +32,8 @@ row_count-requires c =
 
 pub check_body-requires : goal.check_body-requires
 check_body-requires c =
-    let begun : head_checks c.args.form c.args.bytes.now ≡ Passed = sym c.check_head-start.ensures ∙ c.in-Passed.is in let h = head_passed c.args.form c.args.bytes.now begun in
+    let begun : head_checks c.args.form c.args.bytes.now ≡ Passed = sym c.check_head-start.ensures ∙ c.in-Passed.is in
+    let h = head_passed c.args.form c.args.bytes.now begun in
     record {
       short = c.requires.0;
       narrow = c.requires.1;

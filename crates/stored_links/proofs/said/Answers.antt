@@ -5,12 +5,10 @@ use Rattle.link_forms.specs.Laws.Sizes.{end_le}
 use Rattle.stored_links.proofs.said.Goals as goal
 
 pub images-n-requires : goal.images-n-requires
-images-n-requires c =
-    (c.requires.1.short, c.requires.0)
+images-n-requires c = (c.requires.1.short, c.requires.0)
 
 pub row_count-count-requires : goal.row_count-count-requires
-row_count-count-requires c =
-    (c.requires.1.short, c.requires.0)
+row_count-count-requires c = (c.requires.1.short, c.requires.0)
 
 pub row_at-requires : goal.row_at-requires
 row_at-requires c =
@@ -32,9 +30,9 @@ overflow_add-result c =
       some = omega (arith, c.images-n.ensures, s.some);
       few = omega (arith, c.images-n.ensures, s.few);
       rows = omega (arith, c.row_count-count.ensures, s.rows);
-    } in let a = c.args in
+    } in
+    let a = c.args in
     omega (arith, c.row_at.ensures, end_le a.form c.images-n.result c.row_count-count.result small)
 
 pub returns : goal.returns
-returns c =
-    rw (c.row_at.ensures, c.images-n.ensures, c.row_count-count.ensures)
+returns c = rw (c.row_at.ensures, c.images-n.ensures, c.row_count-count.ensures)

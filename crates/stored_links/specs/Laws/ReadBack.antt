@@ -4,7 +4,7 @@ use Rattle.std.proofs.Math.Path.{ap, sym}
 use Rattle.std.proofs.Common.{◌∙◌, lt_of_le_of_lt, arith, pow_pos}
 use Rattle.std.specs.Prelude.{◌≡◌, suc, ℕ, ◌*◌, ◌+◌, ◌-◌, ◌/◌, ◌<◌, ◌^◌, ◌≤◌}
 use Rattle.std.proofs.Math.ListN.{get_or, length, length-append}
-use Rattle.theory.specs.Laws.RowCount.{row_count}
+use Rattle.theory.proofs.Laws.RowCount.{row_count}
 use Rattle.theory.specs.LinkTables.{rows_of}
 use Rattle.theory.specs.Readings.{rows}
 use Rattle.bits.specs.Bits.{bits, bits_of, part, value_of}

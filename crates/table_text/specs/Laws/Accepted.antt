@@ -9,7 +9,7 @@ use Rattle.ground.specs.Outcomes.{Left, Outcome}
 use Rattle.ground.specs.declared.Written.{Written}
 use Rattle.ground.specs.declared.Written.TheVariants.{Places}
 use Rattle.ground.specs.declared.Written.TheVariants as written
-use Rattle.theory.specs.Laws.RowCount.{row_count}
+use Rattle.theory.proofs.Laws.RowCount.{row_count}
 use Rattle.theory.specs.LinkTables.{costs, far, fars, rows_of}
 use Rattle.theory.specs.Outcomes.{LeftRows}
 use Rattle.theory.specs.Routes.{uppers}
@@ -20,11 +20,11 @@ use Rattle.routes.specs.Outcomes.{upper_outcome}
 use Rattle.routes.specs.Promises.{upper-answer}
 use Rattle.climbing.specs.Laws.UpperRows.{uppers-length}
 use Rattle.order.specs.Outcome.{OrderAsked, images, order_outcome}
-use Rattle.order.specs.Promises.{order-accepted, order_wrote}
+use Rattle.order.proofs.Promises.{order-accepted, order_wrote}
 use Rattle.tree.specs.Exact.{exact_rows, tree_check}
-use Rattle.tree.specs.Promises.{exact_answer}
+use Rattle.tree.proofs.Promises.{exact_answer}
 use Rattle.tree.specs.Readings.{exact_check, exact_outcome, outcome}
-use Rattle.tree.specs.Laws.Exact.{exact_check_lem, table_sized}
+use Rattle.tree.proofs.Laws.Exact.{exact_check_lem, table_sized}
 use Rattle.listing_lines.specs.Lines.{reading_text, refused_line}
 use Rattle.table_text.specs.LastImage.{Other}
 use Rattle.table_text.specs.TableText.{table_text}

@@ -3,8 +3,7 @@ use Rattle.ground.specs.Laws.Refusals.{then_goes, then_stops}
 use Rattle.tables.proofs.check_costs.Goals as goal
 
 pub returns-in_default : goal.returns-in_default
-returns-in_default c =
-    then_stops _ _ c.in_default.is c.check_entries-c.ensures
+returns-in_default c = then_stops _ _ c.in_default.is c.check_entries-c.ensures
 
 pub returns-in_default-e : goal.returns-in_default-e
 returns-in_default-e c =

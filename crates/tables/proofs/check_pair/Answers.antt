@@ -3,8 +3,7 @@ use Rattle.ground.specs.Laws.Refusals.{then_goes, then_stops}
 use Rattle.tables.proofs.check_pair.Goals as goal
 
 pub returns-in-Refused : goal.returns-in-Refused
-returns-in-Refused c =
-    rw (← c.at-here.ensures, ← c.at.ensures) (then_stops _ _ c.in-Refused.is c.refuse_if-c.ensures)
+returns-in-Refused c = rw (← c.at-here.ensures, ← c.at.ensures) (then_stops _ _ c.in-Refused.is c.refuse_if-c.ensures)
 
 pub returns-in-Passed : goal.returns-in-Passed
 returns-in-Passed c =

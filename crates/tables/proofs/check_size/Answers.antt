@@ -13,9 +13,7 @@ overflow_mul-n c =
     omega (arith, mul-le-mul h.1 h.1)
 
 pub returns-in-Refused : goal.returns-in-Refused
-returns-in-Refused c =
-    then_stops _ _ c.in-Refused.is c.check_images-c.ensures
+returns-in-Refused c = then_stops _ _ c.in-Refused.is c.check_images-c.ensures
 
 pub returns-in-Passed : goal.returns-in-Passed
-returns-in-Passed c =
-    then_goes _ _ c.in-Passed.is c.check_images-c.ensures c.refuse_if.ensures
+returns-in-Passed c = then_goes _ _ c.in-Passed.is c.check_images-c.ensures c.refuse_if.ensures

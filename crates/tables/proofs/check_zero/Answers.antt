@@ -2,5 +2,4 @@
 use Rattle.tables.proofs.check_zero.Goals as goal
 
 pub returns : goal.returns
-returns c =
-    rw (← c.at.ensures) c.refuse_if.ensures
+returns c = rw (← c.at.ensures) c.refuse_if.ensures

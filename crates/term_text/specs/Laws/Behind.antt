@@ -12,9 +12,9 @@ use Rattle.bits.specs.declared.Edition.TheVariants.{New, Old}
 use Rattle.bits.specs.declared.Form.{Form}
 use Rattle.cost_forms.specs.Entries.{row_start}
 use Rattle.cost_forms.specs.Form.{cost_form, cost_form_at, cost_used}
-use Rattle.stored_costs.specs.Laws.Agreeing.{end_grows}
-use Rattle.stored_costs.specs.Laws.Behind.{Reaching, checks_behind, images-behind, longest_reaches, table-behind}
-use Rattle.stored_costs.specs.Laws.Enough.{enough_room, table_readable}
+use Rattle.stored_costs.proofs.Laws.Agreeing.{end_grows}
+use Rattle.stored_costs.proofs.Laws.Behind.{Reaching, checks_behind, images-behind, longest_reaches, table-behind}
+use Rattle.stored_costs.proofs.Laws.Enough.{enough_room, table_readable}
 use Rattle.stored_costs.specs.Reading.{table_checks}
 use Rattle.cost_forms.specs.Said.{images_of, stored_table}
 use Rattle.figures.specs.Checks.{many_check, next_check, same_check}

@@ -4,8 +4,8 @@ use Rattle.std.proofs.Common.{arith, length-append}
 use Rattle.ground.specs.declared.Check.{Check}
 use Rattle.ground.specs.declared.Check.TheVariants.{Passed, Refused}
 use Rattle.ground.specs.declared.Refusal.{Refusal}
-use Rattle.text.specs.Laws.Lengths.{field-most}
-use Rattle.text.specs.Laws.Numbers.{decimal-most}
+use Rattle.text.proofs.Laws.Lengths.{field-most}
+use Rattle.text.proofs.Laws.Numbers.{decimal-most}
 use Rattle.text.specs.Words.{bytes_of}
 use Rattle.listing_lines.specs.Lines.{refused_line}
 use Rattle.seen.specs.Seen.{Entry}

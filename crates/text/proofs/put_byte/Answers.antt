@@ -4,5 +4,4 @@ use Rattle.text.specs.Laws.Putting.{put_one}
 use Rattle.text.proofs.put_byte.Goals as goal
 
 pub returns : goal.returns
-returns c =
-    put_one _ _ _ (search rules)
+returns c = put_one _ _ _ (search rules)

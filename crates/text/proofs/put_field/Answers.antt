@@ -1,7 +1,9 @@
 -- `text::put_field` meets its contract: one blank, then the number. Assumes nothing.
+use Rattle.std.proofs.Common.{[], ◌∷◌}
 use Rattle.text.specs.Decimal.{decimal}
 use Rattle.text.specs.Fields.{field}
-use Rattle.text.specs.Laws.Putting.{byte_fits, last_fits, rest_begin, rest_last}
+use Rattle.text.specs.Putting.{Rest}
+use Rattle.text.specs.Laws.Putting.{byte_fits, last_fits, rest_begin, rest_last, rest-step}
 use Rattle.text.proofs.put_field.Goals as goal
 
 pub put_byte-p-requires : goal.put_byte-p-requires
@@ -12,10 +14,11 @@ put_byte-p-requires c =
 pub put_number-requires : goal.put_number-requires
 unfolding field
 put_number-requires c =
-    let s = c.before.before.before.before.before.before in
-    last_fits (left-1 c.before.before.before) s.requires
+    let left-1 : Rest (decimal c.args.x) c.put_byte-p.result c.put_byte-p.new.out (field c.args.x)
+    c.args.at c.args.out.now = rest-step ((32 ∷ [])) (decimal c.args.x) (rest_begin (field c.args.x) c.args.at c.args.out.now) c.requires c.put_byte-p.ensures in last_fits left-1 c.requires
 
 pub returns : goal.returns
 unfolding field
 returns c =
-    rest_last (left-1 c.before.before.before.before.before.before) c.before.before.put-number.ensures
+    let left-1 : Rest (decimal c.args.x) c.put_byte-p.result c.put_byte-p.new.out (field c.args.x)
+    c.args.at c.args.out.now = rest-step ((32 ∷ [])) (decimal c.args.x) (rest_begin (field c.args.x) c.args.at c.args.out.now) c.requires c.put_byte-p.ensures in rest_last left-1 c.put_number.ensures

@@ -6,8 +6,7 @@ use Rattle.text.specs.Laws.Putting.{rest_begin, rest_end, rest_fits, rest-step}
 use Rattle.text.proofs.put_fields.Goals as goal
 
 pub loop-i-init : goal.loop-i-init
-loop-i-init c =
-    (search rules, rest_begin _ _ _)
+loop-i-init c = (search rules, rest_begin _ _ _)
 
 pub put_field-place-requires : goal.put_field-place-requires
 put_field-place-requires c =
@@ -15,18 +14,12 @@ put_field-place-requires c =
     (rest_same (fields-turn c.args.l.now c.loop-i.i c.loop-i-test.true) c.loop-i.invariant.1) c.requires)
 
 pub loop-i-preserved : goal.loop-i-preserved
-loop-i-preserved c =
-    (
-      search rules,
-      rest-step (field (get_or c.args.l.now c.loop-i.i 0)) _
-          (rest_same (fields-turn c.args.l.now c.loop-i.i c.loop-i-test.true) c.loop-i.invariant.1) c.requires
-          (rw c.wide.ensures at c.put_field-place.ensures),
-    )
-
-pub shape_of-out : goal.shape_of-out
-shape_of-out c =
-    c.loop-i.invariant.1.size
+loop-i-preserved c = (
+  search rules,
+  rest-step (field (get_or c.args.l.now c.loop-i.i 0)) _
+      (rest_same (fields-turn c.args.l.now c.loop-i.i c.loop-i-test.true) c.loop-i.invariant.1) c.requires
+      (rw c.wide.ensures at c.put_field-place.ensures),
+)
 
 pub returns : goal.returns
-returns c =
-    rest_end (rest_same (fields_end _ _ c.loop-i-test.false) c.loop-i.invariant.1)
+returns c = rest_end (rest_same (fields_end _ _ c.loop-i-test.false) c.loop-i.invariant.1)

@@ -4,8 +4,7 @@ use Rattle.upper_sides.specs.Laws.Uppers.{linking_end, linking_none}
 use Rattle.upper_sides.proofs.link.Goals as goal
 
 pub loop-i-init : goal.loop-i-init
-loop-i-init c =
-    (search rules, linking_none _ _ _ c.requires.2)
+loop-i-init c = (search rules, linking_none _ _ _ c.requires.2)
 
 pub turn_link-seen-requires : goal.turn_link-seen-requires
 turn_link-seen-requires c =
@@ -13,12 +12,10 @@ turn_link-seen-requires c =
     (p.0, search rules, p.1, c.loop-i.invariant.1)
 
 pub loop-i-preserved : goal.loop-i-preserved
-loop-i-preserved c =
-    (search rules, c.turn_link-seen.ensures)
+loop-i-preserved c = (search rules, c.turn_link-seen.ensures)
 
 pub shape_of-links : goal.shape_of-links
-shape_of-links c =
-    c.loop-i.invariant.1.room ∙ sym c.requires.2
+shape_of-links c = c.loop-i.invariant.1.room ∙ sym c.requires.2
 
 pub returns : goal.returns
 returns c =

@@ -6,12 +6,10 @@ use Rattle.upper_sides.specs.Laws.Uppers.{marked_more, marked_none}
 use Rattle.upper_sides.proofs.mark.Goals as goal
 
 pub loop-rest-init : goal.loop-rest-init
-loop-rest-init c =
-    (search rules, λ z. omega arith, marked_none _ _ _)
+loop-rest-init c = (search rules, λ z. omega arith, marked_none _ _ _)
 
 pub byte-requires : goal.byte-requires
-byte-requires c =
-    omega (arith, c.requires.0)
+byte-requires c = omega (arith, c.requires.0)
 
 pub overflow_add-links : goal.overflow_add-links
 overflow_add-links c =
@@ -19,7 +17,8 @@ overflow_add-links c =
 
 pub bounds-links-lowest : goal.bounds-links-lowest
 bounds-links-lowest c =
-    let some : 0 < c.loop-rest.rest = search rules in let i = c.loop-rest.invariant in
+    let some : 0 < c.loop-rest.rest = search rules in
+    let i = c.loop-rest.invariant in
     omega (arith, c.lowest.ensures, (lowest_one 64 c.loop-rest.rest some i.0).0, i.2.room, c.requires.1)
 
 pub loop-rest-smaller : goal.loop-rest-smaller
@@ -28,7 +27,8 @@ loop-rest-smaller c =
 
 pub loop-rest-preserved : goal.loop-rest-preserved
 loop-rest-preserved c =
-    let some : 0 < c.loop-rest.rest = search rules in let i = c.loop-rest.invariant in
+    let some : 0 < c.loop-rest.rest = search rules in
+    let i = c.loop-rest.invariant in
     let x = c.loop-rest.rest in (
       rw c.without_lowest-rest.ensures (without_fits 64 _ 0 some i.0 (omega arith)),
       λ z. rw c.without_lowest-rest.ensures (omega (arith, bit_and_lem z x (x - 1), i.1 z)),
@@ -37,8 +37,7 @@ loop-rest-preserved c =
     )
 
 pub shape_of-links : goal.shape_of-links
-shape_of-links c =
-    c.loop-rest.invariant.2.room
+shape_of-links c = c.loop-rest.invariant.2.room
 
 pub returns : goal.returns
 returns c =

@@ -5,18 +5,19 @@ use Rattle.upper_sides.proofs.turn_link.Goals as goal
 
 pub overflow_sub-both : goal.overflow_sub-both
 overflow_sub-both c =
-    let fits : c.args.seen < 2 ^ 64 = search rules in let p = c.requires in both_less _ _ _ _ _ p.1 p.2 fits p.3
+    let fits : c.args.seen < 2 ^ 64 = search rules in
+    let p = c.requires in both_less _ _ _ _ _ p.1 p.2 fits p.3
 
 pub mark-requires : goal.mark-requires
 mark-requires c =
     let p = c.requires in (omega (arith, p.1, p.2), simp length-set p.3.room)
 
 pub shape_of-links : goal.shape_of-links
-shape_of-links c =
-    simp length-set at c.mark.ensures.room
+shape_of-links c = simp length-set at c.mark.ensures.room
 
 pub returns : goal.returns
 returns c =
-    let fits : c.args.seen < 2 ^ 64 = search rules in let p = c.requires in
+    let fits : c.args.seen < 2 ^ 64 = search rules in
+    let p = c.requires in
     linking_more _ _ _ _ _ p.1 p.2 fits p.3 _ _
     (rw c.byte.ensures c.next.ensures) c.mark.ensures

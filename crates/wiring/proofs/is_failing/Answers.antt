@@ -1,5 +1,5 @@
 -- `wiring::is_failing` meets its contract: sums of two entries fit, since each is at most the limit. Assumes nothing.
-use Rattle.std.proofs.Common.{ap, ap₂, ltb, ℕ, ◌∙◌, ◌≡◌}
+use Rattle.std.proofs.Common.{ap, ap₂, ltb, ℕ, ◌+◌, ◌∙◌, ◌≡◌}
 use Rattle.theory.specs.FourPoint.{times_largest}
 use Rattle.wiring.proofs.is_failing.Goals as goal
 

@@ -6,21 +6,17 @@ use Rattle.wiring.proofs.scan_last.Goals as goal
 
 pub loop-l-init : goal.loop-l-init
 unfolding last_scan
-loop-l-init c =
-    (search rules, refl)
+loop-l-init c = (search rules, refl)
 
 pub returns-in-Refused : goal.returns-in-Refused
-returns-in-Refused c =
-    all_stops _ _ _ (search rules) c.loop-l.invariant.1 c.in-Refused.is c.check_four-c.ensures
+returns-in-Refused c = all_stops _ _ _ (search rules) c.loop-l.invariant.1 c.in-Refused.is c.check_four-c.ensures
 
 pub loop-l-preserved : goal.loop-l-preserved
-loop-l-preserved c =
-    (
+loop-l-preserved c = (
   search rules,
   all_goes _ _ _ (search rules) c.loop-l.invariant.1 c.in-Passed.is
       c.check_four-c.ensures,
 )
 
 pub returns : goal.returns
-returns c =
-    all_ends _ _ _ (search rules) c.loop-l.invariant.1
+returns c = all_ends _ _ _ (search rules) c.loop-l.invariant.1

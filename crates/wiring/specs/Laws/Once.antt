@@ -4,7 +4,7 @@ use Rattle.std.proofs.Common.{sym, ◌∙◌, arith, le-ltb, ltb-false, ltb-true
 use borrow.Table.Steps.{cases}
 use Rattle.ground.specs.Laws.Tests.{and_l, and_not_both, and_r}
 use Rattle.theory.specs.FourPoint.{times_largest}
-use Rattle.theory.specs.Laws.FourPoint.{above_none, none_above, none_above₂, none_above₃}
+use Rattle.theory.proofs.Laws.FourPoint.{above_none, none_above, none_above₂, none_above₃}
 use Rattle.wiring.specs.Once.{above}
 
 above-max : (x y z : ℕ) → above x y z ≡ true → max y z < x

@@ -1,0 +1,3 @@
+-- Accepted conversions.
+pub mod Costs
+pub mod Links

@@ -1,0 +1,8 @@
+-- Examples that antt computes.
+pub mod Examples
+-- Its checks by their numbers, in order.
+pub mod InOrder
+-- Laws.
+pub mod Laws
+-- What the promise is worth: reading undoes writing.
+pub mod RoundTrips

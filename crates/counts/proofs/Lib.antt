@@ -1,0 +1,4 @@
+-- Small differences, computed.
+pub mod Examples
+-- Laws.
+pub mod Laws

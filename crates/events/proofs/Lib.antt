@@ -1,0 +1,2 @@
+-- What is true of it.
+pub mod Laws

@@ -1,0 +1,3 @@
+pub mod Examples
+-- What is true of it.
+pub mod Laws

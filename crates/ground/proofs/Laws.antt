@@ -1,0 +1,3 @@
+-- Signed numbers.
+pub mod Signed
+pub mod SignedLeast

@@ -1,0 +1,22 @@
+-- `leveling::scan_second` meets its contract: what is left answers as the whole does. Assumes nothing.
+use Rattle.std.proofs.Common.{rules}
+use Rattle.ground.specs.Laws.Lowest.{all_ends, all_goes, all_stops}
+use Rattle.theory.specs.Tables.{limit}
+use Rattle.leveling.proofs.Laws.Scan.{second-behind}
+use Rattle.leveling.proofs.scan_second.Goals as goal
+
+pub loop-j-init : goal.loop-j-init
+loop-j-init c = (search rules, second-behind limit _ _ c.requires.0.formed _ (search rules))
+
+pub returns-in-Refused : goal.returns-in-Refused
+returns-in-Refused c = all_stops _ _ _ (search rules) c.loop-j.invariant.1 c.in-Refused.is c.scan_last-c.ensures
+
+pub loop-j-preserved : goal.loop-j-preserved
+loop-j-preserved c = (
+  search rules,
+  all_goes _ _ _ (search rules) c.loop-j.invariant.1 c.in-Passed.is
+      c.scan_last-c.ensures,
+)
+
+pub returns : goal.returns
+returns c = all_ends _ _ _ (search rules) c.loop-j.invariant.1

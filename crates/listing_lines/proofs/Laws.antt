@@ -1,0 +1,2 @@
+-- What a line says can be read off it.
+pub mod Once

@@ -1,0 +1,4 @@
+-- Laws.
+pub mod Laws
+-- What it is worth.
+pub mod Promises

@@ -1,0 +1,2 @@
+pub mod Below
+pub mod Chains

@@ -1,0 +1,4 @@
+-- The pieces of a row's text.
+mod Pieces
+-- Laws.
+pub mod Laws

@@ -1,0 +1,2 @@
+-- What its checks say.
+pub mod Accepted

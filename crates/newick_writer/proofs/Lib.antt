@@ -1,0 +1,5 @@
+pub mod Examples
+pub mod InOrder
+-- Laws.
+pub mod Laws
+pub mod Promises

@@ -1,0 +1,3 @@
+pub mod Examples
+-- Laws.
+pub mod Laws

@@ -1,0 +1,4 @@
+pub mod Condition
+pub mod Facts
+-- The order as the code reads it.
+pub mod Seats

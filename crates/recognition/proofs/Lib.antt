@@ -1,0 +1,3 @@
+-- Laws.
+pub mod Laws
+pub mod Promises

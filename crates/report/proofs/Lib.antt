@@ -1,0 +1,2 @@
+-- Its checks by their numbers.
+pub mod InOrder

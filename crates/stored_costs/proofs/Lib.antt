@@ -1,0 +1,5 @@
+pub mod Examples
+-- Its checks by their numbers, in order.
+pub mod InOrder
+-- Laws.
+pub mod Laws

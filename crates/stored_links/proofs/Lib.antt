@@ -1,0 +1,4 @@
+-- Its checks by their numbers, in order.
+pub mod InOrder
+-- Laws.
+pub mod Laws

@@ -1,4 +1,0 @@
--- What the checks of all pairs say.
-pub mod Pairs
--- The checks pass exactly for cost tables.
-pub mod Formed

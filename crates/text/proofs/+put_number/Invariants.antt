@@ -1,0 +1,5 @@
+-- `text::put_number`: what falls is the number.
+use Rattle.text.proofs.+put_number.Given as goal
+
+abbrev pub decreases-put_number : goal.decreases-put_number
+decreases-put_number l = l.x

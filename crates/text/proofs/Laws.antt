@@ -1,0 +1,4 @@
+pub mod Lengths
+-- Digits and pieces, how long they can be, and that they have no zero byte.
+pub mod Numbers
+pub mod Zeros

@@ -1,0 +1,4 @@
+-- Examples that antt computes.
+pub mod Examples
+-- Laws.
+pub mod Laws

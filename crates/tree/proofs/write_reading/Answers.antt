@@ -1,0 +1,18 @@
+-- `tree::write_reading` meets its contract: the rows fit, since a reading has at most 2 n - 3. Assumes nothing.
+use Rattle.std.proofs.Common.{arith}
+use native.Mathlib.Nat.{le_trans}
+use Rattle.theory.specs.Tables.{limit}
+use Rattle.tree.proofs.Laws.Writing.{held_count, rows_written}
+use Rattle.tree.proofs.write_reading.Goals as goal
+
+pub write_rows-requires : goal.write_rows-requires
+write_rows-requires c =
+    let h = c.measured_rows-count.ensures in
+    let p = c.requires in
+    let n = held_count limit _ _ _ _ _ p.0.some p.0.formed h in
+    (omega (arith, h.few, h.far-room), omega (arith, h.few, h.cost-room), le_trans n p.1, le_trans n p.2)
+
+pub returns : goal.returns
+returns c =
+    let h = c.measured_rows-count.ensures in
+    rows_written limit _ _ _ _ _ _ _ _ _ h c.write_rows.ensures.0 c.write_rows.ensures.1

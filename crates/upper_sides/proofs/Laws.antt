@@ -1,0 +1,3 @@
+pub mod Chain
+pub mod Ends
+pub mod Places

@@ -1,0 +1,4 @@
+-- Laws.
+pub mod Laws
+-- What refusal 7 is worth.
+pub mod Promises
