@@ -7,26 +7,34 @@ use case_text::{
 };
 use ground::Check;
 use leaving::Replayed;
+use std::io;
 
 // Prints the refusal that ended a replay, of the start or of an event, and 0 where there is none.
-fn show_stop(stop: Check) {
+fn show_stop(rt: &impl Print, stop: Check) -> io::Result<()> {
     match stop {
-        Check::Refused(r) => show_refusal(r),
-        Check::Passed => show_first(0),
+        Check::Refused(r) => show_refusal(rt, r),
+        Check::Passed => show_first(rt, 0),
     }
 }
 
 // Prints the answer of the replay. What is left stands behind a refusal too.
-fn show_replayed(answer: Replayed) {
+fn show_replayed(rt: &impl Print, answer: Replayed) -> io::Result<()> {
     let stop = answer.stop;
-    show_stop(stop);
-    show_next(answer.images as u64);
-    show_next(answer.rows as u64);
-    show_next(answer.event as u64);
+    show_stop(rt, stop)?;
+    show_next(rt, answer.images as u64)?;
+    show_next(rt, answer.rows as u64)?;
+    show_next(rt, answer.event as u64)
 }
 
 // A case behind its events.
-fn outputs_case(n: usize, t: &[u32], events: &[u8], text: &[u8], at: usize) -> usize {
+fn outputs_case(
+    rt: &impl Print,
+    n: usize,
+    t: &[u32],
+    events: &[u8],
+    text: &[u8],
+    at: usize,
+) -> io::Result<usize> {
     let mut sides = [0u64; 4200];
     let side_room = take64(text, at, &mut sides);
     let side_count = side_room.count;
@@ -35,24 +43,24 @@ fn outputs_case(n: usize, t: &[u32], events: &[u8], text: &[u8], at: usize) -> u
     let cost_room = take32(text, side_room.next, &mut doubled);
     let cost_count = cost_room.count;
     let costs = &mut doubled[..cost_count];
-    show_replayed(leaving::replay(n, t, events, fars, costs));
-    show64(fars);
-    show32(costs);
-    cost_room.next
+    show_replayed(rt, leaving::replay(n, t, events, fars, costs))?;
+    show64(rt, fars)?;
+    show32(rt, costs)?;
+    Ok(cost_room.next)
 }
 
 // A case behind its cost table.
-fn events_case(n: usize, t: &[u32], text: &[u8], at: usize) -> usize {
+fn events_case(rt: &impl Print, n: usize, t: &[u32], text: &[u8], at: usize) -> io::Result<usize> {
     let mut given = [0u8; 5900];
     let bytes = take8(text, at, &mut given);
     let count = bytes.count;
-    outputs_case(n, t, &given[..count], text, bytes.next)
+    outputs_case(rt, n, t, &given[..count], text, bytes.next)
 }
 
-pub fn leaving_case(text: &[u8], at: usize) -> usize {
+pub fn leaving_case(rt: &impl Print, text: &[u8], at: usize) -> io::Result<usize> {
     let n = number_at(text, at);
     let mut entries = [0u32; 4200];
     let table = take32(text, n.next, &mut entries);
     let count = table.count;
-    events_case(n.value as usize, &entries[..count], text, table.next)
+    events_case(rt, n.value as usize, &entries[..count], text, table.next)
 }

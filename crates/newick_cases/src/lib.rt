@@ -8,26 +8,28 @@ use case_text::{
     take32, take64,
 };
 use newick_reader::NewickTree;
+use std::io;
 
 // A case behind its link table.
 fn write_rows_case(
+    rt: &impl Print,
     n: usize,
     count: usize,
     fars: &[u64],
     costs: &[u32],
     text: &[u8],
     at: usize,
-) -> usize {
+) -> io::Result<usize> {
     let mut bytes = [0u8; 5900];
     let room = take8(text, at, &mut bytes);
     let size = room.count;
     let out = &mut bytes[..size];
-    show_written(newick_writer::write_newick(n, count, fars, costs, out));
-    show8(out);
-    room.next
+    show_written(rt, newick_writer::write_newick(n, count, fars, costs, out))?;
+    show8(rt, out)?;
+    Ok(room.next)
 }
 
-fn write_newick_case(text: &[u8], at: usize) -> usize {
+fn write_newick_case(rt: &impl Print, text: &[u8], at: usize) -> io::Result<usize> {
     let n = number_at(text, at);
     let rows = number_at(text, n.next);
     let mut sides = [0u64; 4200];
@@ -37,6 +39,7 @@ fn write_newick_case(text: &[u8], at: usize) -> usize {
     let costs = take32(text, fars.next, &mut doubled);
     let v = costs.count;
     write_rows_case(
+        rt,
         n.value as usize,
         rows.value as usize,
         &sides[..f],
@@ -47,19 +50,19 @@ fn write_newick_case(text: &[u8], at: usize) -> usize {
 }
 
 // Prints the answer of the reader.
-fn show_newick_tree(answer: NewickTree) {
+fn show_newick_tree(rt: &impl Print, answer: NewickTree) -> io::Result<()> {
     match answer {
-        NewickTree::Refused(r) => show_refusal(r),
+        NewickTree::Refused(r) => show_refusal(rt, r),
         NewickTree::Table { n, count } => {
-            show_first(0);
-            show_next(n as u64);
-            show_next(count as u64);
+            show_first(rt, 0)?;
+            show_next(rt, n as u64)?;
+            show_next(rt, count as u64)
         }
     }
 }
 
 // A case behind its bytes.
-fn read_bytes_case(bytes: &[u8], text: &[u8], at: usize) -> usize {
+fn read_bytes_case(rt: &impl Print, bytes: &[u8], text: &[u8], at: usize) -> io::Result<usize> {
     let mut sides = [0u64; 4200];
     let side_room = take64(text, at, &mut sides);
     let side_count = side_room.count;
@@ -68,22 +71,22 @@ fn read_bytes_case(bytes: &[u8], text: &[u8], at: usize) -> usize {
     let cost_room = take32(text, side_room.next, &mut doubled);
     let cost_count = cost_room.count;
     let costs = &mut doubled[..cost_count];
-    show_newick_tree(newick_reader::read_newick(bytes, fars, costs));
-    show64(fars);
-    show32(costs);
-    cost_room.next
+    show_newick_tree(rt, newick_reader::read_newick(bytes, fars, costs))?;
+    show64(rt, fars)?;
+    show32(rt, costs)?;
+    Ok(cost_room.next)
 }
 
-fn read_newick_case(text: &[u8], at: usize) -> usize {
+fn read_newick_case(rt: &impl Print, text: &[u8], at: usize) -> io::Result<usize> {
     let mut given = [0u8; 5900];
     let bytes = take8(text, at, &mut given);
     let count = bytes.count;
-    read_bytes_case(&given[..count], text, bytes.next)
+    read_bytes_case(rt, &given[..count], text, bytes.next)
 }
 
-pub fn newick_case(call: u32, text: &[u8], at: usize) -> usize {
+pub fn newick_case(rt: &impl Print, call: u32, text: &[u8], at: usize) -> io::Result<usize> {
     if call == WRITE_NEWICK {
-        return write_newick_case(text, at);
+        return write_newick_case(rt, text, at);
     }
-    read_newick_case(text, at)
+    read_newick_case(rt, text, at)
 }

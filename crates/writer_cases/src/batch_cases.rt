@@ -2,20 +2,28 @@
 use batch::Batched;
 use bits::Edition;
 use case_text::{show_first, show_next, show_table_refusal, show8, take8, take32, take64};
+use std::io;
 
 // Prints the answer of the batch writer.
-fn show_batched(answer: Batched) {
+fn show_batched(rt: &impl Print, answer: Batched) -> io::Result<()> {
     match answer {
-        Batched::Refused(table, r) => show_table_refusal(table, r),
+        Batched::Refused(table, r) => show_table_refusal(rt, table, r),
         Batched::Bytes(used) => {
-            show_first(0);
-            show_next(used as u64);
+            show_first(rt, 0)?;
+            show_next(rt, used as u64)
         }
     }
 }
 
 // A case behind the two lists.
-fn rows_case(edition: Edition, ns: &[u32], counts: &[u32], text: &[u8], at: usize) -> usize {
+fn rows_case(
+    rt: &impl Print,
+    edition: Edition,
+    ns: &[u32],
+    counts: &[u32],
+    text: &[u8],
+    at: usize,
+) -> io::Result<usize> {
     let mut sides = [0u64; 4200];
     let fars = take64(text, at, &mut sides);
     let f = fars.count;
@@ -26,18 +34,21 @@ fn rows_case(edition: Edition, ns: &[u32], counts: &[u32], text: &[u8], at: usiz
     let room = take8(text, costs.next, &mut bytes);
     let size = room.count;
     let out = &mut bytes[..size];
-    show_batched(batch::write_batch(edition, ns, counts, &sides[..f], &doubled[..v], out));
-    show8(out);
-    room.next
+    show_batched(
+        rt,
+        batch::write_batch(edition, ns, counts, &sides[..f], &doubled[..v], out),
+    )?;
+    show8(rt, out)?;
+    Ok(room.next)
 }
 
 // Reads the arguments, makes the call, prints what it answers and leaves, and gives the place behind the case.
-pub fn batch_case(edition: Edition, text: &[u8], at: usize) -> usize {
+pub fn batch_case(rt: &impl Print, edition: Edition, text: &[u8], at: usize) -> io::Result<usize> {
     let mut images = [0u32; 4200];
     let ns = take32(text, at, &mut images);
     let i = ns.count;
     let mut rows = [0u32; 4200];
     let counts = take32(text, ns.next, &mut rows);
     let j = counts.count;
-    rows_case(edition, &images[..i], &rows[..j], text, counts.next)
+    rows_case(rt, edition, &images[..i], &rows[..j], text, counts.next)
 }
