@@ -13,7 +13,7 @@ use Rattle.link_forms.specs.Form.{link_bytes, link_fields, new_links, old_links,
 use Rattle.link_forms.specs.Said.{cost_at, count_of, far_at, fill_of, images_of}
 use Rattle.choice.specs.Call.{choice_either, choice_of, part_of}
 use Rattle.choice.specs.declared.Chosen.TheVariants.{Refused, Table}
-pub use Rattle.choice.specs.Examples.{stored_e, stored_g, exchanged_e, new_e, new_g}
+unfoldable pub use Rattle.choice.specs.Examples.{stored_e, stored_g, exchanged_e, new_e, new_g}
 
 -- E includes G, whichever stands first and whatever follows; of equals the first; neither of two different inner far sides; different n
 pub chosen_examples : (choice_of old_links old_links stored_e stored_g ≡ Table 1 17)

@@ -19,7 +19,8 @@ use Rattle.consensus.specs.Call.{consensus_outcome, joined_check, leaving, numbe
 use Rattle.consensus.specs.Team.{shared_links, table_at, tables_in}
 use Rattle.consensus.specs.declared.Shared.{Shared}
 use Rattle.consensus.specs.declared.Shared.TheVariants.{Refused, Rows}
-pub use Rattle.consensus.specs.InOrder.{team_steps, steps_from, consensus_steps, table_numbers}
+pub use Rattle.consensus.specs.InOrder.{team_steps, consensus_steps, table_numbers}
+unfoldable pub use Rattle.consensus.specs.InOrder.{steps_from}
 
 team_order : (n m : ℕ) (t : List ℕ) (f v : ℕ) → InOrder (team_steps n m t f v) (team_check n m t f v)
 unfolding team_check

@@ -15,7 +15,7 @@ use Rattle.newick_text.specs.LinkTrees.{grown, newick, part}
 use Rattle.newick_text.specs.Bytes.{run, step}
 use Rattle.newick_text.specs.Ends.{lived}
 use Rattle.newick_text.specs.Reading.{read_checks, tree_in}
-pub use Rattle.newick_text.specs.Examples.{rows_g, text_g}
+unfoldable pub use Rattle.newick_text.specs.Examples.{rows_g, text_g}
 
 -- it is written as document 02's text, and this is read as it
 pub example_g_lem : (newick rows_g ≡ text_g) × (read_checks limit text_g 5 ≡ Passed) × (table_of (tree_in text_g) ≡ rows_g)

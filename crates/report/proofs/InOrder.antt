@@ -18,7 +18,8 @@ use Rattle.report.specs.Outcome.{outcome, refused_table, report_outcome, room_ch
 use Rattle.figures.specs.Checks.{differs, many_check, most_sides, most_tables, next_check, same_check}
 use Rattle.figures.specs.Reading.{Ended, go_on, read_all, read_on}
 use Rattle.figures.specs.Tables.{Table, table_at}
-pub use Rattle.report.specs.InOrder.{next_steps, steps_from, report_steps, Stop, stop_at, stop_of, tables_in, table_numbers}
+pub use Rattle.report.specs.InOrder.{next_steps, report_steps, Stop, stop_at, stop_of, table_numbers}
+unfoldable pub use Rattle.report.specs.InOrder.{steps_from, tables_in}
 
 next-order : (L : ℕ) (ts : List Table) (s : List ℕ) → InOrder (next_steps L ts s) (next_check L ts s)
 unfolding next_check

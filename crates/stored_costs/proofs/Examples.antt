@@ -13,7 +13,7 @@ use Rattle.cost_forms.specs.Said.{stored_table, entry_of, fill_of, images_of}
 use Rattle.stored_costs.specs.Outcomes.{judged, judged_either}
 use Rattle.stored_costs.specs.declared.StoredCosts.TheVariants.{Table}
 use Rattle.stored_costs.specs.declared.StoredCosts.TheVariants as stored
-pub use Rattle.stored_costs.specs.Examples.{table_a, stored_a, new_stored_a}
+unfoldable pub use Rattle.stored_costs.specs.Examples.{table_a, stored_a, new_stored_a}
 
 -- it is written as document 01's bytes, and these are read as it
 pub example_a_lem : (cost_bytes old_costs 3 (cost table_a 3) ≡ stored_a) × (judged old_costs stored_a 0 9 ≡ Table 3 9) × (stored_table old_costs 3 stored_a ≡ table_a)

@@ -30,7 +30,7 @@ measured-drawn L n t c =
     record { tree = m.drawn; under = m.under; index = m.index }
 
 module _ (L n : ℕ) (t f v : List ℕ) where
-  pub measured-answer : (r : ℕ) (f' v' : List ℕ) → LeftRows (measured_outcome L n t f v) (Places r) f' v' → MeasuredAnswer r f' v'
+  pub measured-answer : (r : ℕ) (f' v' : List ℕ) → LeftRows (measured_outcome L n t f v) (Places r) f' v' → MeasuredAnswer L n t f v r f' v'
   measured-answer r f' v' l =
       let a = left_stand (measured_check L n t (length f) (length v)) (measured L (cost t n) n) r f v f' v' l in
       let y = (measured-passed L n t (length f) (length v)).0 a.0 in
@@ -42,7 +42,7 @@ module _ (L n : ℕ) (t f v : List ℕ) where
 
   -- ## The exact reading
 
-  pub exact_answer : (r : ℕ) (f' v' : List ℕ) → LeftRows (exact_outcome L n t f v) (Places r) f' v' → ExactAnswer r f' v'
+  pub exact_answer : (r : ℕ) (f' v' : List ℕ) → LeftRows (exact_outcome L n t f v) (Places r) f' v' → ExactAnswer L n t f v r f' v'
   exact_answer r f' v' l =
       let a = left_stand (exact_check L n t (length f) (length v)) (exact_rows L n t) r f v f' v' l in
       let p = then_passed (measured_check L n t (length f) (length v)) (wiring_check (cost t n) n) a.0 in
