@@ -16,7 +16,7 @@ returns-in-Refused c =
     let a = c.args in
     let l = c.loop-i in
     answer_stops (link_form a.edition) a.ns.now a.counts.now a.fars.now a.costs.now a.room l.used l.rows l.i _ _ c.requires
-    c.loop-i-test.taken (sym c.number_at-n.ensures) (sym c.number_at-count.ensures) c.in-Refused.is c.check_from.ensures
+    c.loop-i-test.true (sym c.number_at-n.ensures) (sym c.number_at-count.ensures) c.in-Refused.is c.check_from.ensures
     ∙ sym l.invariant.4
 
 pub links_used-used-requires : goal.links_used-used-requires
@@ -33,7 +33,7 @@ overflow_add-used c =
     (drop c.loop-i.rows c.args.fars.now)
     (drop c.loop-i.rows c.args.costs.now)
     (c.args.room - c.loop-i.used) = next-passed _ _ _ _ _ _ (sym c.check_from.ensures ∙ c.in-Passed.is) in
-    omega (arith, c.links_used-used.ensures, passed.fits, c.loop-i.invariant.3, c.fits.room)
+    omega (arith, c.links_used-used.ensures, passed.fits, c.loop-i.invariant.3, c.ranges.room.fits)
 
 pub overflow_add-rows : goal.overflow_add-rows
 overflow_add-rows c =
@@ -43,7 +43,7 @@ overflow_add-rows c =
     (c.args.room - c.loop-i.used) = next-passed _ _ _ _ _ _ (sym c.check_from.ensures ∙ c.in-Passed.is) in
     let l = c.loop-i in
     let z = next-length _ _ _ _ _ _ passed in
-    omega (arith, z.0, length-drop l.rows c.args.fars.now, l.invariant.1, c.good)
+    omega (arith, z.0, length-drop l.rows c.args.fars.now, l.invariant.1, c.well_formed)
 
 pub loop-i-preserved : goal.loop-i-preserved
 loop-i-preserved c =
@@ -63,7 +63,7 @@ loop-i-preserved c =
       omega (arith, c.links_used-used.ensures, p.fits, l.invariant.3),
       l.invariant.4
           ∙ answer_goes form a.ns.now a.counts.now a.fars.now a.costs.now a.room l.used l.rows l.i _ _ c.requires
-          c.loop-i-test.taken (sym c.number_at-n.ensures) (sym c.number_at-count.ensures) c.in-Passed.is
+          c.loop-i-test.true (sym c.number_at-n.ensures) (sym c.number_at-count.ensures) c.in-Passed.is
           c.check_from.ensures
           ∙ ap (λ (x : ℕ). answer_at form a.ns.now a.counts.now a.fars.now a.costs.now a.room (l.used + x) (l.rows + N) (l.i + 1))
           (sym c.links_used-used.ensures),
