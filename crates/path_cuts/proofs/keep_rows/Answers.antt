@@ -37,7 +37,7 @@ overflow_sub-togo c =
 
 pub loop-i-preserved : goal.loop-i-preserved
 loop-i-preserved c =
-    keeping_more _ _ _ _ _ c.requires _ _ _ _ c.loop-i.invariant c.loop-i-test.true _ (ltb-true 0 _ c.if-togo-gt0.true)
+    keeping_more _ _ _ _ _ c.requires _ _ _ _ c.loop-i.invariant c.loop-i-test.true _ c.if-togo-gt0.true
     c.lower-stays.ensures
 
 pub shape_of-sides-else-togo-gt0 : goal.shape_of-sides-else-togo-gt0
@@ -50,7 +50,7 @@ shape_of-lengths-else-togo-gt0 c =
 
 pub returns-else-togo-gt0 : goal.returns-else-togo-gt0
 returns-else-togo-gt0 c =
-    keeping_end _ _ _ _ _ c.requires _ _ _ _ c.loop-i.invariant (λ h. omega (arith, ltb-false 0 c.loop-i.togo c.if-togo-gt0.false))
+    keeping_end _ _ _ _ _ c.requires _ _ _ _ c.loop-i.invariant (λ h. omega (arith, c.if-togo-gt0.false))
 
 pub shape_of-sides-after-loop-i : goal.shape_of-sides-after-loop-i
 shape_of-sides-after-loop-i c =
