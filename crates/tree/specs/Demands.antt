@@ -1,5 +1,5 @@
 -- Demands 2 and 3 over what the calls answered and left in the lent slices, f' and v' after f and v. Demand 1, of every call, is in
--- kemotuiki/specs/Demand1.antt. Assumes nothing.
+-- kemotuiki/proofs/Demand1.antt. Assumes nothing.
 use Rattle.std.specs.Prelude.{List, ◌↔◌, ◌≡◌, ℕ, ◌*◌, ◌+◌, ◌≤◌}
 use Rattle.ground.specs.declared.Written.{Written}
 use Rattle.ground.specs.declared.Written.TheVariants.{Places}
