@@ -17,7 +17,7 @@ use Rattle.consensus.proofs.Laws.Left.{consensus-accepted, consensus_reads}
 use Rattle.consensus.specs.Team.{TeamReady, shared_links, table_at, tables_in}
 use Rattle.consensus.specs.declared.Shared.{Shared}
 use Rattle.consensus.specs.declared.Shared.TheVariants.{Refused, Rows}
-pub use Rattle.consensus.specs.Answers.{FirstTable, FirstRefusal}
+pub use Rattle.consensus.specs.Answers.{FirstTable, FirstRefusal, of_team, of_table_lem}
 
 number_same : {a b : ℕ} {p q : Refusal} → Refused a p ≡ Refused b q → b ≡ a
 number_same e = cc
