@@ -27,12 +27,12 @@ returns-in_default c =
 pub loop-k-preserved : goal.loop-k-preserved
 loop-k-preserved c =
     let r = c.loop-k.invariant.2 in
-    let k = c.take_next-turn.auto.1 in (
+    let k = c.take_next-turn.auto in (
       omega (arith, c.loop-k-test.true),
-      k.0 ∙ c.loop-k.invariant.1,
+      k.t ∙ c.loop-k.invariant.1,
       running_more _ _ _ _ c.requires _ _ _ _ _ r c.loop-k-test.true c.if-bytes-figures.false _ _ _ _
           (c.take_next-turn.ensures.turned r.read (running_paused _ _ _ _ c.requires _ _ _ _ _ r c.loop-k-test.true))
-          c.in-Passed.is k.1.1.0 k.1.1.1.0 k.1.1.1.1.0,
+          c.in-Passed.is k.fars k.trees k.sums,
     )
 
 pub returns : goal.returns
