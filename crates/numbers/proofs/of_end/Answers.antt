@@ -1,0 +1,10 @@
+-- `numbers::of_end` meets its contract. Assumes nothing.
+use Rattle.numbers.proofs.of_end.Goals as goal
+
+pub returns-in-Passed : goal.returns-in-Passed
+returns-in-Passed c =
+    rw (c.accept.ensures, c.in-Passed.is)
+
+pub returns-in-Refused : goal.returns-in-Refused
+returns-in-Refused c =
+    rw (c.refuse.ensures, c.in-Refused.is)
