@@ -10,4 +10,4 @@ returns c =
     let p = put_front c.write_stored-length.ensures in
     let l : Listed _ _ _ = record { sized = p.0; listed = p.1 } in
     let h = listed_within _ l in
-    (l, (h, sym (length-take-le _ _ h)))
+    record { listed = l; within = (h, sym (length-take-le _ _ h)) }

@@ -10,4 +10,4 @@ returns c =
     let p = put_front c.write_stored-length.ensures in
     let l : Printed _ _ _ = record { sized = p.0; printed = p.1 } in
     let h = printed_within _ l in
-    (l, (h, sym (length-take-le _ _ h)))
+    record { printed = l; within = (h, sym (length-take-le _ _ h)) }

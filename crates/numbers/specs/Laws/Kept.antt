@@ -40,7 +40,7 @@ ReadBack head numbers refuse value x =
 
 module _ {A K : Type 0} (head : K → KemotuikiHead) (numbers : A → K) (refuse : ℕ → Refusal → A) (value : K → A) where
   -- what was accepted where the number is 0, else the refusal
-  abbrev back : K → A
+  abbrev pub back : K → A
   back k = cond (eqb (head k).number 0) (value k) (refuse (head k).table (refusal_of (head k)))
 
   -- nothing is lost where refusals cross by their numbers and every answer is read back

@@ -26,10 +26,6 @@ loop-i-preserved c =
           c.loop-i.invariant.1) c.requires.2 c.put_side-place.ensures,
     )
 
-pub shape_of-out : goal.shape_of-out
-shape_of-out c =
-    c.loop-i.invariant.1.size
-
 pub returns : goal.returns
 returns c =
     rest_end (rest_same (rows_end _ _ _ _ c.loop-i-test.false) c.loop-i.invariant.1)
