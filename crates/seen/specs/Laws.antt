@@ -5,7 +5,6 @@ pub mod Halves
 pub mod Placing
 pub mod Last
 pub mod Asked
-pub mod Steps
 pub mod Ended
 -- What a tree more does to the far sides seen.
 pub mod Tally

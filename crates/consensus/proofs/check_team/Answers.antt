@@ -18,11 +18,10 @@ returns-in_default-team c =
     (then_stops _ _ c.in_default-team.is c.check_number-team.ensures)
 
 pub check_joined-joined-requires : goal.check_joined-joined-requires
-check_joined-joined-requires c =
-    (
-      (images-passed _ (sym c.check_images-images.ensures ∙ c.in-Passed.is)).1,
-      (number_passed _ (sym c.check_number-team.ensures ∙ c.in-Passed-team.is)).1,
-    )
+check_joined-joined-requires c = (
+  (images-passed _ (sym c.check_images-images.ensures ∙ c.in-Passed.is)).1,
+  (number_passed _ (sym c.check_number-team.ensures ∙ c.in-Passed-team.is)).1,
+)
 
 pub returns-in_default-joined : goal.returns-in_default-joined
 unfolding team_check

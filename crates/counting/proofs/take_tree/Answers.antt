@@ -1,15 +1,11 @@
 -- `counting::take_tree` meets its contract: judged by 19 before the first store, then put in and counted. Assumes nothing.
-use Rattle.std.proofs.Common.{arith, length-take-le, sym, take, ◌+◌, ◌<◌, ◌≤◌}
+use Rattle.std.proofs.Common.{arith, take, ◌+◌, ◌<◌, ◌≤◌}
 use Rattle.counting.specs.Laws.Before.{last_few, last_is, numbers_fit, sides_few}
 use Rattle.counting.specs.Laws.PutIn.{moved_tree, put_ready}
 use Rattle.counting.specs.Laws.Taken.{far_ascends, far_few, fresh_ready, more-sides, moved_many}
 use Rattle.counts.proofs.Laws.Formula.{inners_le}
 use Rattle.figures.specs.Laws.Pairs.{pair_cap}
 use Rattle.counting.proofs.take_tree.Goals as goal
-
-pub slice_bounds-fresh-end : goal.slice_bounds-fresh-end
-slice_bounds-fresh-end c =
-    let y = c.requires.ready in sym (length-take-le _ _ (omega (arith, y.few, y.far-room)))
 
 pub fresh-requires : goal.fresh-requires
 fresh-requires c =
@@ -33,14 +29,6 @@ pub returns-then-all-gt1024 : goal.returns-then-all-gt1024
 returns-then-all-gt1024 c =
     let many : 1024 < c.args.here.figures.sides + c.fresh.result = c.if-all-gt1024.true in
     record { taken = λ ts u y. moved_many _ _ _ _ _ _ _ _ _ y _ (more-sides _ _ _ _ _ _ _ _ _ y _ c.fresh.ensures) many }
-
-pub slice_bounds-count_pair-end : goal.slice_bounds-count_pair-end
-slice_bounds-count_pair-end c =
-    let x = c.requires.ready.table.read.stands in sym (length-take-le _ _ (omega (arith, x.few, x.last_room)))
-
-pub slice_bounds-count_pair-end-2 : goal.slice_bounds-count_pair-end-2
-slice_bounds-count_pair-end-2 c =
-    let y = c.requires.ready in sym (length-take-le _ _ (omega (arith, y.few, y.far-room)))
 
 pub count_pair-pair-requires : goal.count_pair-pair-requires
 count_pair-pair-requires c =

@@ -38,8 +38,7 @@ pub loop-p-preserved : goal.loop-p-preserved
 loop-p-preserved c =
     let table : ℕ → ℕ → ℕ = cost c.args.t.now c.args.n in
     let i = c.loop-p.invariant in
-    let q = add-one c.loop-p.p in
-    (
+    let q = add-one c.loop-p.p in (
       c.loop-p-test.true,
       rw q c.extend_path-m.ensures,
       rw q (table-closed table c.args.o.now _ _ _ _ i.1 c.args.n _ _ _ i.2 _ _ _ _ c.height_at.ensures c.close_rows-count.ensures),

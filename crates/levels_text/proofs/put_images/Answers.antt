@@ -16,12 +16,11 @@ put_image-place-requires c =
     (search rules, rest_fits (image_field _ _) _ (rest_same (images-turn _ _ _ c.loop-i-test.true) c.loop-i.invariant.1) c.requires.1)
 
 pub loop-i-preserved : goal.loop-i-preserved
-loop-i-preserved c =
-    (
-      search rules,
-      rest-step (image_field _ _) _ (rest_same (images-turn _ _ _ c.loop-i-test.true) c.loop-i.invariant.1) c.requires.1
-          c.put_image-place.ensures,
-    )
+loop-i-preserved c = (
+  search rules,
+  rest-step (image_field _ _) _ (rest_same (images-turn _ _ _ c.loop-i-test.true) c.loop-i.invariant.1) c.requires.1
+      c.put_image-place.ensures,
+)
 
 pub shape_of-out : goal.shape_of-out
 shape_of-out c =

@@ -1,4 +1,3 @@
-
 use Rattle.std.proofs.Common.{arith, refl, ◌∙◌}
 use Rattle.report.specs.Laws.Onward.{running_more, running_stops}
 use Rattle.report.specs.Laws.Run.{running_bytes, running_full, running_none, running_paused}

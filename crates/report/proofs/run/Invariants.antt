@@ -1,4 +1,3 @@
-
 use Rattle.std.proofs.Common.{length, ◌-◌, ◌≡◌, ◌≤◌}
 use Rattle.report.specs.Laws.Run.{Running}
 use Rattle.report.proofs.run.Given as goal

@@ -1,0 +1,8 @@
+-- `kemotuiki::kemotuiki_exact` meets its contract: the numbers of what the call promises, and the lent slices as it leaves them. Assumes nothing.
+use Rattle.numbers.specs.Numbers.{of_rows}
+use Rattle.kemotuiki.specs.Laws.Crossing.{left-rows}
+use Rattle.kemotuiki.proofs.kemotuiki_exact.Goals as goal
+
+pub returns : goal.returns
+returns c =
+    left-rows of_rows _ c.exact.ensures c.of_rows.ensures
