@@ -1,15 +1,10 @@
 -- `batch::check_tables` meets its contract: each turn looks at the next table, with the rows and the room that are left. Assumes nothing.
 use Rattle.std.proofs.Common.{ap, arith, drop, length-drop, rules, sym, ℕ, ◌+◌, ◌-◌, ◌∙◌}
 use Rattle.joined_tables.specs.Fitting.{NextFits}
-use Rattle.joined_tables.specs.Laws.Next.{next-length, next-passed, next-room}
-use Rattle.batch.specs.Laws.Steps.{answer_end, answer_goes, answer-start, answer_stops, answer_at}
+use Rattle.joined_tables.specs.Laws.Next.{next-length, next-passed}
+use Rattle.batch.specs.Laws.Steps.{answer_end, answer_goes, answer_stops, answer_at}
 use Rattle.link_forms.specs.Form.{link_form}
-use Rattle.stored_links.proofs.Laws.Told.{form_small}
 use Rattle.batch.proofs.check_tables.Goals as goal
-
-pub loop-i-init : goal.loop-i-init
-loop-i-init c =
-    (search rules, search rules, search rules, search rules, answer-start _ _ _ _ _ _)
 
 pub returns-in-Refused : goal.returns-in-Refused
 returns-in-Refused c =
@@ -18,32 +13,6 @@ returns-in-Refused c =
     answer_stops (link_form a.edition) a.ns.now a.counts.now a.fars.now a.costs.now a.room l.used l.rows l.i _ _ c.requires
     c.loop-i-test.true (sym c.number_at-n.ensures) (sym c.number_at-count.ensures) c.in-Refused.is c.check_from.ensures
     ∙ sym l.invariant.4
-
-pub links_used-used-requires : goal.links_used-used-requires
-links_used-used-requires c =
-    let passed : NextFits (link_form c.args.edition) c.number_at-n.result c.number_at-count.result
-    (drop c.loop-i.rows c.args.fars.now)
-    (drop c.loop-i.rows c.args.costs.now)
-    (c.args.room - c.loop-i.used) = next-passed _ _ _ _ _ _ (sym c.check_from.ensures ∙ c.in-Passed.is) in
-    let f = form_small c.args.edition in (next-room _ _ _ _ _ _ f.0 f.1 passed).small
-
-pub overflow_add-used : goal.overflow_add-used
-overflow_add-used c =
-    let passed : NextFits (link_form c.args.edition) c.number_at-n.result c.number_at-count.result
-    (drop c.loop-i.rows c.args.fars.now)
-    (drop c.loop-i.rows c.args.costs.now)
-    (c.args.room - c.loop-i.used) = next-passed _ _ _ _ _ _ (sym c.check_from.ensures ∙ c.in-Passed.is) in
-    omega (arith, c.links_used-used.ensures, passed.fits, c.loop-i.invariant.3, c.ranges.room.fits)
-
-pub overflow_add-rows : goal.overflow_add-rows
-overflow_add-rows c =
-    let passed : NextFits (link_form c.args.edition) c.number_at-n.result c.number_at-count.result
-    (drop c.loop-i.rows c.args.fars.now)
-    (drop c.loop-i.rows c.args.costs.now)
-    (c.args.room - c.loop-i.used) = next-passed _ _ _ _ _ _ (sym c.check_from.ensures ∙ c.in-Passed.is) in
-    let l = c.loop-i in
-    let z = next-length _ _ _ _ _ _ passed in
-    omega (arith, z.0, length-drop l.rows c.args.fars.now, l.invariant.1, c.well_formed)
 
 pub loop-i-preserved : goal.loop-i-preserved
 loop-i-preserved c =

@@ -1,34 +1,10 @@
 -- `reader::second_costs` meets its contract: the part of the bytes behind the first table reads as the whole does there. Assumes nothing.
-use Rattle.std.proofs.Common.{arith, length, sym, ◌*◌, ◌∙◌, ◌≤◌}
+use Rattle.std.proofs.Common.{arith, length, ◌*◌, ◌≤◌}
 use Rattle.ground.specs.Outcomes.{Left}
 use Rattle.stored_costs.specs.Outcomes.{read_either}
-use Rattle.positions.proofs.Laws.Stands.{costs-inside, costs-short}
+use Rattle.positions.proofs.Laws.Stands.{costs-inside}
 use Rattle.reader.specs.Laws.TwoRead.{rest-left, second-accepted, second-refused}
 use Rattle.reader.proofs.second_costs.Goals as goal
-
-pub slice_bounds-read_costs-count : goal.slice_bounds-read_costs-count
-slice_bounds-read_costs-count c =
-    let within : c.args.used ≤ length c.args.bytes.now = let a = c.args in
-    let h = costs-inside a.bytes.now 0 (length a.first.now) a.n a.used c.requires in
-    omega (arith, h) in within
-
-pub slice_bounds-read_costs-start : goal.slice_bounds-read_costs-start
-slice_bounds-read_costs-start c =
-    let within : c.args.used ≤ length c.args.bytes.now = let a = c.args in
-    let h = costs-inside a.bytes.now 0 (length a.first.now) a.n a.used c.requires in
-    omega (arith, h) in within
-
-pub overflow_add-result : goal.overflow_add-result
-overflow_add-result c =
-    let within : c.args.used ≤ length c.args.bytes.now = let a = c.args in
-    let h = costs-inside a.bytes.now 0 (length a.first.now) a.n a.used c.requires in
-    omega (arith, h) in
-    let there : Left (read_either c.args.bytes.now (8 * c.args.used) c.args.second.now) c.read_costs.result
-    c.read_costs.new.out = let a = c.args in rest-left a.bytes.now a.used a.second.now within c.read_costs.ensures in
-    let a = c.args in
-    let h = costs-short a.bytes.now 0 (length a.first.now) a.n a.used c.requires in
-    let k = costs-short a.bytes.now (8 * a.used) (length a.second.now) _ _ (sym there.answered ∙ c.in-Table.is) in
-    omega (arith, h, k)
 
 pub returns-in-Refused : goal.returns-in-Refused
 returns-in-Refused c =
