@@ -27,7 +27,7 @@ overflow_add-all c =
 
 pub returns-then-all-gt1024 : goal.returns-then-all-gt1024
 returns-then-all-gt1024 c =
-    let many : 1024 < c.args.here.figures.sides + c.fresh.result = c.if-all-gt1024.true in
+    let many : 1024 < c.args.here.figures.sides + c.fresh.result = omega arith in
     record { taken = λ ts u y. moved_many _ _ _ _ _ _ _ _ _ y _ (more-sides _ _ _ _ _ _ _ _ _ y _ c.fresh.ensures) many }
 
 pub count_pair-pair-requires : goal.count_pair-pair-requires
@@ -46,7 +46,7 @@ count_pair-pair-requires c =
 pub put_rows-requires : goal.put_rows-requires
 put_rows-requires c =
     let y = c.requires.ready in
-    let few : c.args.here.figures.sides + c.fresh.result ≤ 1024 = c.if-all-gt1024.false in
+    let few : c.args.here.figures.sides + c.fresh.result ≤ 1024 = omega arith in
     put_ready _ _ _ _ _ _ _ _ _ y _ (more-sides _ _ _ _ _ _ _ _ _ y _ c.fresh.ensures) few
 
 pub with_tree-requires : goal.with_tree-requires
@@ -61,7 +61,7 @@ with_tree-requires c =
 
 pub returns : goal.returns
 returns c =
-    let few : c.args.here.figures.sides + c.fresh.result ≤ 1024 = c.if-all-gt1024.false in
+    let few : c.args.here.figures.sides + c.fresh.result ≤ 1024 = omega arith in
     rw c.with_tree.ensures
     (record {
       taken = λ ts u y.
