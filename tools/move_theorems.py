@@ -6,7 +6,7 @@ usage: python3 tools/move_theorems.py LIST [FOLDER]
 LIST names files, one a line, as `tables/specs/Laws/Formed.antt`: the files whose theorems rest on a definition that an edit changes. What
 contracts, edits and the files that stay need of such a file stays in specs/; everything else of it goes to the same place below proofs/, and so
 does each file of the crate's specs/ that rests on what goes. Every import in the repository follows. No statement changes.
-What was moved is written to tools/moved.tsv: crate, file, the names that went, the names that stayed.
+What was moved is written to moved.tsv beside this script: crate, file, the names that went, the names that stayed. docs/PORT.md has it all.
 """
 
 import os
