@@ -10,13 +10,7 @@ fn is_crossing(s: u64, r: u64) -> bool
     ensures { result ≡ crosses s r }
 {
     let both = s & r;
-    if both == s {
-        return false;
-    }
-    if both == r {
-        return false;
-    }
-    both != 0
+    both != s && both != r && both != 0
 }
 
 // Whether s is no far side behind the far side `before`: 0 or not above it, or with image 0, or with one beyond n. Of 64 images none is
@@ -25,29 +19,17 @@ fn is_bad_side(n: usize, before: u64, s: u64) -> bool
     requires { n ≤ 64 }
     ensures { result ≡ bad_side n before s }
 {
-    if s <= before {
+    if s <= before || s % 2 == 1 {
         return true;
     }
-    if s % 2 == 1 {
-        return true;
-    }
-    if n == 64 {
-        return false;
-    }
-    0 < s >> n
+    n < 64 && 0 < s >> n
 }
 
 // Whether c is no doubled cost of the far side s: above twice the limit, or 0 in an inner row. Twice a limit may need more than 32 bits.
 pub fn is_bad_cost(most: u32, n: usize, s: u64, c: u32) -> bool
     ensures { result ≡ bad_cost most n s c }
 {
-    if 2 * (most as u64) < (c as u64) {
-        return true;
-    }
-    if theory::is_inner(n, s) {
-        return c == 0;
-    }
-    false
+    2 * u64::from(most) < u64::from(c) || (theory::is_inner(n, s) && c == 0)
 }
 
 // The far side of the row before row k, 0 before the first.
@@ -66,29 +48,24 @@ fn first_crossed(fars: &[u64], k: usize) -> usize
     requires { k < length fars.now }
     ensures { result ≡ first_crossed fars.now k }
 {
-    let mut j = 0;
-    while j < k {
+    for j in 0..k {
         if is_crossing(fars[j], fars[k]) {
             return j;
         }
-        j += 1;
     }
-    j
+    k
 }
 
 // Whether row k is bad, seen with the rows before it.
+#[tactic(auto, unfolding(crate::specs::BadRows::bad_row))]
 fn is_bad_row(most: u32, n: usize, fars: &[u64], costs: &[u32], k: usize) -> bool
     requires { (n ≤ 64) × (length costs.now ≡ length fars.now) × (k < length fars.now) }
     ensures { result ≡ bad_row most n fars.now costs.now k }
 {
     let before = row_before(fars, k);
-    if is_bad_side(n, before, fars[k]) {
-        return true;
-    }
-    if is_bad_cost(most, n, fars[k], costs[k]) {
-        return true;
-    }
-    first_crossed(fars, k) < k
+    is_bad_side(n, before, fars[k])
+        || is_bad_cost(most, n, fars[k], costs[k])
+        || first_crossed(fars, k) < k
 }
 
 // The first bad row, from 0, else the number of rows.
@@ -96,12 +73,10 @@ pub fn first_bad_row(most: u32, n: usize, fars: &[u64], costs: &[u32]) -> usize
     requires { (n ≤ 64) × (length costs.now ≡ length fars.now) }
     ensures { result ≡ first (bad_row most n fars.now costs.now) (length fars.now) }
 {
-    let mut k = 0;
-    while k < fars.len() {
+    for k in 0..fars.len() {
         if is_bad_row(most, n, fars, costs, k) {
             return k;
         }
-        k += 1;
     }
-    k
+    fars.len()
 }

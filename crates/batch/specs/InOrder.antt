@@ -1,11 +1,11 @@
 -- The checks of a batch by their numbers, and by the table that each is about. Assumes nothing.
-use Rattle.std.specs.Prelude.{not, List, [], ◌++◌, ◌∷◌, ◌≡◌, suc, ℕ, ◌+◌, ◌-◌, eqb, ltb, drop, length, take}
+use Rattle.std.specs.Prelude.{not, List, [], ◌++◌, ◌∷◌, ◌≡◌, suc, ℕ, ◌+◌, ◌-◌, eqb, ltb, drop, length, take, Ok}
 use Rattle.std.proofs.Common.{ap, ap₂, ◌∙◌, add-one, arith}
 use Rattle.ground.specs.InOrder.{Decides, InOrder}
 use Rattle.ground.specs.Laws.InOrder.{decides_last, decides_next, join-order, refuse_order, refuse_if_only, step-order, then_only}
 use Rattle.ground.specs.Laws.Steps.{first-decided}
 use Rattle.ground.specs.Ranges.{from, gather}
-use Rattle.ground.specs.Refusals.{refusal, refuse_if}
+use Rattle.ground.specs.Refusals.{refusal, refuse_if, refused_in}
 use Rattle.ground.specs.Steps.{FirstRefused, Step, about, numbers_of, of_table, ◌by◌}
 use Rattle.ground.specs.declared.Refusal.{Refusal}
 use Rattle.bits.specs.declared.Form.{Form}
@@ -14,8 +14,6 @@ use Rattle.link_forms.specs.Form.{link_used}
 use Rattle.link_writer.specs.InOrder.{fit_order, fit_steps}
 use Rattle.batch.specs.Batch.{batch_answer, batch_from, batch_outcome}
 use Rattle.joined_tables.specs.Tables.{Table, left_over_checks, next_checks, run_out_checks, tables}
-use Rattle.batch.specs.declared.Batched.TheVariants.{Bytes}
-use Rattle.batch.specs.declared.Batched.TheVariants as batched
 
 -- 1, 10, 2, 12, 13, 17, 3 of the next table
 abbrev pub next_steps : Form → ℕ → ℕ → List ℕ → List ℕ → ℕ → List Step
@@ -44,13 +42,13 @@ steps_from form k (t ∷ ts) l v room =
     ++ steps_from form (k + 1) ts (drop t.1 l) (drop t.1 v) (room - link_used form t.0 t.1)
 
 from_decides : (form : Form) (k used : ℕ) (ts : List Table) (l v : List ℕ) (room : ℕ)
-    → (u : ℕ) × Decides batched.Refused (steps_from form k ts l v room) (Bytes u) (batch_from form k used ts l v room)
+    → (u : ℕ) × Decides refused_in (steps_from form k ts l v room) (Ok u) (batch_from form k used ts l v room)
 unfolding batch_from steps_from
-from_decides form k used [] l v room = (used, decides_last batched.Refused k (Bytes used) (left_over_order l v))
+from_decides form k used [] l v room = (used, decides_last refused_in k (Ok used) (left_over_order l v))
 from_decides form k used (t ∷ ts) l v room =
     let x = link_used form t.0 t.1 in
     let ih = from_decides form (k + 1) (used + x) ts (drop t.1 l) (drop t.1 v) (room - x) in
-    (ih.0, decides_next batched.Refused (k + 1) (next-order form t.0 t.1 l v room) ih.1)
+    (ih.0, decides_next refused_in (k + 1) (next-order form t.0 t.1 l v room) ih.1)
 
 -- 2 of two lists of different lengths, then table by table
 abbrev pub batch_steps : Form → List ℕ → List ℕ → List ℕ → List ℕ → ℕ → List Step
@@ -58,17 +56,17 @@ batch_steps form ns counts l v room =
     2 by refuse_if (not (eqb (length ns) (length counts))) (refusal 2 0 0 0 0) ∷ steps_from form 0 (tables ns counts) l v room
 
 pub batch_decides : (form : Form) (ns counts l v : List ℕ) (room : ℕ)
-    → (u : ℕ) × Decides batched.Refused (batch_steps form ns counts l v room) (Bytes u) (batch_answer form ns counts l v room)
+    → (u : ℕ) × Decides refused_in (batch_steps form ns counts l v room) (Ok u) (batch_answer form ns counts l v room)
 batch_decides form ns counts l v room =
     let d = from_decides form 0 0 (tables ns counts) l v room in
-    (d.0, decides_next batched.Refused 0 (refuse_order (not (eqb (length ns) (length counts))) (refusal 2 0 0 0 0) (omega arith)) d.1)
+    (d.0, decides_next refused_in 0 (refuse_order (not (eqb (length ns) (length counts))) (refusal 2 0 0 0 0) (omega arith)) d.1)
 
 -- a refused batch leaves the lent bytes as they were
 pub batch_unaltered : (form : Form) (ns counts l v out : List ℕ) (s : Step) (q : Refusal) → FirstRefused (batch_steps form ns counts l v (length out)) s q
     → (batch_outcome form ns counts l v out).places ≡ out
 batch_unaltered form ns counts l v out s q f =
     let d = batch_decides form ns counts l v (length out) in
-    rw (d.1.same ∙ first-decided batched.Refused (batch_steps form ns counts l v (length out)) (Bytes d.0) f)
+    rw (d.1.same ∙ first-decided refused_in (batch_steps form ns counts l v (length out)) (Ok d.0) f)
 
 -- ## The numbers of m tables
 

@@ -1,7 +1,6 @@
 -- The checks of stored bytes, one by one, by the refusal they give. Assumes nothing.
 use Rattle.std.specs.Prelude.{Bool, ◌||◌, List, ℕ, ◌%◌, ◌/◌, ltb, length}
-use Rattle.ground.specs.Refusals.{refusal, refuse_if}
-use Rattle.ground.specs.declared.Check.{Check}
+use Rattle.ground.specs.Refusals.{refusal, refuse_if, Check}
 
 -- 9: stored bytes end early, of which so many are needed
 abbrev pub end_check : List ℕ → ℕ → Check

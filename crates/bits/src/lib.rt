@@ -7,7 +7,7 @@ ghost use Rattle.bits.specs.Editions.{edition_by, edition_of};
 ghost use Rattle.bits.specs.Bits.{bits, FieldWithin, number_at, part, Turn, value_of};
 
 // How a kind of table is stored: so many bits in front with the mark's value, so many bits for a number, and the limit on an entry.
-#[derive(Clone, Copy)]
+#[derive(Clone, Copy, PartialEq, Eq)]
 pub struct Form {
     pub head: usize,
     pub mark: u64,
@@ -16,7 +16,7 @@ pub struct Form {
 }
 
 // The two stored forms of each kind of table: the old one, which begins with n, and the new one, which begins with a mark.
-#[derive(Clone, Copy)]
+#[derive(Clone, Copy, PartialEq, Eq)]
 pub enum Edition {
     Old,
     New,
@@ -24,13 +24,6 @@ pub enum Edition {
 
 // What the new forms begin with, in 7 bits: no table has so many images.
 pub const NEW_MARK: u64 = 127;
-
-// The byte as a number of 64 bits.
-fn wide_byte(x: u8) -> u64
-    ensures { result ≡ x }
-{
-    x as u64
-}
 
 // x moved up by k bits.
 fn raised(x: u64, k: usize) -> u64
@@ -45,8 +38,7 @@ fn low_bits(x: u64, w: usize) -> u64
     requires { w < 64 }
     ensures { result ≡ x % 2 ^ w }
 {
-    let m: u64 = 1 << w;
-    x % m
+    x % (1u64 << w)
 }
 
 // The w bits of x that stand above its k lowest.
@@ -62,7 +54,7 @@ fn turn_width(offset: usize, left: usize) -> usize
     requires { (offset < 8) × (0 < left) }
     ensures { Turn offset left result }
 {
-    if left <= 8 - offset { left } else { 8 - offset }
+    left.min(8 - offset)
 }
 
 // The number x with the byte behind it.
@@ -70,7 +62,7 @@ fn with_byte(x: u64, b: u8) -> u64
     requires { x < 2 ^ 56 }
     ensures { result ≡ x * 2 ^ 8 + b }
 {
-    raised(x, 8) + wide_byte(b)
+    raised(x, 8) + u64::from(b)
 }
 
 // The number x with the two bytes from q on behind it.
@@ -104,12 +96,13 @@ fn get_by_turns(bytes: &[u8], position: usize, width: usize) -> u64
 {
     let mut value: u64 = 0;
     let mut done = 0;
+    // A `while`: each turn moves as many bits as are left in its byte.
     while done < width {
         let p = position + done;
         let offset = p % 8;
         let q = p / 8;
         let s = turn_width(offset, width - done);
-        let x = wide_byte(bytes[q]);
+        let x = u64::from(bytes[q]);
         value = raised(value, s) + bits_above(x, 8 - offset - s, s);
         done += s;
     }
@@ -145,17 +138,14 @@ pub fn get(bytes: &[u8], position: usize, width: usize) -> u64
 pub fn is_misplaced(bytes: usize, position: usize) -> bool
     ensures { result ≡ misplaced bytes position }
 {
-    if bytes < position / 8 {
-        return true;
-    }
-    0 < position % 8
+    bytes < position / 8 || 0 < position % 8
 }
 
 // Which form the table has that the bytes begin with: the first seven bits tell. No bytes begin with nothing, which is no mark.
 fn edition_told(bytes: &[u8]) -> Edition
     ensures { result ≡ edition_of bytes.now }
 {
-    if bytes.len() == 0 {
+    if bytes.is_empty() {
         return Edition::Old;
     }
     if get(bytes, 0, 7) == NEW_MARK {
@@ -175,11 +165,13 @@ pub fn edition_at(bytes: &[u8], position: usize) -> Edition
 }
 
 // The form that a number stands for, where an enum cannot cross: 0 is the old one, and every other number the new one.
-pub fn edition_by(number: usize) -> Edition
-    ensures { result ≡ edition_by number }
-{
-    if number == 0 {
-        return Edition::Old;
+impl From<usize> for Edition {
+    ghost from_gives = { λ number edition. edition ≡ edition_by number };
+
+    fn from(number: usize) -> Edition {
+        match number {
+            0 => Edition::Old,
+            _ => Edition::New,
+        }
     }
-    Edition::New
 }

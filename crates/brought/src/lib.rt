@@ -1,12 +1,15 @@
 // What image k brings to the rows over the first k images: which of them can stay, the sides that are asked for these, and the values.
 #![tactic(auto)]
 
-ghost use Rattle.std.specs.Prelude.{◌≡◌, ◌+◌, ◌-◌, ◌<◌, ◌≤◌, length};
+ghost use Rattle.std.specs.Prelude.{◌≡◌, ◌+◌, ◌-◌, ◌*◌, ◌^◌, ◌<◌, ◌≤◌, length, set};
 ghost use Rattle.ground.specs.Counts.{one_if};
-ghost use Rattle.theory.specs.Tables.{limit, cost, CostTable};
+ghost use Rattle.theory.specs.Tables.{limit};
+ghost use Rattle.tables.specs.Entries.{costs_in};
 ghost use Rattle.brought.specs.Answers.{AllBrought};
 ghost use Rattle.brought.specs.Choosing.{in_side, in_live, SidePut, Room, Outs, Ins};
 ghost use Rattle.brought.specs.Chosen.{one_image, is_stored, slot_of, stored_of, Rising, Rowed};
+
+use tables::Costs;
 
 // Whether a side has one image alone.
 fn is_alone(s: u64) -> bool
@@ -21,13 +24,7 @@ fn takes(live: bool, s: u64) -> usize
     requires { 0 < s }
     ensures { (result ≡ one_if (is_stored live s)) × (result ≤ 1) }
 {
-    if live {
-        if is_alone(s) {
-            return 0;
-        }
-        return 1;
-    }
-    0
+    usize::from(live && !is_alone(s))
 }
 
 // Where the value of a side will stand.
@@ -36,12 +33,12 @@ fn slot(live: bool, s: u64, place: usize) -> usize
     ensures { (result ≡ slot_of live s place) × (result < 192) }
 {
     if is_alone(s) {
-        return upper_sides::lowest(s);
+        upper_sides::lowest(s)
+    } else if live {
+        64 + place
+    } else {
+        63
     }
-    if live {
-        return 64 + place;
-    }
-    63
 }
 
 // Side s is stored behind the m sides so far, for good where it may stay and is no image alone; the number of sides then. At place i
@@ -61,7 +58,7 @@ fn store(
 {
     sides[m] = s;
     best[64 + m] = theory::CAP;
-    slots[i] = ground::byte(slot(live, s, m));
+    slots[i] = slot(live, s, m) as u8;
     m + takes(live, s)
 }
 
@@ -79,8 +76,7 @@ fn choose_out(
     ensures { Outs limit b near fars.now count result sides.new outs.new best.new }
 {
     let mut m = 0;
-    let mut i = 0;
-    while i < count {
+    for i in 0..count {
         let s = fars[i];
         m = store(
             near_images::goes_out(b, near, s),
@@ -91,7 +87,6 @@ fn choose_out(
             outs,
             best,
         );
-        i += 1;
     }
     m
 }
@@ -115,9 +110,7 @@ fn choose_in(
 {
     let full = ground::bit_alone(k) - 1;
     let mut m = low;
-    let mut i = count;
-    while 0 < i {
-        i -= 1;
+    for i in (0..count).rev() {
         let s = fars[i];
         m = store(
             near_images::goes_in(near, s),
@@ -132,11 +125,23 @@ fn choose_in(
     m
 }
 
+// All images but k are stored as the last side, behind m sides, and at place 63 a value for the sides that are not asked; how many
+// sides then.
+fn put_whole(k: usize, m: usize, sides: &mut [u64], best: &mut [u32]) -> usize
+    requires { (k < 64) × (m < 127) × (length sides.old ≡ 128) × (length best.old ≡ 192) }
+    ensures { (result ≡ m + 1) × (result ≤ 127) × (sides.new ≡ set sides.old m (2 ^ k - 1))
+        × (best.new ≡ set (set best.old 63 0) (64 + m) (4 * limit)) }
+{
+    sides[m] = ground::bit_alone(k) - 1;
+    best[63] = 0;
+    best[64 + m] = theory::CAP;
+    m + 1
+}
+
 // What image k brings to the rows over the first k images, image k outside and inside: the values `best` at the places `outs` and
 // `ins`; and the place of what it brings to its own link. In `sides` and `steps`, lent for the work, nothing is left that counts.
 pub fn brought(
-    t: &[u32],
-    n: usize,
+    t: &Costs<'_>,
     k: usize,
     fars: &[u64],
     count: usize,
@@ -146,17 +151,15 @@ pub fn brought(
     steps: &mut [u32],
     best: &mut [u32],
 ) -> usize
-    requires { CostTable limit n t.now × (1 ≤ k) × (k < n) × Rowed k fars.now count × (length outs.old ≡ 128) × (length ins.old ≡ 128)
+    requires { (1 ≤ k) × (k < t.now.n) × Rowed k fars.now count × (length outs.old ≡ 128) × (length ins.old ≡ 128)
         × (length sides.old ≡ 128) × (length steps.old ≡ 384) × (length best.old ≡ 192) }
-    ensures { AllBrought limit (cost t.now n) k fars.now count result outs.new ins.new best.new }
+    ensures { AllBrought limit (costs_in t.now) k fars.now count result outs.new ins.new best.new }
 {
-    let b = near_images::closest(t, n, k);
-    let near = near_images::near_images(t, n, k, b);
+    let b = near_images::closest(t, k);
+    let near = near_images::near_images(t, k, b);
     let low = choose_out(b, near, fars, count, sides, outs, best);
     let m = choose_in(k, near, fars, count, low, sides, ins, best);
-    sides[m] = ground::bit_alone(k) - 1;
-    best[63] = 0;
-    best[64 + m] = theory::CAP;
-    chains::images(t, n, k, sides, m + 1, steps, best);
-    64 + m
+    let all = put_whole(k, m, sides, best);
+    chains::images(t, k, sides, all, steps, best);
+    63 + all
 }

@@ -1,20 +1,11 @@
 -- The checks of the choice by their numbers, and by the table that each is about: s and t are the lent bytes of the first and the second, in the
 -- forms f and g. Assumes nothing.
-use Rattle.std.specs.Prelude.{Bool, cond, false, not, true, ◌||◌, List, [], ◌++◌, ◌∷◌, refl, ◌≡◌, ℕ, eqb}
-use Rattle.std.proofs.Common.{subst, arith}
-use Rattle.ground.specs.InOrder.{Decides}
-use Rattle.ground.specs.Laws.InOrder.{decides_last, decides_next, refuse_order}
-use Rattle.ground.specs.Refusals.{refusal}
+use Rattle.std.specs.Prelude.{List, [], ◌++◌, ◌∷◌, ℕ}
 use Rattle.ground.specs.Steps.{Step, about, ◌by◌}
 use Rattle.bits.specs.declared.Form.{Form}
 use Rattle.stored_links.specs.InOrder.{stored_steps}
-use Rattle.stored_links.proofs.InOrder.{table-order}
-use Rattle.link_forms.specs.Said.{images_of, used_of}
-use Rattle.choice.specs.Call.{choice_of, images_agree, inclusion, inners_of}
-use Rattle.choice.specs.Inclusion.{includes}
-use Rattle.choice.specs.declared.Chosen.{Chosen}
-use Rattle.choice.specs.declared.Chosen.TheVariants.{Table}
-use Rattle.choice.specs.declared.Chosen.TheVariants as answer
+use Rattle.link_forms.specs.Said.{images_of}
+use Rattle.choice.specs.Call.{images_agree, inclusion, inners_of}
 
 -- the first table's, then the second's, then 15, then 14
 abbrev pub choice_steps : Form → Form → List ℕ → List ℕ → List Step

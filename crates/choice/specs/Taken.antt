@@ -1,9 +1,8 @@
 -- When the choice is accepted and which table it takes, and which refusal comes first, said without checks. Assumes nothing.
 use mathlib.Core.List.{List, Memᴰ}
-use Rattle.std.specs.Prelude.{◌≡◌, ℕ}
+use Rattle.std.specs.Prelude.{◌≡◌, ℕ, Err}
 use Rattle.ground.specs.Filters.{Each}
 use Rattle.ground.specs.Refusals.{refusal}
-use Rattle.ground.specs.declared.Check.TheVariants.{Refused}
 use Rattle.ground.specs.declared.Refusal.{Refusal}
 use Rattle.bits.specs.declared.Form.{Form}
 use Rattle.stored_links.specs.Reading.{table_checks}
@@ -34,8 +33,8 @@ module _ (f g : Form) (s t : List ℕ) where
 
   -- the refusal that comes first: of the first table, of the second, 15, 14
   pub data FirstRefusal (m : ℕ) (r : Refusal) : Type 0 where
-    of_first : m ≡ 1 → table_checks f s ≡ Refused r → FirstRefusal m r
-    of_second : m ≡ 2 → Begins f s → table_checks g t ≡ Refused r → FirstRefusal m r
+    of_first : m ≡ 1 → table_checks f s ≡ Err r → FirstRefusal m r
+    of_second : m ≡ 2 → Begins f s → table_checks g t ≡ Err r → FirstRefusal m r
     of_images : m ≡ 0 → r ≡ refusal 15 0 0 0 0 → Begins f s → Begins g t → (images_of f s ≡ images_of g t → ⊥) → FirstRefusal m r
     of_neither : m ≡ 0 → r ≡ refusal 14 0 0 0 0 → Begins f s → Begins g t → images_of f s ≡ images_of g t
         → (Includes f g s t → ⊥) → (Includes g f t s → ⊥) → FirstRefusal m r

@@ -2,6 +2,8 @@
 // the form that its own bytes tell. Bytes behind either table are ignored.
 #![tactic(auto)]
 
+pub mod answer;
+
 ghost use Rattle.std.specs.Prelude.{◌≡◌, ◌≤◌, ◌^◌, length};
 ghost use Rattle.ground.specs.Ascending.{Between};
 ghost use Rattle.ground.specs.Refusals.{refusal};
@@ -10,33 +12,29 @@ ghost use Rattle.choice.specs.Call.{against_second, choice_either, part_of, take
 ghost use Rattle.choice.specs.Read.{TableRead};
 ghost use Rattle.link_forms.specs.Form.{link_form_at};
 
-use ground::Refusal;
-use stored_links::StoredLinks;
+pub use answer::Choice;
+use ground::{Refusal, TableRefusal};
+use stored_links::LinksRead;
 
-// What the choice answers: the chosen table's number, 1 or 2, and its count of used bytes, or a refusal with the table's number,
-// 0 with refusals 15 and 14.
-#[derive(Drop)]
-pub enum Chosen {
-    Table(usize, usize),
-    Refused(usize, Refusal),
-}
-
-// A refusal without places.
-fn plain(number: u32) -> Refusal
-    ensures { result ≡ refusal number 0 0 0 0 }
+// A refusal that is no table's and has no places.
+fn plain(number: u32) -> TableRefusal
+    ensures { result ≡ record { table = 0; refusal = refusal number 0 0 0 0 } }
 {
-    Refusal {
-        number,
-        a: 0,
-        b: 0,
-        c: 0,
-        d: 0,
+    TableRefusal {
+        table: 0,
+        refusal: Refusal {
+            number,
+            a: 0,
+            b: 0,
+            c: 0,
+            d: 0,
+        },
     }
 }
 
 // Reads the table at the front of the bytes. Its far sides stand at the front of fars; its costs are not wanted. 128 places are more
 // than any link table has rows, so refusal 3 is never given.
-fn read(bytes: &[u8], fars: &mut [u64]) -> StoredLinks
+fn read(bytes: &[u8], fars: &mut [u64]) -> Result<LinksRead, Refusal>
     requires { length fars.old ≡ 128 }
     ensures { TableRead (link_form_at bytes.now 0) bytes.now result fars.new }
 {
@@ -46,48 +44,48 @@ fn read(bytes: &[u8], fars: &mut [u64]) -> StoredLinks
 
 // Of two tables over n images, with i and j used bytes, the one that includes the other, else refusal 14. The far sides in common
 // are counted by one merge: a table includes the other where they are all inner far sides of the other.
-fn take_one(n: usize, first: &[u64], i: usize, second: &[u64], j: usize) -> Chosen
+fn take_one(
+    n: usize,
+    first: &[u64],
+    i: usize,
+    second: &[u64],
+    j: usize,
+) -> Result<Choice, TableRefusal>
     requires { (3 ≤ n) × (n ≤ 64) × Between 1 first.now (2 ^ n) × Between 1 second.now (2 ^ n) × (length first.now ≤ 128)
         × (length second.now ≤ 128) }
     ensures { result ≡ taken (inners n first.now) i (inners n second.now) j }
 {
     let d = counts::differ(n, first, second);
     if d.common == d.second {
-        return Chosen::Table(1, i);
+        return Ok(Choice { table: 1, used: i });
     }
     if d.common == d.first {
-        return Chosen::Table(2, j);
+        return Ok(Choice { table: 2, used: j });
     }
-    Chosen::Refused(0, plain(14))
+    Err(plain(14))
 }
 
 // The far sides of the first table over n images, with i used bytes, against the second table: its refusal with number 2, then 15
 // and 14.
-fn against_second(n: usize, first: &[u64], i: usize, second: &[u8]) -> Chosen
+fn against_second(n: usize, first: &[u64], i: usize, second: &[u8]) -> Result<Choice, TableRefusal>
     requires { (3 ≤ n) × (n ≤ 64) × Between 1 first.now (2 ^ n) × (length first.now ≤ 128) }
     ensures { result ≡ against_second (link_form_at second.now 0) n first.now i second.now }
 {
     let mut fars = [0u64; 128];
-    match read(second, &mut fars) {
-        StoredLinks::Refused(r) => Chosen::Refused(2, r),
-        StoredLinks::Table { n: m, count, used } => {
-            if n != m {
-                return Chosen::Refused(0, plain(15));
-            }
-            take_one(n, first, i, &fars[..count], used)
-        }
+    let read = read(second, &mut fars).map_err(|r| r.in_table(2))?;
+    if n != read.n {
+        return Err(plain(15));
     }
+    take_one(n, first, i, &fars[..read.count], read.used)
 }
 
 // The chosen table's number and its count of used bytes, or the first refusal: those of the first table, those of the second, 15, 14.
-pub fn choice(first: &[u8], second: &[u8]) -> Chosen
+pub fn choice(first: &[u8], second: &[u8]) -> Result<Choice, TableRefusal>
     ensures { result ≡ choice_either first.now second.now }
 {
     let mut fars = [0u64; 128];
-    match read(first, &mut fars) {
-        StoredLinks::Refused(r) => Chosen::Refused(1, r),
-        StoredLinks::Table { n, count, used } => against_second(n, &fars[..count], used, second),
-    }
+    let read = read(first, &mut fars).map_err(|r| r.in_table(1))?;
+    against_second(read.n, &fars[..read.count], read.used, second)
 }
 
 // The used bytes of the chosen table, where they stand in its own buffer; an empty part where the choice is refused.
@@ -95,12 +93,12 @@ pub fn choose<'a>(first: &'a [u8], second: &'a [u8]) -> &'a [u8]
     ensures { result.now ≡ part_of (choice_either first.now second.now) first.now second.now }
 {
     match choice(first, second) {
-        Chosen::Refused(_, _) => &first[..0],
-        Chosen::Table(number, used) => {
-            if number == 1 {
-                return &first[..used];
+        Err(_) => &first[..0],
+        Ok(choice) => {
+            if choice.table == 1 {
+                return &first[..choice.used];
             }
-            &second[..used]
+            &second[..choice.used]
         }
     }
 }

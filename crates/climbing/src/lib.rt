@@ -28,10 +28,8 @@ pub fn path_cost(fars: &[u64], costs: &[u32], i: usize, j: usize) -> u32
     ensures { result ≡ path (rows_of fars.now costs.now) i j }
 {
     let mut sum: u32 = 0;
-    let mut k = 0;
-    while k < fars.len() {
-        sum += row_part(fars[k], costs[k], i, j);
-        k += 1;
+    for (s, c) in fars.iter().zip(costs) {
+        sum += row_part(*s, *c, i, j);
     }
     sum
 }
@@ -42,12 +40,10 @@ fn upper(fars: &[u64], r: usize) -> usize
     ensures { result ≡ get_or (uppers fars.now) r 0 }
 {
     let s = fars[r];
-    let mut k = r + 1;
-    while k < fars.len() {
+    for k in r + 1..fars.len() {
         if s & fars[k] == s {
             return k + 1;
         }
-        k += 1;
     }
     0
 }
@@ -57,10 +53,8 @@ pub fn put_uppers(fars: &[u64], out: &mut [u32])
     requires { (length fars.now ≤ 125) × (length fars.now ≤ length out.old) }
     ensures { out.new ≡ over (length fars.now) (uppers fars.now) out.old }
 {
-    let mut r = 0;
-    while r < fars.len() {
+    for r in 0..fars.len() {
         out[r] = upper(fars, r) as u32;
-        r += 1;
     }
 }
 

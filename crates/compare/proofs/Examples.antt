@@ -1,6 +1,6 @@
 -- Small comparisons, computed: settled examples of document 01, and three trees that show that the disagreement is no distance. Assumes
 -- nothing.
-use Rattle.std.specs.Prelude.{List, [], ◌∷◌, refl, ◌≡◌, ℕ}
+use Rattle.std.specs.Prelude.{refl, ◌≡◌}
 use Rattle.std.specs.Int.Count.{ones}
 use Rattle.ground.specs.Least.{least_on}
 use Rattle.ground.specs.Lowest.{check_all}
@@ -8,8 +8,6 @@ use Rattle.theory.specs.Index.{shifted}
 use Rattle.theory.specs.Tables.{limit}
 use Rattle.tree.specs.Exact.{exact_rows, table_check, tree_check}
 use Rattle.compare.specs.Call.{comparison}
-use Rattle.compare.specs.declared.Comparison.{Comparison}
-use Rattle.compare.specs.declared.Comparison.TheVariants.{Compared}
 pub use Rattle.compare.specs.Examples.{table_a, table_e, exchanged_e, table_g, answer, table_low, table_high, table_both}
 
 -- nothing in common is 1, with one inner row or with two; the same is 0; without inner rows it is 0 over 1, of three images and of four

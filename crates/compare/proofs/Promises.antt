@@ -1,7 +1,7 @@
 -- What the promise of the comparison is worth: what an accepted answer says of the two trees, and that the count is a distance. Assumes
 -- nothing.
 use mathlib.Core.List.{List, Memᴰ}
-use Rattle.std.specs.Prelude.{refl, ◌≡◌, ℕ, ◌+◌, ◌^◌, ◌≤◌, length}
+use Rattle.std.specs.Prelude.{refl, ◌≡◌, ℕ, ◌+◌, ◌^◌, ◌≤◌, length, Ok}
 use Rattle.std.proofs.Common.{ap, ap₂, subst, sym, ◌∙◌, add_comm, arith}
 use Rattle.ground.specs.Ascending.{Between}
 use Rattle.ground.specs.Laws.Ascending.{between_filter, between_mem}
@@ -24,7 +24,6 @@ use Rattle.counts.specs.Laws.InnerRows.{inner-most}
 use Rattle.counts.specs.declared.Difference.{Difference}
 use Rattle.compare.specs.Call.{comparison}
 use Rattle.compare.proofs.Laws.Answers.{compare_accepted, compare_accepts}
-use Rattle.compare.specs.declared.Comparison.TheVariants.{Compared}
 pub use Rattle.compare.specs.Promises.{inner_rows, exactly_one, TreesDiffer, turned}
 
 tree_sides : (L n : ℕ) (T : List Row) → LinkTable L n T → Each (inner_rows n T) (λ S. Memᴰ S (sides n))
@@ -61,7 +60,7 @@ module _ (L n : ℕ) where
   -- what holds of the difference of every two link tables holds of it
   pub of_trees : (P : List Row → List Row → Difference → Type 0)
       → ((T U : List Row) → 3 ≤ n → LinkTable L n T → LinkTable L n U → P T U (differ n (fars T) (fars U)))
-      → (t u : List ℕ) (x : Difference) → comparison L n t u ≡ Compared x → (T U : List Row) → Exact L (cost t n) n T → Exact L (cost u n) n U
+      → (t u : List ℕ) (x : Difference) → comparison L n t u ≡ Ok x → (T U : List Row) → Exact L (cost t n) n T → Exact L (cost u n) n U
       → P T U x
   of_trees P h t u x e T U p q =
       let a = compare_accepted L n t u x e in
@@ -70,7 +69,7 @@ module _ (L n : ℕ) where
       let s : x ≡ differ n (fars T) (fars U) = a.answer ∙ ap₂ (λ (A B : List Row). differ n (fars A) (fars B)) (sym v) (sym w) in
       subst (P T U) (sym s) (h T U a.first.table.some p.tree q.tree)
 
-  pub compare_says : (t u : List ℕ) (x : Difference) → comparison L n t u ≡ Compared x → (T U : List Row) → Exact L (cost t n) n T → Exact L (cost u n) n U
+  pub compare_says : (t u : List ℕ) (x : Difference) → comparison L n t u ≡ Ok x → (T U : List Row) → Exact L (cost t n) n T → Exact L (cost u n) n U
       → TreesDiffer n T U x
   compare_says = of_trees (TreesDiffer n) (trees-differ L n)
 
@@ -80,7 +79,7 @@ module _ (L n : ℕ) where
   ascends t a = tree_ascends L n (exact_rows L n t) (exact_tree L n t a).tree
 
   -- the same both ways
-  pub compare_turned : (t u : List ℕ) (x : Difference) → comparison L n t u ≡ Compared x → comparison L n u t ≡ Compared (turned x)
+  pub compare_turned : (t u : List ℕ) (x : Difference) → comparison L n t u ≡ Ok x → comparison L n u t ≡ Ok (turned x)
   compare_turned t u x e =
       let a = compare_accepted L n t u x e in
       let l = inners n (exact_sides L n t) in
@@ -88,12 +87,12 @@ module _ (L n : ℕ) where
       let c = ap length (common_same 1 (2 ^ n) r l (ascends u a.second) (ascends t a.first)) in
       let v = ap over_of (add_comm (length r) (length l)) in
       compare_accepts L n u t a.second a.first
-      ∙ ap Compared (same_numbers refl refl c (differing_sym r l) v)
-      ∙ ap (λ (d : Difference). Compared (turned d)) (sym a.answer)
+      ∙ ap Ok (same_numbers refl refl c (differing_sym r l) v)
+      ∙ ap (λ (d : Difference). Ok (turned d)) (sym a.answer)
 
   -- never longer over a third, which is accepted with both
-  pub compare_over : (t u w : List ℕ) (x y : Difference) → comparison L n t u ≡ Compared x → comparison L n u w ≡ Compared y
-      → (z : Difference) × (comparison L n t w ≡ Compared z) × (z.count ≤ x.count + y.count)
+  pub compare_over : (t u w : List ℕ) (x y : Difference) → comparison L n t u ≡ Ok x → comparison L n u w ≡ Ok y
+      → (z : Difference) × (comparison L n t w ≡ Ok z) × (z.count ≤ x.count + y.count)
   compare_over t u w x y e f =
       let a = compare_accepted L n t u x e in
       let b = compare_accepted L n u w y f in

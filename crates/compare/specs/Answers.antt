@@ -1,6 +1,5 @@
 -- What an accepted and a refused comparison say of the two tables. Assumes nothing.
-use Rattle.std.specs.Prelude.{List, ◌≡◌, ℕ}
-use Rattle.ground.specs.declared.Check.TheVariants.{Passed, Refused}
+use Rattle.std.specs.Prelude.{List, ◌≡◌, ℕ, Ok, Err}
 use Rattle.ground.specs.declared.Refusal.{Refusal}
 use Rattle.theory.specs.Checks.{images_check}
 use Rattle.tree.specs.Exact.{Wired, exact_sides, table_check}
@@ -16,6 +15,6 @@ module _ (L n : ℕ) (t u : List ℕ) where
 
   -- refused by 1 with number 0, by the first table with number 1, or by the second with number 2 once the first has passed
   pub data FirstRefusal (m : ℕ) (r : Refusal) : Type 0 where
-    of_images : m ≡ 0 → images_check n ≡ Refused r → FirstRefusal m r
-    of_first : m ≡ 1 → images_check n ≡ Passed → table_check L n t ≡ Refused r → FirstRefusal m r
-    of_second : m ≡ 2 → images_check n ≡ Passed → table_check L n t ≡ Passed → table_check L n u ≡ Refused r → FirstRefusal m r
+    of_images : m ≡ 0 → images_check n ≡ Err r → FirstRefusal m r
+    of_first : m ≡ 1 → images_check n ≡ Ok tt → table_check L n t ≡ Err r → FirstRefusal m r
+    of_second : m ≡ 2 → images_check n ≡ Ok tt → table_check L n t ≡ Ok tt → table_check L n u ≡ Err r → FirstRefusal m r

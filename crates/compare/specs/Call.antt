@@ -1,21 +1,23 @@
 -- What the comparison answers, in document 01's words. Of the tree part it names the check of one table and the far sides of its tree.
-use Rattle.std.specs.Prelude.{List, ℕ}
-use Rattle.ground.specs.Refusals.{if_passed}
-use Rattle.ground.specs.declared.Check.{Check}
+use Rattle.counts.specs.declared.Difference.{Difference}
+use Rattle.ground.specs.declared.TableRefusal.{TableRefusal}
+use Rattle.std.specs.Prelude.{List, ℕ, Ok, Result}
+use Rattle.ground.specs.Refusals.{if_passed, Check, refused_in}
 use Rattle.theory.specs.Checks.{images_check}
 use Rattle.tree.specs.Exact.{exact_sides, table_check}
 use Rattle.counts.specs.Differ.{differ}
-use Rattle.compare.specs.declared.Comparison.{Comparison}
-use Rattle.compare.specs.declared.Comparison.TheVariants.{Compared}
-use Rattle.compare.specs.declared.Comparison.TheVariants as answer
+
+-- what the call answers: what is counted, or the refusal with the table's number
+abbrev pub Comparison : Type 0
+Comparison = Result Difference TableRefusal
 
 -- a refusal with the table's number m beside the places, or what follows where the check passed
 abbrev pub numbered : ℕ → Check → Comparison → Comparison
-numbered m c y = if_passed (answer.Refused m) c y
+numbered m c y = if_passed (refused_in m) c y
 
 -- the second table, number 2, after the tree with the far sides l
 abbrev pub against_second : ℕ → ℕ → List ℕ → List ℕ → Comparison
-against_second L n l u = numbered 2 (table_check L n u) (Compared (differ n l (exact_sides L n u)))
+against_second L n l u = numbered 2 (table_check L n u) (Ok (differ n l (exact_sides L n u)))
 
 -- the first table, number 1, and then the second
 abbrev pub both_tables : ℕ → ℕ → List ℕ → List ℕ → Comparison

@@ -1,15 +1,7 @@
 -- Small comparisons, computed: settled examples of document 01, and three trees that show that the disagreement is no distance. Assumes
 -- nothing.
-use Rattle.std.specs.Prelude.{List, [], ◌∷◌, refl, ◌≡◌, ℕ}
-use Rattle.std.specs.Int.Count.{ones}
-use Rattle.ground.specs.Least.{least_on}
-use Rattle.ground.specs.Lowest.{check_all}
-use Rattle.theory.specs.Index.{shifted}
-use Rattle.theory.specs.Tables.{limit}
-use Rattle.tree.specs.Exact.{exact_rows, table_check, tree_check}
-use Rattle.compare.specs.Call.{comparison}
-use Rattle.compare.specs.declared.Comparison.{Comparison}
-use Rattle.compare.specs.declared.Comparison.TheVariants.{Compared}
+use Rattle.std.specs.Prelude.{List, [], ◌∷◌, ℕ, Ok}
+use Rattle.compare.specs.Call.{Comparison}
 
 abbrev pub table_a : List ℕ
 table_a = 0 ∷ 1 ∷ 1 ∷ 1 ∷ 0 ∷ 1 ∷ 1 ∷ 1 ∷ 0 ∷ []
@@ -26,7 +18,7 @@ table_g = 0 ∷ 2 ∷ 2 ∷ 2 ∷ 2 ∷ 0 ∷ 2 ∷ 2 ∷ 2 ∷ 2 ∷ 0 ∷ 2 �
 
 -- inner rows of the first and of the second, common ones, and the count over its divisor
 abbrev pub answer : ℕ → ℕ → ℕ → ℕ → ℕ → Comparison
-answer f g c d m = Compared (record { first = f; second = g; common = c; count = d; over = m })
+answer f g c d m = Ok (record { first = f; second = g; common = c; count = d; over = m })
 
 -- five images with an inner row for 2 and 3, with one for 4 and 5, and with both
 abbrev pub table_low : List ℕ

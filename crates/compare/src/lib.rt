@@ -9,18 +9,11 @@ ghost use Rattle.tree.specs.Exact.{SidesRead};
 ghost use Rattle.compare.specs.Call.{against_second, both_tables, comparison};
 
 use counts::Difference;
-use ground::{Check, Refusal, Written};
-
-// What the comparison answers: the difference, or a refusal with the table's number, 0 with refusal 1.
-#[derive(Drop)]
-pub enum Comparison {
-    Compared(Difference),
-    Refused(usize, Refusal),
-}
+use ground::{Refusal, TableRefusal};
 
 // Reads t exactly. The tree's far sides stand at the front of fars; its costs are not wanted. 128 places are more than any tree has
 // rows, so refusal 3 is never given.
-fn read(n: usize, t: &[u32], fars: &mut [u64]) -> Written
+fn read(n: usize, t: &[u32], fars: &mut [u64]) -> Result<usize, Refusal>
     requires { (3 ≤ n) × (n ≤ 64) × (length fars.old ≡ 128) }
     ensures { SidesRead limit n t.now result fars.new }
 {
@@ -29,38 +22,29 @@ fn read(n: usize, t: &[u32], fars: &mut [u64]) -> Written
 }
 
 // The far sides of the first tree against the second table.
-fn against_second(n: usize, first: &[u64], second: &[u32]) -> Comparison
+fn against_second(n: usize, first: &[u64], second: &[u32]) -> Result<Difference, TableRefusal>
     requires { (3 ≤ n) × (n ≤ 64) × Between 1 first.now (2 ^ n) × (length first.now ≤ 128) }
     ensures { result ≡ against_second limit n first.now second.now }
 {
     let mut fars = [0u64; 128];
-    let rows = read(n, second, &mut fars);
-    match rows {
-        Written::Refused(r) => Comparison::Refused(2, r),
-        Written::Places(count) => Comparison::Compared(counts::differ(n, first, &fars[..count])),
-    }
+    let count = read(n, second, &mut fars).map_err(|r| r.in_table(2))?;
+    Ok(counts::differ(n, first, &fars[..count]))
 }
 
 // The first table, and where it is accepted its tree against the second.
-fn both_tables(n: usize, first: &[u32], second: &[u32]) -> Comparison
+fn both_tables(n: usize, first: &[u32], second: &[u32]) -> Result<Difference, TableRefusal>
     requires { (3 ≤ n) × (n ≤ 64) }
     ensures { result ≡ both_tables limit n first.now second.now }
 {
     let mut fars = [0u64; 128];
-    let rows = read(n, first, &mut fars);
-    match rows {
-        Written::Refused(r) => Comparison::Refused(1, r),
-        Written::Places(count) => against_second(n, &fars[..count], second),
-    }
+    let count = read(n, first, &mut fars).map_err(|r| r.in_table(1))?;
+    against_second(n, &fars[..count], second)
 }
 
-// The two tables compared, or the first refusal: 1, then 2, 4, 5, 6, 20, 7 for the first table and then for the second.
-pub fn compare(n: usize, first: &[u32], second: &[u32]) -> Comparison
+// The two tables compared, or the first refusal, with the table's number, 0 with 1: 1, then 2, 4, 5, 6, 20, 7 for the first table and then for the second.
+pub fn compare(n: usize, first: &[u32], second: &[u32]) -> Result<Difference, TableRefusal>
     ensures { result ≡ comparison limit n first.now second.now }
 {
-    let images = theory::check_images(n);
-    match images {
-        Check::Refused(r) => Comparison::Refused(0, r),
-        Check::Passed => both_tables(n, first, second),
-    }
+    theory::check_images(n).map_err(|r| r.in_table(0))?;
+    both_tables(n, first, second)
 }

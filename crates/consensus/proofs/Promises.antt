@@ -1,7 +1,7 @@
 -- What the links shared by a team are worth, as document 02 says it: what an accepted call left in the two slices, f' and v' after f and v.
 -- Assumes nothing.
 use mathlib.Core.List.{List, Memᴰ, map, ◌∷◌}
-use Rattle.std.specs.Prelude.{refl, ◌≡◌, suc, zero, ℕ, ◌^◌, ◌≤◌, length}
+use Rattle.std.specs.Prelude.{refl, ◌≡◌, suc, zero, ℕ, ◌^◌, ◌≤◌, length, Ok}
 use Rattle.std.proofs.Common.{ap, subst, sym, ◌∙◌, arith}
 use Rattle.ground.specs.Filters.{Each}
 use Rattle.ground.specs.Laws.Maps.{map-mem, mem-map}
@@ -19,7 +19,6 @@ use Rattle.consensus.specs.Call.{consensus_outcome}
 use Rattle.consensus.proofs.Laws.Left.{consensus-left}
 use Rattle.consensus.specs.Laws.Sharing.{shared_tree, trees_of}
 use Rattle.consensus.specs.Team.{TeamReady, shared_links, table_at, tables_in}
-use Rattle.consensus.specs.declared.Shared.TheVariants.{Rows}
 pub use Rattle.consensus.specs.Promises.{SmallestCost, SharedByTeam}
 
 -- of one accepted table or more
@@ -68,7 +67,7 @@ module _ (L n m : ℕ) (t f v : List ℕ) where
     pub left : RowsStand (shared_links L n (tables_in n m t)) r f v f' v'
     pub shared : SharedByTeam L n (tables_in n m t) (rows_left r f' v')
 
-  pub consensus-answer : (r : ℕ) (f' v' : List ℕ) → LeftRows (consensus_outcome L n m t f v) (Rows r) f' v' → ConsensusAnswer r f' v'
+  pub consensus-answer : (r : ℕ) (f' v' : List ℕ) → LeftRows (consensus_outcome L n m t f v) (Ok r) f' v' → ConsensusAnswer r f' v'
   consensus-answer r f' v' l =
       let a = consensus-left L n m t f v r f' v' l in
       record {

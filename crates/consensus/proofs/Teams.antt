@@ -1,7 +1,7 @@
 -- What two calls for teams say of each other, over what they answered and left: the order of the tables plays no part, one table gives its
 -- exact reading, and one table more only takes rows away or lowers costs. Assumes nothing.
 use mathlib.Core.List.{List, Memᴰ, map, ◌++◌}
-use Rattle.std.specs.Prelude.{◌↔◌, ◌≡◌, ℕ, ◌+◌, ◌^◌, ◌≤◌, length}
+use Rattle.std.specs.Prelude.{◌↔◌, ◌≡◌, ℕ, ◌+◌, ◌^◌, ◌≤◌, length, Ok}
 use Rattle.std.proofs.Common.{ap, subst, sym, ◌∙◌, arith}
 use Rattle.std.proofs.lemmas.List.{length-map}
 use Rattle.ground.specs.Ascending.{Between}
@@ -11,7 +11,6 @@ use Rattle.ground.specs.Laws.Filters.{filter-mem, mem-filter}
 use Rattle.ground.specs.Laws.Maps.{map-mem, mem-map}
 use Rattle.ground.specs.Laws.Members.{is_in-mem, mem-is_in}
 use Rattle.ground.specs.Members.{is_in}
-use Rattle.ground.specs.declared.Written.TheVariants.{Places}
 use Rattle.theory.specs.Comparison.{common}
 use Rattle.theory.specs.Laws.Comparison.{split_length}
 use Rattle.theory.specs.LinkTables.{far, fars}
@@ -27,7 +26,6 @@ use Rattle.consensus.proofs.Laws.Left.{consensus-left, left_again}
 use Rattle.consensus.proofs.Laws.One.{exact_to_one, one_to_exact, only_table}
 use Rattle.consensus.proofs.Promises.{consensus-answer}
 use Rattle.consensus.specs.Team.{Joined, shared_links, tables_in}
-use Rattle.consensus.specs.declared.Shared.TheVariants.{Rows}
 pub use Rattle.consensus.specs.Teams.{SameTables, FewerLinks}
 
 pub same_shared : (L n : ℕ) (ts us : List (List ℕ)) → SameTables ts us → shared_links L n ts ≡ shared_links L n us
@@ -49,14 +47,14 @@ fewer m k l r a b h =
 module _ (L n m k : ℕ) (t u f v : List ℕ) where
   -- the order of accepted tables plays no part: any rearrangement of them, joined in u, gives the same answer and leaves the same places
   pub any_order : Joined n k u → SameTables (tables_in n m t) (tables_in n k u) → (r : ℕ) (f' v' : List ℕ)
-      → LeftRows (consensus_outcome L n m t f v) (Rows r) f' v' → LeftRows (consensus_outcome L n k u f v) (Rows r) f' v'
+      → LeftRows (consensus_outcome L n m t f v) (Ok r) f' v' → LeftRows (consensus_outcome L n k u f v) (Ok r) f' v'
   any_order j s r f' v' l =
       let a = consensus-left L n m t f v r f' v' l in
       left_again L n m k t u f v r f' v' l j (λ x q. a.wired x (s.back x q)) (same_shared L n (tables_in n m t) (tables_in n k u) s)
 
   -- more tables only take rows away or lower costs: g' and w' were left for tables among which are all those of the first call
   pub more-tables : Each (tables_in n m t) (λ x. Memᴰ x (tables_in n k u)) → (r s : ℕ) (g w f' v' g' w' : List ℕ)
-      → LeftRows (consensus_outcome L n m t f v) (Rows r) f' v' → LeftRows (consensus_outcome L n k u g w) (Rows s) g' w'
+      → LeftRows (consensus_outcome L n m t f v) (Ok r) f' v' → LeftRows (consensus_outcome L n k u g w) (Ok s) g' w'
       → FewerLinks r (rows_left r f' v') s (rows_left s g' w')
   more-tables h r s g w f' v' g' w' p q =
       let x = consensus-left L n m t f v r f' v' p in
@@ -80,7 +78,7 @@ module _ (L n m k : ℕ) (t u f v : List ℕ) where
 
 -- one table gives its exact reading: the two calls answer the same count and leave the same places
 pub one_table : (L n : ℕ) (t f v : List ℕ) (r : ℕ) (f' v' : List ℕ)
-    → LeftRows (consensus_outcome L n 1 t f v) (Rows r) f' v' ↔ LeftRows (exact_outcome L n t f v) (Places r) f' v'
+    → LeftRows (consensus_outcome L n 1 t f v) (Ok r) f' v' ↔ LeftRows (exact_outcome L n t f v) (Ok r) f' v'
 one_table L n t f v r f' v' = (
   λ l.
       let a = consensus-left L n 1 t f v r f' v' l in
@@ -95,8 +93,8 @@ one_table L n t f v r f' v' = (
 )
 
 -- one table u more behind the first m only takes rows away or lowers costs
-pub one_more : (L n m : ℕ) (t u f v g w : List ℕ) (r s : ℕ) (f' v' g' w' : List ℕ) → LeftRows (consensus_outcome L n m t f v) (Rows r) f' v'
-    → LeftRows (consensus_outcome L n (m + 1) (t ++ u) g w) (Rows s) g' w'
+pub one_more : (L n m : ℕ) (t u f v g w : List ℕ) (r s : ℕ) (f' v' g' w' : List ℕ) → LeftRows (consensus_outcome L n m t f v) (Ok r) f' v'
+    → LeftRows (consensus_outcome L n (m + 1) (t ++ u) g w) (Ok s) g' w'
     → FewerLinks r (rows_left r f' v') s (rows_left s g' w')
 one_more L n m t u f v g w r s f' v' g' w' p q =
     let j = (consensus-left L n m t f v r f' v' p).ready.joined in

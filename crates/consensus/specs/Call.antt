@@ -1,17 +1,19 @@
 -- What the call for a team answers, by document 02's numbers, and what it leaves in the two lent slices: m tables over n images stand
 -- joined in t.
-use Rattle.std.specs.Prelude.{not, List, suc, zero, ℕ, ◌*◌, ◌+◌, ◌-◌, eqb, length}
+use Rattle.ground.specs.declared.TableRefusal.{TableRefusal}
+use Rattle.std.specs.Prelude.{not, List, suc, zero, ℕ, ◌*◌, ◌+◌, ◌-◌, eqb, length, Ok, Err, Result}
 use Rattle.ground.specs.Buffers.{front}
-use Rattle.ground.specs.Refusals.{if_passed, outside, refusal, refuse_if, ◌then◌}
-use Rattle.ground.specs.declared.Check.{Check}
+use Rattle.ground.specs.Refusals.{if_passed, outside, refusal, refuse_if, ◌then◌, Check, refused_in}
 use Rattle.theory.specs.Checks.{images_check}
 use Rattle.theory.specs.LinkTables.{Row, costs, fars}
 use Rattle.theory.specs.Outcomes.{RowsOutcome}
 use Rattle.tree.specs.Exact.{tree_check}
 use Rattle.tree.specs.Readings.{outputs_room_check}
 use Rattle.consensus.specs.Team.{shared_links, table_at, tables_in}
-use Rattle.consensus.specs.declared.Shared.{Shared}
-use Rattle.consensus.specs.declared.Shared.TheVariants.{Refused, Rows}
+
+-- what the call answers: how many rows all trees share, or the first refusal with the table's number
+abbrev pub Shared : Type 0
+Shared = Result ℕ TableRefusal
 
 -- 16: no tables or more than sixteen
 abbrev pub number_check : ℕ → Check
@@ -27,7 +29,7 @@ team_check n m t f v = images_check n then number_check m then joined_check n m 
 
 -- a refusal with the table's number k beside it, or what follows where the check passed
 abbrev pub numbered : ℕ → Check → Shared → Shared
-numbered k c y = if_passed (Refused k) c y
+numbered k c y = if_passed (refused_in k) c y
 
 -- 4, 5, 6, 20, 7 table by table, from place k on; tables are numbered from 1
 unfoldable pub table_by_table : ℕ → ℕ → List ℕ → ℕ → ℕ → Shared → Shared
@@ -36,12 +38,12 @@ table_by_table L n t k (suc m) y = numbered (k + 1) (tree_check L n (table_at n 
 
 -- the first table that is refused, or the number of rows that all trees share
 abbrev pub team_answer : ℕ → ℕ → ℕ → List ℕ → Shared
-team_answer L n m t = table_by_table L n t 0 m (Rows (length (shared_links L n (tables_in n m t))))
+team_answer L n m t = table_by_table L n t 0 m (Ok (length (shared_links L n (tables_in n m t))))
 
 -- refused, nothing is altered; accepted, the rows of T stand in front
 abbrev pub leaving : Shared → List Row → List ℕ → List ℕ → RowsOutcome Shared
-leaving (Rows r) T f v = record { answer = Rows r; far_list = front (fars T) f; cost_list = front (costs T) v }
-leaving (Refused k q) T f v = record { answer = Refused k q; far_list = f; cost_list = v }
+leaving (Ok r) T f v = record { answer = Ok r; far_list = front (fars T) f; cost_list = front (costs T) v }
+leaving (Err e) T f v = record { answer = Err e; far_list = f; cost_list = v }
 
 -- the call's own checks with table number 0, and then table by table
 abbrev pub consensus_outcome : ℕ → ℕ → ℕ → List ℕ → List ℕ → List ℕ → RowsOutcome Shared

@@ -1,17 +1,6 @@
 -- Small teams, computed: the trees of document 01's examples A, D, E and G. Assumes nothing.
-use Rattle.std.specs.Prelude.{List, [], ◌++◌, ◌∷◌, refl, ◌≡◌, ℕ}
-use Rattle.std.specs.Int.Count.{ones}
-use Rattle.ground.specs.Least.{least_on}
-use Rattle.ground.specs.Lowest.{check_all}
-use Rattle.ground.specs.Refusals.{refusal}
-use Rattle.theory.specs.Index.{shifted}
+use Rattle.std.specs.Prelude.{List, [], ◌∷◌, ℕ}
 use Rattle.theory.specs.LinkTables.{Row}
-use Rattle.theory.specs.Tables.{limit}
-use Rattle.tree.specs.Exact.{exact_rows, tree_check}
-use Rattle.shared_rows.specs.Consensus.{consensus}
-use Rattle.consensus.specs.Call.{consensus_outcome, table_by_table, team_check}
-use Rattle.consensus.specs.Team.{table_at}
-use Rattle.consensus.specs.declared.Shared.TheVariants.{Refused, Rows}
 
 abbrev pub rows_a : List Row
 rows_a = (2, 1) ∷ (4, 1) ∷ (6, 1) ∷ []

@@ -1,24 +1,11 @@
 -- The checks of the call for a team by their numbers, and by the table that each is about. Assumes nothing.
-use Rattle.std.specs.Prelude.{not, List, [], ◌++◌, ◌∷◌, refl, ◌≡◌, suc, zero, ℕ, ◌*◌, ◌+◌, ◌-◌, eqb, length}
-use Rattle.std.proofs.Common.{ap, ap₂, ◌∙◌, add-one, arith}
-use Rattle.ground.specs.InOrder.{Decides, InOrder, Own}
-use Rattle.ground.specs.Laws.Filters.{each_nil}
-use Rattle.ground.specs.Laws.InOrder.{decides_next, join-order, refuse_order}
-use Rattle.ground.specs.Laws.Steps.{first-decided}
-use Rattle.ground.specs.Ranges.{from, gather}
-use Rattle.ground.specs.Refusals.{outside, refusal}
-use Rattle.ground.specs.Steps.{FirstRefused, Step, about, numbers_of, of_table, ◌by◌}
-use Rattle.ground.specs.declared.Refusal.{Refusal}
+use Rattle.std.specs.Prelude.{List, [], ◌++◌, ◌∷◌, suc, zero, ℕ, ◌*◌, ◌+◌, ◌-◌}
+use Rattle.ground.specs.Steps.{Step, about, of_table, ◌by◌}
 use Rattle.theory.specs.Checks.{images_check}
-use Rattle.theory.specs.Laws.InOrder.{images-order}
-use Rattle.theory.specs.LinkTables.{Row}
 use Rattle.tree.specs.InOrder.{tree_steps}
-use Rattle.tree.proofs.InOrder.{tree_order}
-use Rattle.tree.specs.Readings.{outputs_room_check, short}
-use Rattle.consensus.specs.Call.{consensus_outcome, joined_check, leaving, number_check, numbered, table_by_table, team_answer, team_check}
-use Rattle.consensus.specs.Team.{shared_links, table_at, tables_in}
-use Rattle.consensus.specs.declared.Shared.{Shared}
-use Rattle.consensus.specs.declared.Shared.TheVariants.{Refused, Rows}
+use Rattle.tree.specs.Readings.{outputs_room_check}
+use Rattle.consensus.specs.Call.{joined_check, number_check}
+use Rattle.consensus.specs.Team.{table_at}
 
 -- 1, 16, 2, 3, where f and v are the lengths of the outputs
 abbrev pub team_steps : ℕ → ℕ → List ℕ → ℕ → ℕ → List Step

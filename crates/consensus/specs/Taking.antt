@@ -1,18 +1,12 @@
 -- The tables taken one after another: what is held in local arrays of 128 places, and what is known by then. Assumes nothing.
-use Rattle.std.specs.Prelude.{List, ◌≡◌, ℕ, ◌≤◌, length, take}
+use Rattle.ground.specs.Refusals.{Written, refused_in}
+use Rattle.std.specs.Prelude.{List, ◌≡◌, ℕ, ◌≤◌, length, take, Ok, Err}
 use Rattle.ground.specs.Filters.{Each}
-use Rattle.ground.specs.declared.Check.{Check}
-use Rattle.ground.specs.declared.Check.TheVariants as check
 use Rattle.ground.specs.declared.Refusal.{Refusal}
-use Rattle.ground.specs.declared.Written.{Written}
-use Rattle.ground.specs.declared.Written.TheVariants.{Places}
-use Rattle.ground.specs.declared.Written.TheVariants as written
 use Rattle.theory.specs.LinkTables.{Row, costs, fars}
 use Rattle.tree.specs.Exact.{Wired, exact_rows, tree_check}
-use Rattle.consensus.specs.Call.{table_by_table}
+use Rattle.consensus.specs.Call.{table_by_table, Shared}
 use Rattle.consensus.specs.Team.{shared_links, tables_in}
-use Rattle.consensus.specs.declared.Shared.{Shared}
-use Rattle.consensus.specs.declared.Shared.TheVariants.{Refused, Rows}
 
 -- the rows of T stand in the first c of 128 places
 pub record RowsHeld (T : List Row) (f v : List ℕ) (c : ℕ) : Type 0 where
@@ -25,8 +19,8 @@ pub record RowsHeld (T : List Row) (f v : List ℕ) (c : ℕ) : Type 0 where
 
 -- a table read exactly: refused as its checks say, or its tree is held
 pub record TreeRead (L n : ℕ) (u : List ℕ) (r : Written) (f v : List ℕ) : Type 0 where
-  pub refused : (q : Refusal) → r ≡ written.Refused q → tree_check L n u ≡ check.Refused q
-  pub accepted : (c : ℕ) → r ≡ Places c → Wired L n u × RowsHeld (exact_rows L n u) f v c
+  pub refused : (q : Refusal) → r ≡ Err q → tree_check L n u ≡ Err q
+  pub accepted : (c : ℕ) → r ≡ Ok c → Wired L n u × RowsHeld (exact_rows L n u) f v c
 
 -- the first k tables are accepted, and what they share is held
 pub record Shares (L n : ℕ) (t : List ℕ) (k : ℕ) (f v : List ℕ) (c : ℕ) : Type 0 where
@@ -35,5 +29,5 @@ pub record Shares (L n : ℕ) (t : List ℕ) (k : ℕ) (f v : List ℕ) (c : ℕ
 
 -- of m tables k were taken: the first that is refused, or what they share
 pub record Taken (L n m : ℕ) (t : List ℕ) (k : ℕ) (r : Shared) (f v : List ℕ) : Type 0 where
-  pub refused : (j : ℕ) (q : Refusal) → r ≡ Refused j q → (y : Shared) → table_by_table L n t 0 m y ≡ Refused j q
-  pub accepted : (c : ℕ) → r ≡ Rows c → Shares L n t k f v c
+  pub refused : (j : ℕ) (q : Refusal) → r ≡ refused_in j q → (y : Shared) → table_by_table L n t 0 m y ≡ refused_in j q
+  pub accepted : (c : ℕ) → r ≡ Ok c → Shares L n t k f v c

@@ -9,15 +9,7 @@ ghost use Rattle.consensus.specs.Call.{consensus_outcome, joined_check, leaving,
 ghost use Rattle.consensus.specs.Taking.{Shares, Taken, TreeRead};
 ghost use Rattle.consensus.specs.Team.{Joined, shared_links, table_at, tables_in};
 
-use ground::{Check, Refusal, Written};
-
-// What the call for a team answers: how many rows all trees share, or the first refusal with the table's number, 0 for what is no
-// table's.
-#[derive(Drop)]
-pub enum Shared {
-    Rows(usize),
-    Refused(usize, Refusal),
-}
+use ground::{Refusal, TableRefusal};
 
 // Reads table k of those joined exactly, in the part of the slice where it stands. 128 places are more than any tree has rows, so
 // refusal 3 is never given.
@@ -28,7 +20,7 @@ fn read_table(
     k: usize,
     fars: &mut [u64],
     costs: &mut [u32],
-) -> Written
+) -> Result<usize, Refusal>
     requires { Joined n number tables.now × (k < number) × (length fars.old ≡ 128) × (length costs.old ≡ 128) }
     ensures { TreeRead limit n (table_at n tables.now k) result fars.new costs.new }
 {
@@ -45,13 +37,13 @@ fn take_first(
     tables: &[u32],
     fars: &mut [u64],
     costs: &mut [u32],
-) -> Shared
+) -> Result<usize, TableRefusal>
     requires { Joined n number tables.now × (length fars.old ≡ 128) × (length costs.old ≡ 128) }
     ensures { Taken limit n number tables.now 1 result fars.new costs.new }
 {
     match read_table(n, number, tables, 0, fars, costs) {
-        Written::Refused(r) => Shared::Refused(1, r),
-        Written::Places(count) => Shared::Rows(count),
+        Ok(count) => Ok(count),
+        Err(r) => Err(r.in_table(1)),
     }
 }
 
@@ -64,22 +56,15 @@ fn take_next(
     count: usize,
     fars: &mut [u64],
     costs: &mut [u32],
-) -> Shared
+) -> Result<usize, TableRefusal>
     requires { Joined n number tables.now × (1 ≤ k) × (k < number) × Shares limit n tables.now k fars.old costs.old count }
     ensures { Taken limit n number tables.now (k + 1) result fars.new costs.new }
 {
     let mut f = [0u64; 128];
     let mut v = [0u32; 128];
-    let rows = read_table(n, number, tables, k, &mut f, &mut v);
-    match rows {
-        Written::Refused(r) => Shared::Refused(k + 1, r),
-        Written::Places(others) => Shared::Rows(shared_rows::meet(
-            count,
-            fars,
-            costs,
-            &f[..others],
-            &v[..others],
-        )),
+    match read_table(n, number, tables, k, &mut f, &mut v) {
+        Ok(others) => Ok(shared_rows::meet(count, fars, costs, &f[..others], &v[..others])),
+        Err(r) => Err(r.in_table(k + 1)),
     }
 }
 
@@ -91,31 +76,30 @@ fn take_others(
     first: usize,
     fars: &mut [u64],
     costs: &mut [u32],
-) -> Shared
+) -> Result<usize, TableRefusal>
     requires { Joined n number tables.now × Shares limit n tables.now 1 fars.old costs.old first }
     ensures { Taken limit n number tables.now number result fars.new costs.new }
 {
     let mut count = first;
-    let mut k = 1;
-    while k < number {
-        match take_next(n, number, tables, k, count, fars, costs) {
-            Shared::Refused(table, r) => return Shared::Refused(table, r),
-            Shared::Rows(both) => count = both,
-        }
-        k += 1;
+    for k in 1..number {
+        count = take_next(n, number, tables, k, count, fars, costs)?;
     }
-    Shared::Rows(count)
+    Ok(count)
 }
 
 // All tables.
-fn take_all(n: usize, number: usize, tables: &[u32], fars: &mut [u64], costs: &mut [u32]) -> Shared
+fn take_all(
+    n: usize,
+    number: usize,
+    tables: &[u32],
+    fars: &mut [u64],
+    costs: &mut [u32],
+) -> Result<usize, TableRefusal>
     requires { Joined n number tables.now × (length fars.old ≡ 128) × (length costs.old ≡ 128) }
     ensures { Taken limit n number tables.now number result fars.new costs.new }
 {
-    match take_first(n, number, tables, fars, costs) {
-        Shared::Refused(table, r) => Shared::Refused(table, r),
-        Shared::Rows(first) => take_others(n, number, tables, first, fars, costs),
-    }
+    let first = take_first(n, number, tables, fars, costs)?;
+    take_others(n, number, tables, first, fars, costs)
 }
 
 // The answer once the call's own checks have passed: the first table that is refused, or the shared rows, written at last.
@@ -125,32 +109,27 @@ fn write_shared(
     tables: &[u32],
     fars: &mut [u64],
     costs: &mut [u32],
-) -> Shared
+) -> Result<usize, TableRefusal>
     requires { Joined n number tables.now × (2 * n - 3 ≤ length fars.old) × (2 * n - 3 ≤ length costs.old) }
     ensures { LeftRows (leaving (team_answer limit n number tables.now) (shared_links limit n (tables_in n number tables.now))
         fars.old costs.old) result fars.new costs.new }
 {
     let mut f = [0u64; 128];
     let mut v = [0u32; 128];
-    let shared = take_all(n, number, tables, &mut f, &mut v);
-    match shared {
-        Shared::Refused(table, r) => Shared::Refused(table, r),
-        Shared::Rows(count) => {
-            tree::write_rows(&f, &v, count, fars, costs);
-            Shared::Rows(count)
-        }
-    }
+    let count = take_all(n, number, tables, &mut f, &mut v)?;
+    tree::write_rows(&f, &v, count, fars, costs);
+    Ok(count)
 }
 
 // Refusal 16.
-fn check_number(number: usize) -> Check
+fn check_number(number: usize) -> Result<(), Refusal>
     ensures { result ≡ number_check number }
 {
     ground::refuse_if(ground::is_outside(1, 16, number), 16, 0, 0)
 }
 
 // Refusal 2.
-fn check_joined(n: usize, number: usize, tables: &[u32]) -> Check
+fn check_joined(n: usize, number: usize, tables: &[u32]) -> Result<(), Refusal>
     requires { (n ≤ 64) × (number ≤ 16) }
     ensures { result ≡ joined_check n number tables.now }
 {
@@ -158,37 +137,28 @@ fn check_joined(n: usize, number: usize, tables: &[u32]) -> Check
 }
 
 // Refusals 1, 16, 2, 3, which are no table's.
-fn check_team(n: usize, number: usize, tables: &[u32], f: usize, v: usize) -> Check
+#[tactic(auto, unfolding(crate::specs::Call::team_check))]
+fn check_team(n: usize, number: usize, tables: &[u32], f: usize, v: usize) -> Result<(), Refusal>
     ensures { result ≡ team_check n number tables.now f v }
 {
-    let images = theory::check_images(n);
-    let Check::Passed = images else {
-        return images;
-    };
-    let team = check_number(number);
-    let Check::Passed = team else {
-        return team;
-    };
-    let joined = check_joined(n, number, tables);
-    let Check::Passed = joined else {
-        return joined;
-    };
+    theory::check_images(n)?;
+    check_number(number)?;
+    check_joined(n, number, tables)?;
     tree::check_room(n, f, v)
 }
 
-// The links that the trees of so many cost tables over n images share, each with the smallest of its doubled costs.
+// The links that the trees of so many cost tables over n images share, each with the smallest of its doubled costs: how
+// many they are, or the first refusal with the table's number, 0 for what is no table's.
 pub fn consensus(
     n: usize,
     number: usize,
     tables: &[u32],
     fars: &mut [u64],
     costs: &mut [u32],
-) -> Shared
+) -> Result<usize, TableRefusal>
     ensures { LeftRows (consensus_outcome limit n number tables.now fars.old costs.old) result
         fars.new costs.new }
 {
-    match check_team(n, number, tables, fars.len(), costs.len()) {
-        Check::Refused(r) => Shared::Refused(0, r),
-        Check::Passed => write_shared(n, number, tables, fars, costs),
-    }
+    check_team(n, number, tables, fars.len(), costs.len()).map_err(|r| r.in_table(0))?;
+    write_shared(n, number, tables, fars, costs)
 }

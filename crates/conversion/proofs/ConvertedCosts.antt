@@ -1,10 +1,9 @@
 -- What the conversion of a stored cost table is worth: s are the bytes that it was given, out the lent ones, and out' what it left there.
 -- Assumes nothing.
-use Rattle.std.specs.Prelude.{List, [], ◌++◌, ◌↔◌, refl, ◌≡◌, ℕ, ◌*◌, ◌≤◌, drop, length, take}
+use Rattle.std.specs.Prelude.{List, [], ◌++◌, ◌↔◌, refl, ◌≡◌, ℕ, ◌*◌, ◌≤◌, drop, length, take, Ok}
 use Rattle.std.proofs.Common.{ap, subst, sym, ◌∙◌}
 use Rattle.ground.specs.Outcomes.{Left, Outcome, wrote_into}
-use Rattle.ground.specs.declared.Written.{Written}
-use Rattle.ground.specs.declared.Written.TheVariants.{Places}
+use Rattle.ground.specs.Refusals.{Written}
 use Rattle.theory.specs.Tables.{cost}
 use Rattle.bits.specs.Bits.{AllBytes}
 use Rattle.bits.specs.Editions.{edition_of}
@@ -22,7 +21,7 @@ use Rattle.conversion.proofs.Laws.Costs.{accepted, begun-table, converted, fitti
 module _ (e : Edition) (s out : List ℕ) where
   -- A conversion works exactly when every number fits: to the old form, when none is above the old limits.
   pub exactly_what_fits : Begins s → used_in e s ≤ length out
-      → ((costs_converted e s out).answer ≡ Places (used_in e s)) ↔ EntriesFit e s
+      → ((costs_converted e s out).answer ≡ Ok (used_in e s)) ↔ EntriesFit e s
   exactly_what_fits b h = (
     λ q. let k = converted e s out (used_in e s) _ (record { answered = sym q; left = refl }) in
         λ i j hi hj. k.table.formed.small {i = i} {j = j} hi hj,
@@ -30,7 +29,7 @@ module _ (e : Edition) (s out : List ℕ) where
   )
 
   -- The same entries: what was left is read as the table that was read before.
-  pub same_entries : (u : ℕ) (out' places : List ℕ) → Left (costs_converted e s out) (Places u) out' → images_said s * images_said s ≤ length places
+  pub same_entries : (u : ℕ) (out' places : List ℕ) → Left (costs_converted e s out) (Ok u) out' → images_said s * images_said s ≤ length places
       → read_either out' 0 places ≡ read_into (images_said s) u (table_said s) places
   same_entries u out' places p h =
       let k = converted e s out u out' p in
@@ -41,7 +40,7 @@ module _ (e : Edition) (s out : List ℕ) where
       ∙ ap (λ (x : ℕ). read_into n x t places) k.used
 
   -- Once it was converted, going on to any form gives what the first bytes give.
-  pub on_to_another : (g : Edition) (u : ℕ) (out' more : List ℕ) → Left (costs_converted e s out) (Places u) out'
+  pub on_to_another : (g : Edition) (u : ℕ) (out' more : List ℕ) → Left (costs_converted e s out) (Ok u) out'
       → costs_converted g out' more ≡ costs_converted g s more
   on_to_another g u out' more p =
       let k = converted e s out u out' p in
@@ -54,7 +53,7 @@ module _ (e : Edition) (s out : List ℕ) where
 
 -- To the new form always works, and there is nothing but room to ask for: old tables among them.
 pub to_new_always : (s out : List ℕ) → Begins s → used_in New s ≤ length out
-    → (costs_converted New s out).answer ≡ Places (used_in New s)
+    → (costs_converted New s out).answer ≡ Ok (used_in New s)
 to_new_always s out b h = ap (λ (o : Outcome Written). o.answer) (accepted New s out b (table_said_lem s b) h)
 
 -- To its own form gives the same used bytes.
@@ -71,7 +70,7 @@ own_form e s out b q k =
         ∙ ap (λ (m : List ℕ). wrote_into (used_in (edition_of s) s) m out) (read_written (cost_form_at s 0) s 4096 r (costs-marked s 0) b)
 
 -- Old to new to old gives the same bytes.
-pub old_new_old : (s out : List ℕ) (u : ℕ) (out' more : List ℕ) → AllBytes s → edition_of s ≡ Old → Left (costs_converted New s out) (Places u) out'
+pub old_new_old : (s out : List ℕ) (u : ℕ) (out' more : List ℕ) → AllBytes s → edition_of s ≡ Old → Left (costs_converted New s out) (Ok u) out'
     → used_in Old s ≤ length more
     → costs_converted Old out' more ≡ wrote_into (used_in Old s) (take (used_in Old s) s) more
 old_new_old s out u out' more b o p h =

@@ -1,10 +1,9 @@
 -- What the conversion of a stored link table is worth: s are the bytes that it was given, out the lent ones, and out' what it left there.
 -- Assumes nothing.
-use Rattle.std.specs.Prelude.{List, [], ◌++◌, ◌↔◌, refl, ◌≡◌, ℕ, ◌*◌, ◌-◌, ◌≤◌, drop, length, take}
+use Rattle.std.specs.Prelude.{List, [], ◌++◌, ◌↔◌, refl, ◌≡◌, ℕ, ◌*◌, ◌-◌, ◌≤◌, drop, length, take, Ok}
 use Rattle.std.proofs.Common.{ap, subst, sym, ◌∙◌}
 use Rattle.ground.specs.Outcomes.{Left, Outcome, wrote_into}
-use Rattle.ground.specs.declared.Written.{Written}
-use Rattle.ground.specs.declared.Written.TheVariants.{Places}
+use Rattle.ground.specs.Refusals.{Written}
 use Rattle.bits.specs.Bits.{AllBytes}
 use Rattle.bits.specs.Editions.{edition_of}
 use Rattle.bits.specs.declared.Edition.{Edition}
@@ -20,7 +19,7 @@ use Rattle.conversion.proofs.Laws.Links.{accepted, begins-table, begun-table, co
 
 module _ (e : Edition) (s out : List ℕ) where
   -- A conversion works exactly when every number fits: to the old form, when none is above the old limits.
-  pub exactly_what_fits : Begins s → used_in e s ≤ length out → ((links_converted e s out).answer ≡ Places (used_in e s)) ↔ CostsFit e s
+  pub exactly_what_fits : Begins s → used_in e s ≤ length out → ((links_converted e s out).answer ≡ Ok (used_in e s)) ↔ CostsFit e s
   exactly_what_fits b h =
       let f = fitting e s b in (
         λ q. f.1 (converted e s out (used_in e s) _ (record { answered = sym q; left = refl })).table,
@@ -28,7 +27,7 @@ module _ (e : Edition) (s out : List ℕ) where
       )
 
   -- The same rows: what was left is read as the table that was read before.
-  pub same_rows : (u : ℕ) (out' f v : List ℕ) → Left (links_converted e s out) (Places u) out' → 2 * images_said s - 3 ≤ length f
+  pub same_rows : (u : ℕ) (out' f v : List ℕ) → Left (links_converted e s out) (Ok u) out' → 2 * images_said s - 3 ≤ length f
       → 2 * images_said s - 3 ≤ length v → read_either out' 0 f v ≡ read_into (images_said s) (count_said s) u (fars_said s) (costs_said s) f v
   same_rows u out' f v p h i =
       let k = converted e s out u out' p in
@@ -38,7 +37,7 @@ module _ (e : Edition) (s out : List ℕ) where
       ∙ ap (λ (x : ℕ). read_into (images_said s) (count_said s) x (fars_said s) (costs_said s) f v) k.used
 
   -- Once it was converted, going on to any form gives what the first bytes give.
-  pub on_to_another : (g : Edition) (u : ℕ) (out' more : List ℕ) → Left (links_converted e s out) (Places u) out'
+  pub on_to_another : (g : Edition) (u : ℕ) (out' more : List ℕ) → Left (links_converted e s out) (Ok u) out'
       → links_converted g out' more ≡ links_converted g s more
   on_to_another g u out' more p =
       let k = converted e s out u out' p in
@@ -49,7 +48,7 @@ module _ (e : Edition) (s out : List ℕ) where
       ∙ sym (begun-table g s more k.begins)
 
 -- To the new form always works, and there is nothing but room to ask for: old tables among them.
-pub to_new_always : (s out : List ℕ) → Begins s → used_in New s ≤ length out → (links_converted New s out).answer ≡ Places (used_in New s)
+pub to_new_always : (s out : List ℕ) → Begins s → used_in New s ≤ length out → (links_converted New s out).answer ≡ Ok (used_in New s)
 to_new_always s out b h = ap (λ (o : Outcome Written). o.answer) (accepted New s out b (begins-table s b) h)
 
 -- To its own form gives the same used bytes.
@@ -67,7 +66,7 @@ own_form e s out b q k =
         (read_written form (images_said s) (count_said s) s (table-begins form s k) (links_marked s 0) b)
 
 -- Old to new to old gives the same bytes.
-pub old_new_old : (s out : List ℕ) (u : ℕ) (out' more : List ℕ) → AllBytes s → edition_of s ≡ Old → Left (links_converted New s out) (Places u) out'
+pub old_new_old : (s out : List ℕ) (u : ℕ) (out' more : List ℕ) → AllBytes s → edition_of s ≡ Old → Left (links_converted New s out) (Ok u) out'
     → used_in Old s ≤ length more → links_converted Old out' more ≡ wrote_into (used_in Old s) (take (used_in Old s) s) more
 old_new_old s out u out' more b q p h =
     on_to_another New s out Old u out' more p ∙ own_form Old s more b q (converted New s out u out' p).begins h

@@ -1,8 +1,7 @@
 -- The checks of both conversions by their numbers. Assumes nothing.
-use Rattle.std.specs.Prelude.{List, ◌++◌, ℕ}
+use Rattle.std.specs.Prelude.{List, ℕ}
 use Rattle.ground.specs.InOrder.{InOrder}
 use Rattle.ground.specs.Laws.InOrder.{join-order}
-use Rattle.ground.specs.Steps.{Step}
 use Rattle.theory.specs.Tables.{cost}
 use Rattle.bits.specs.declared.Edition.{Edition}
 use Rattle.cost_forms.specs.Form.{cost_form, cost_form_at}

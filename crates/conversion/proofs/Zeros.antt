@@ -1,13 +1,10 @@
 -- Stored cost tables with two images that cost nothing, as they could be written before those were refused: what a conversion makes of them. s are
 -- the bytes that it was given, out the lent ones. Assumes nothing.
-use Rattle.std.specs.Prelude.{List, ◌↔◌, refl, ◌≡◌, ℕ, ◌+◌, ◌<◌, ◌≤◌, length}
+use Rattle.std.specs.Prelude.{List, ◌↔◌, refl, ◌≡◌, ℕ, ◌+◌, ◌≤◌, length, Ok, Err}
 use Rattle.std.proofs.Common.{sym, ◌∙◌, arith}
-use Rattle.ground.specs.Refusals.{◌then◌}
+use Rattle.ground.specs.Refusals.{◌then◌, Check}
 use Rattle.ground.specs.Laws.Refusals.{then_passed}
-use Rattle.ground.specs.declared.Check.{Check}
-use Rattle.ground.specs.declared.Check.TheVariants.{Passed, Refused}
 use Rattle.ground.specs.declared.Refusal.{Refusal}
-use Rattle.ground.specs.declared.Written.TheVariants.{Places}
 use Rattle.theory.specs.Checks.{images_check}
 use Rattle.theory.specs.Tables.{cost}
 use Rattle.tables.specs.Checks.{least_check, off_diagonal_check}
@@ -25,10 +22,9 @@ use Rattle.stored_costs.specs.Reading.{body_checks, stored_check, table_checks}
 use Rattle.conversion.proofs.ConvertedCosts.{to_new_always}
 use Rattle.conversion.specs.Costs.{costs_converted, images_said, table_said, used_in}
 use Rattle.conversion.proofs.Laws.Costs.{converted}
-use Rattle.ground.specs.declared.Written.TheVariants as written
 pub use Rattle.conversion.specs.Zeros.{earlier_checks, NoZeros}
 
-module _ (s : List ℕ) (earlier : earlier_checks s ≡ Passed) where
+module _ (s : List ℕ) (earlier : earlier_checks s ≡ Ok tt) where
   abbrev twenty : Check
   twenty = off_diagonal_check (cost (table_said s) (images_said s)) (images_said s)
 
@@ -46,7 +42,7 @@ module _ (s : List ℕ) (earlier : earlier_checks s ≡ Passed) where
       (λ i j l k. rw (table-cost (entry_of form s) n i j (omega arith) k) refl))
 
   -- Old to new works exactly for the tables in which no two images cost nothing.
-  pub to_new_exactly : (out : List ℕ) → used_in New s ≤ length out → ((costs_converted New s out).answer ≡ Places (used_in New s)) ↔ NoZeros s
+  pub to_new_exactly : (out : List ℕ) → used_in New s ≤ length out → ((costs_converted New s out).answer ≡ Ok (used_in New s)) ↔ NoZeros s
   to_new_exactly out h = (
     λ e. off_diagonal_passed (cost (table_said s) (images_said s)) (images_said s)
         (sym twenty-left ∙ (converted New s out (used_in New s) _ (record { answered = sym e; left = refl })).begins),
@@ -54,6 +50,6 @@ module _ (s : List ℕ) (earlier : earlier_checks s ≡ Passed) where
   )
 
   -- The others get 20, whichever form is asked for, and nothing is altered.
-  pub zeros_refused : (e : Edition) (out : List ℕ) (r : Refusal) → twenty ≡ Refused r
-      → costs_converted e s out ≡ record { answer = written.Refused r; places = out }
+  pub zeros_refused : (e : Edition) (out : List ℕ) (r : Refusal) → twenty ≡ Err r
+      → costs_converted e s out ≡ record { answer = Err r; places = out }
   zeros_refused e out r q = rw (twenty-left, q)

@@ -1,11 +1,8 @@
 -- A stored cost table in another form: what the conversion of the lent bytes s answers and leaves, e being the form that is asked for.
 -- Assumes nothing.
-use Rattle.std.specs.Prelude.{List, ◌≡◌, ℕ, ◌<◌, ◌≤◌, length}
+use Rattle.std.specs.Prelude.{List, ◌≡◌, ℕ, ◌<◌, ◌≤◌, length, Ok}
 use Rattle.ground.specs.Outcomes.{Outcome}
-use Rattle.ground.specs.Refusals.{◌then◌}
-use Rattle.ground.specs.declared.Check.{Check}
-use Rattle.ground.specs.declared.Check.TheVariants.{Passed}
-use Rattle.ground.specs.declared.Written.{Written}
+use Rattle.ground.specs.Refusals.{◌then◌, Check, Written}
 use Rattle.theory.specs.Tables.{cost}
 use Rattle.bits.specs.declared.Edition.{Edition}
 use Rattle.bits.specs.declared.Form.{Form}
@@ -42,7 +39,7 @@ costs_converted e s out = stored_if (cost_checks e s (length out)) (cost_form e)
 
 -- the bytes begin with a stored cost table
 abbrev pub Begins : List ℕ → Type 0
-Begins s = table_checks (cost_form_at s 0) s ≡ Passed
+Begins s = table_checks (cost_form_at s 0) s ≡ Ok tt
 
 -- every entry of it is within the limit of the form e
 abbrev pub EntriesFit : Edition → List ℕ → Type 0

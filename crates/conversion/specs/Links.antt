@@ -1,11 +1,8 @@
 -- A stored link table in another form: what the conversion of the lent bytes s answers and leaves, e being the form that is asked for.
 -- Assumes nothing.
-use Rattle.std.specs.Prelude.{List, ◌≡◌, ℕ, ◌*◌, ◌<◌, ◌≤◌, get_or, length}
+use Rattle.std.specs.Prelude.{List, ◌≡◌, ℕ, ◌*◌, ◌<◌, ◌≤◌, get_or, length, Ok}
 use Rattle.ground.specs.Outcomes.{Outcome}
-use Rattle.ground.specs.Refusals.{◌then◌}
-use Rattle.ground.specs.declared.Check.{Check}
-use Rattle.ground.specs.declared.Check.TheVariants.{Passed}
-use Rattle.ground.specs.declared.Written.{Written}
+use Rattle.ground.specs.Refusals.{◌then◌, Check, Written}
 use Rattle.bits.specs.declared.Edition.{Edition}
 use Rattle.link_forms.specs.Form.{link_form, link_form_at, link_used}
 use Rattle.stored_links.specs.Reading.{table_checks}
@@ -42,7 +39,7 @@ links_converted e s out = stored_if (link_checks e s (length out)) (link_form e)
 
 -- the bytes begin with a stored link table
 abbrev pub Begins : List ℕ → Type 0
-Begins s = table_checks (link_form_at s 0) s ≡ Passed
+Begins s = table_checks (link_form_at s 0) s ≡ Ok tt
 
 -- every doubled cost of it is within twice the limit of the form e
 abbrev pub CostsFit : Edition → List ℕ → Type 0

@@ -1,8 +1,7 @@
 -- Stored cost tables with two images that cost nothing, as they could be written before those were refused: what a conversion makes of them. s are
 -- the bytes that it was given, out the lent ones. Assumes nothing.
 use Rattle.std.specs.Prelude.{List, ℕ, ◌+◌, ◌<◌}
-use Rattle.ground.specs.Refusals.{◌then◌}
-use Rattle.ground.specs.declared.Check.{Check}
+use Rattle.ground.specs.Refusals.{◌then◌, Check}
 use Rattle.theory.specs.Checks.{images_check}
 use Rattle.theory.specs.Tables.{cost}
 use Rattle.bits.specs.Forms.{bytes_for}

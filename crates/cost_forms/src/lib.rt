@@ -39,6 +39,7 @@ pub fn form_at(bytes: &[u8], position: usize) -> Form
 }
 
 // The bit at which row i begins, which is where the rows before it end.
+#[tactic(auto, using(crate::specs::Laws::Entries::counted))]
 pub fn row_at(form: Form, n: usize, i: usize) -> usize
     requires { Small form n × (i ≤ n) }
     ensures { result ≡ row_at form n i }
@@ -47,6 +48,7 @@ pub fn row_at(form: Form, n: usize, i: usize) -> usize
 }
 
 // How many entries a table of n images has.
+#[tactic(auto, using(crate::specs::Laws::Entries::counted))]
 pub fn entry_count(n: usize) -> usize
     requires { n ≤ 64 }
     ensures { result ≡ entry_count n }
@@ -55,6 +57,7 @@ pub fn entry_count(n: usize) -> usize
 }
 
 // The number n that the bytes say.
+#[tactic(auto, unfolding(crate::specs::Said::images_of))]
 pub fn images(form: Form, bytes: &[u8]) -> usize
     requires { (form.head ≤ 7) × (bytes_for (form.head + 7) ≤ length bytes.now) }
     ensures { result ≡ images_of form bytes.now }
@@ -63,6 +66,7 @@ pub fn images(form: Form, bytes: &[u8]) -> usize
 }
 
 // The entry of w bits at the position.
+#[tactic(auto, using(bits::specs::Laws::Turns::value_part_lt))]
 pub fn entry_at(bytes: &[u8], position: usize, w: usize) -> u32
     requires { (w ≤ 32) × FieldWithin (length bytes.now) position w }
     ensures { result ≡ value_of (part (bits bytes.now) position w) }

@@ -1,7 +1,6 @@
 -- The checks of a cost table that is to be written under the limit of a form. Assumes nothing.
 use Rattle.std.specs.Prelude.{List, ℕ, ◌+◌, ltb}
-use Rattle.ground.specs.Refusals.{refusal, refuse_if, ◌then◌}
-use Rattle.ground.specs.declared.Check.{Check}
+use Rattle.ground.specs.Refusals.{refusal, refuse_if, ◌then◌, Check}
 use Rattle.theory.specs.Tables.{cost}
 use Rattle.tables.specs.Checks.{costs_check, size_check}
 use Rattle.tables.specs.Pairs.{pairs_check}

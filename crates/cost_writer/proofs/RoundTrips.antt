@@ -1,9 +1,7 @@
 -- What document 01 says of stored cost tables, in the words of the calls: of both forms at once, e and g being either. Assumes nothing.
-use Rattle.std.specs.Prelude.{List, [], ◌++◌, ◌≡◌, ℕ, ◌*◌, ◌+◌, ◌/◌, ◌≤◌, drop, length, take}
+use Rattle.std.specs.Prelude.{List, [], ◌++◌, ◌≡◌, ℕ, ◌*◌, ◌+◌, ◌/◌, ◌≤◌, drop, length, take, Ok, Err}
 use Rattle.std.proofs.Common.{ap, subst, sym, ◌∙◌, arith, length-append, length-drop, drop_at, take_at}
-use Rattle.ground.specs.declared.Check.TheVariants.{Passed, Refused}
 use Rattle.ground.specs.declared.Refusal.{Refusal}
-use Rattle.ground.specs.declared.Written.TheVariants.{Places}
 use Rattle.theory.specs.Laws.Limits.{table_wide}
 use Rattle.theory.specs.Tables.{CostTable, cost, limit}
 use Rattle.bits.specs.Bits.{AllBytes}
@@ -22,26 +20,23 @@ use Rattle.stored_costs.proofs.Laws.Told.{costs-marked, either_rest, either_writ
 use Rattle.stored_costs.specs.Laws.WriteBack.{read_table}
 use Rattle.stored_costs.specs.Outcomes.{judged, judged_either, read_either, read_outcome}
 use Rattle.stored_costs.specs.Reading.{read_at_checks}
-use Rattle.stored_costs.specs.declared.StoredCosts.TheVariants.{Table}
 use Rattle.stored_costs.specs.Stored.{read_into}
 use Rattle.ground.specs.Outcomes.{wrote_into}
-use Rattle.ground.specs.declared.Written.TheVariants as written
-use Rattle.stored_costs.specs.declared.StoredCosts.TheVariants as stored
 pub use Rattle.cost_writer.specs.RoundTrips.{both_written}
 
 -- Reading what was written gives the table back, in whichever form it was written.
 pub reading_undoes_writing : (e : Edition) (n : ℕ) (t out places : List ℕ) → CostTable (cost_form e).limit n t → cost_used (cost_form e) n ≤ length out
     → n * n ≤ length places
-    → ((write_outcome (cost_form e) n t out).answer ≡ Places (cost_used (cost_form e) n))
+    → ((write_outcome (cost_form e) n t out).answer ≡ Ok (cost_used (cost_form e) n))
     × (read_either (write_outcome (cost_form e) n t out).places 0 places ≡ read_into n (cost_used (cost_form e) n) t places)
 reading_undoes_writing e n t out places c h k =
-    let p : write_checks (cost_form e) n t (length out) ≡ Passed = passed_write (cost_form e) n t (length out) (form_limit e) c h in
+    let p : write_checks (cost_form e) n t (length out) ≡ (Ok tt) = passed_write (cost_form e) n t (length out) (form_limit e) c h in
     let m = cost_bytes (cost_form e) n (cost t n) in
     (rw p, rw p (either_written e n t [] (drop (length m) out) places c k))
 
 -- Writing what was read, in the form that it had, gives the same used bytes.
 pub writing_undoes_reading : (bytes : List ℕ) (position room n used : ℕ) (out : List ℕ) → AllBytes bytes
-    → judged_either bytes position room ≡ Table n used → used ≤ length out
+    → judged_either bytes position room ≡ Ok (record { n = n; used = used }) → used ≤ length out
     → let form = cost_form_at bytes position in
     write_outcome form n (stored_table form n (drop (position / 8) bytes)) out ≡ wrote_into used (take used (drop (position / 8) bytes)) out
 writing_undoes_reading bytes position room n used out b e h =
@@ -49,7 +44,7 @@ writing_undoes_reading bytes position room n used out b e h =
     (costs-marked bytes position) h
 
 -- What is read is a cost table.
-pub reading_is_a_table : (bytes : List ℕ) (position room n used : ℕ) → judged_either bytes position room ≡ Table n used
+pub reading_is_a_table : (bytes : List ℕ) (position room n used : ℕ) → judged_either bytes position room ≡ Ok (record { n = n; used = used })
     → CostTable limit n (stored_table (cost_form_at bytes position) n (drop (position / 8) bytes))
 reading_is_a_table bytes position room n used e =
     let form = cost_form_at bytes position in
@@ -59,13 +54,13 @@ reading_is_a_table bytes position room n used e =
 
 -- One table has one stored form of each kind: what is read as the same table, in the same form, stands in the same bytes.
 pub one_stored_form : (a b : List ℕ) (p q r s n u v : ℕ) → AllBytes a → AllBytes b → edition_of (drop (p / 8) a) ≡ edition_of (drop (q / 8) b)
-    → judged_either a p r ≡ Table n u → judged_either b q s ≡ Table n v
+    → judged_either a p r ≡ Ok (record { n = n; used = u }) → judged_either b q s ≡ Ok (record { n = n; used = v })
     → stored_table (cost_form_at a p) n (drop (p / 8) a) ≡ stored_table (cost_form_at b q) n (drop (q / 8) b)
     → take u (drop (p / 8) a) ≡ take v (drop (q / 8) b)
 one_stored_form a b p q r s n u v ha hb k e f h =
     let same : cost_form_at a p ≡ cost_form_at b q = ap cost_form k in
     same_bytes (cost_form_at b q) a b p q r s n u v ha hb
-    (subst (λ (x : Form). judged x a p r ≡ Table n u) same e) f
+    (subst (λ (x : Form). judged x a p r ≡ Ok (record { n = n; used = u })) same e) f
     (subst (λ (x : Form). Marked x (drop (p / 8) a)) same (costs-marked a p)) (costs-marked b q)
     (ap (λ (x : Form). stored_table x n (drop (p / 8) a)) (sym same) ∙ h)
 
@@ -108,11 +103,11 @@ one_after_another e g m n t u out places c d r h k =
     rw both (p.0, p.1)
 
 -- Refused, no lent place is altered.
-pub refused_writing : (form : Form) (n : ℕ) (t out : List ℕ) (r : Refusal) → write_checks form n t (length out) ≡ Refused r
-    → write_outcome form n t out ≡ record { answer = written.Refused r; places = out }
+pub refused_writing : (form : Form) (n : ℕ) (t out : List ℕ) (r : Refusal) → write_checks form n t (length out) ≡ Err r
+    → write_outcome form n t out ≡ record { answer = Err r; places = out }
 refused_writing form n t out r e = rw e
 
 pub refused_reading : (form : Form) (bytes : List ℕ) (position : ℕ) (places : List ℕ) (r : Refusal)
-    → read_at_checks form bytes position (length places) ≡ Refused r
-    → read_outcome form bytes position places ≡ record { answer = stored.Refused r; places = places }
+    → read_at_checks form bytes position (length places) ≡ Err r
+    → read_outcome form bytes position places ≡ record { answer = Err r; places = places }
 refused_reading form bytes position places r e = rw e

@@ -1,8 +1,6 @@
 -- Writing a stored cost table in a form: the checks in order, and the outcome. Assumes nothing.
 use Rattle.std.specs.Prelude.{List, ℕ, length}
-use Rattle.ground.specs.Refusals.{places_if, room_check, ◌then◌}
-use Rattle.ground.specs.declared.Check.{Check}
-use Rattle.ground.specs.declared.Written.{Written}
+use Rattle.ground.specs.Refusals.{places_if, room_check, ◌then◌, Check, Written}
 use Rattle.ground.specs.Outcomes.{Outcome, front_if}
 use Rattle.theory.specs.Tables.{cost, limit}
 use Rattle.cost_forms.specs.Form.{cost_bytes, cost_used}

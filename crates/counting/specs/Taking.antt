@@ -1,8 +1,7 @@
 -- What one table more does. The tables read are in no variable of the code: so a function asks that there are such tables, and promises
 -- what it has done for all of them. Assumes nothing.
-use Rattle.std.specs.Prelude.{List, [], ◌++◌, ◌∷◌, ◌≡◌, ℕ, ◌≤◌, length}
-use Rattle.ground.specs.declared.Check.{Check}
-use Rattle.ground.specs.declared.Check.TheVariants.{Passed, Refused}
+use Rattle.ground.specs.Refusals.{Check}
+use Rattle.std.specs.Prelude.{Result, List, [], ◌++◌, ◌∷◌, ◌≡◌, ℕ, ◌≤◌, length, Ok, Err}
 use Rattle.theory.specs.Tables.{limit}
 use Rattle.seen.specs.Columns.{Stored}
 use Rattle.figures.specs.Figures.{entries_at}
@@ -12,12 +11,22 @@ use Rattle.counting.specs.Standing.{Stands}
 use Rattle.figures.specs.Tables.{Table, table_of}
 use Rattle.counting.specs.declared.Rows.{Rows}
 use Rattle.counting.specs.declared.Standing.{Standing}
-use Rattle.counting.specs.declared.Turn.{Turn}
+use Rattle.ground.specs.declared.Refusal.{Refusal}
+
+-- where the report stands after a table, and whether that was refused
+pub record Turn : Type 0 where
+  pub standing : Standing
+  pub stop : Check
+
+-- of what a call answers that stood here before: a table that is refused leaves it there
+abbrev pub turn_from : Standing → Result Standing Refusal → Turn
+turn_from here (Ok x) = record { standing = x; stop = Ok tt }
+turn_from here (Err r) = record { standing = here; stop = Err r }
 
 -- the tables read after a check: one more where it passed
 abbrev pub onward : Check → List Table → Table → List Table
-onward Passed ts tb = ts ++ (tb ∷ [])
-onward (Refused r) ts tb = ts
+onward (Ok tt) ts tb = ts ++ (tb ∷ [])
+onward (Err r) ts tb = ts
 
 -- a table more was judged by the check: where the code stands then, and the slices, which were f, t, s
 pub record Moved (L : ℕ) (c : Check) (ts : List Table) (tb : Table) (r : Turn) (f t s f' t' s' : List ℕ) : Type 0 where

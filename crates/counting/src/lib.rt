@@ -3,14 +3,13 @@
 
 ghost use Rattle.std.specs.Prelude.{◌+◌, ◌-◌};
 ghost use Rattle.figures.specs.Tables.{table_of};
-ghost use Rattle.counting.specs.Taking.{SomeTable, SomeTree, TableTaken, TreeTaken};
-ghost use Rattle.ground.specs.declared.Check.TheVariants.{Passed};
+ghost use Rattle.counting.specs.Taking.{turn_from, SomeTable, SomeTree, TableTaken, TreeTaken};
 
 use figures::Figures;
-use ground::{Check, Refusal, Written};
+use ground::Refusal;
 
 // A tree's rows in the first `count` places.
-#[derive(Drop)]
+#[derive(Clone, Copy)]
 pub struct Rows {
     pub count: usize,
     pub fars: [u64; 128],
@@ -18,65 +17,49 @@ pub struct Rows {
 }
 
 // Where the report stands: its figures, and the far sides of the last tree in the first `rows` places.
-#[derive(Drop)]
+#[derive(Clone, Copy)]
 pub struct Standing {
     pub figures: Figures,
     pub rows: usize,
     pub last: [u64; 128],
 }
 
-// Where it stands after a table, and whether that was refused.
-#[derive(Drop)]
-pub struct Turn {
-    pub standing: Standing,
-    pub stop: Check,
-}
-
-// An accepted table of so many bytes, with its tree: refused with 19 where more than 1,024 far sides would be kept, else counted. All that is
-// asked is asked before the first store.
+// An accepted table of so many bytes, with its tree: refused with 19 where more than 1,024 far sides would be kept, else counted; where the
+// report stands then. All that is asked is asked before the first store.
 fn take_tree(
     n: usize,
     more: usize,
-    tree: Rows,
-    here: Standing,
+    tree: &Rows,
+    here: &Standing,
     fars: &mut [u64],
     trees: &mut [u32],
     sums: &mut [u64],
-) -> Turn
-    requires { SomeTree n more tree here fars.old trees.old sums.old }
-    ensures { TreeTaken n more tree here fars.old trees.old sums.old result fars.new
+) -> Result<Standing, Refusal>
+    requires { SomeTree n more tree.now here.now fars.old trees.old sums.old }
+    ensures { TreeTaken n more tree.now here.now fars.old trees.old sums.old (turn_from here.now result) fars.new
         trees.new sums.new }
 {
-    let f = tree.fars;
-    let v = tree.costs;
-    let count = tree.count;
-    let figures = here.figures;
-    let sides = figures.sides;
-    let all = sides + figures::fresh(n, fars, sides, &f[..count]);
-    if 1024 < all {
-        return Turn {
-            standing: here,
-            stop: Check::Refused(Refusal {
-                number: 19,
-                a: 0,
-                b: 0,
-                c: 0,
-                d: 0,
-            }),
-        };
-    }
-    let last = here.last;
-    let rows = here.rows;
-    let pair = figures::count_pair(n, figures.accepted, &last[..rows], &f[..count]);
-    seen::put_rows(n, &f, &v, count, sides, all, fars, trees, sums);
-    Turn {
-        standing: Standing {
-            figures: figures::with_tree(figures, n, more, all, pair),
-            rows: count,
-            last: f,
-        },
-        stop: Check::Passed,
-    }
+    let rows = &tree.fars[..tree.count];
+    let sides = here.figures.sides;
+    let all = sides + figures::fresh(n, fars, sides, rows);
+    ground::refuse_if(1024 < all, 19, 0, 0)?;
+    let pair = figures::count_pair(n, here.figures.accepted, &here.last[..here.rows], rows);
+    seen::put_rows(
+        n,
+        &tree.fars,
+        &tree.costs,
+        tree.count,
+        sides,
+        all,
+        fars,
+        trees,
+        sums,
+    );
+    Ok(Standing {
+        figures: figures::with_tree(here.figures, n, more, all, pair),
+        rows: tree.count,
+        last: tree.fars,
+    })
 }
 
 // A table t over n images, of so many bytes, with the n of those before: it gets 7 and is counted apart, or its tree is taken.
@@ -84,43 +67,28 @@ pub fn take_table(
     n: usize,
     more: usize,
     t: &[u32],
-    here: Standing,
+    here: &Standing,
     fars: &mut [u64],
     trees: &mut [u32],
     sums: &mut [u64],
-) -> Turn
-    requires { SomeTable (table_of n more t.now) here fars.old trees.old sums.old }
-    ensures { TableTaken (table_of n more t.now) here fars.old trees.old sums.old result
+) -> Result<Standing, Refusal>
+    requires { SomeTable (table_of n more t.now) here.now fars.old trees.old sums.old }
+    ensures { TableTaken (table_of n more t.now) here.now fars.old trees.old sums.old (turn_from here.now result)
         fars.new trees.new sums.new }
 {
-    let mut f = [0u64; 128];
-    let mut v = [0u32; 128];
-    let read = graft::exact(n, t, &mut f, &mut v);
-    match read {
-        Written::Refused(_) => {
-            let figures = here.figures;
-            let last = here.last;
-            Turn {
-                standing: Standing {
-                    figures: figures::with_apart(figures, n, more),
-                    rows: here.rows,
-                    last,
-                },
-                stop: Check::Passed,
-            }
+    let mut rows = Rows {
+        count: 0,
+        fars: [0; 128],
+        costs: [0; 128],
+    };
+    match graft::exact(n, t, &mut rows.fars, &mut rows.costs) {
+        Err(_) => Ok(Standing {
+            figures: figures::with_apart(here.figures, n, more),
+            ..*here
+        }),
+        Ok(count) => {
+            rows.count = count;
+            take_tree(n, more, &rows, here, fars, trees, sums)
         }
-        Written::Places(count) => take_tree(
-            n,
-            more,
-            Rows {
-                count,
-                fars: f,
-                costs: v,
-            },
-            here,
-            fars,
-            trees,
-            sums,
-        ),
     }
 }

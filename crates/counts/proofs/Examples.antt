@@ -1,8 +1,7 @@
 -- Small differences, computed: far sides of document 01's examples E, G and H, and of E with images 2 and 3 exchanged. Assumes nothing.
-use Rattle.std.specs.Prelude.{List, [], ◌∷◌, refl, ◌≡◌, ℕ}
+use Rattle.std.specs.Prelude.{refl, ◌≡◌}
 use Rattle.std.specs.Int.Count.{ones}
 use Rattle.counts.specs.Differ.{differ}
-use Rattle.counts.specs.declared.Difference.{Difference}
 pub use Rattle.counts.specs.Examples.{sides_e, exchanged_e, sides_g, sides_h, numbers}
 
 -- 1 over 1 and 2 over 2, which is not reduced, where nothing is common; 0 over 1 without inner ones; 0 over all of both of the same

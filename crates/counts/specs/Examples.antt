@@ -1,7 +1,5 @@
 -- Small differences, computed: far sides of document 01's examples E, G and H, and of E with images 2 and 3 exchanged. Assumes nothing.
-use Rattle.std.specs.Prelude.{List, [], ◌∷◌, refl, ◌≡◌, ℕ}
-use Rattle.std.specs.Int.Count.{ones}
-use Rattle.counts.specs.Differ.{differ}
+use Rattle.std.specs.Prelude.{List, [], ◌∷◌, ℕ}
 use Rattle.counts.specs.declared.Difference.{Difference}
 
 abbrev pub sides_e : List ℕ

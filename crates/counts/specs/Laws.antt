@@ -1,4 +1,6 @@
 -- How the code counts.
-pub mod Tally
+pub mod Counted
 pub mod Merge
 pub mod InnerRows
+-- A count one by one.
+pub mod Tally

@@ -1,7 +1,7 @@
 -- What the contracts of `counts` cite: the difference of two lists of far sides, and how a merge counts it.
 pub mod Differ
-pub mod Tally
 pub mod Merge
+pub mod Tally
 -- When two lists disagree wholly.
 pub mod Disagreement
 -- Small differences, computed.

@@ -6,11 +6,10 @@ ghost use Rattle.ground.specs.Ascending.{Between};
 ghost use Rattle.theory.specs.Comparison.{common, inners};
 ghost use Rattle.counts.specs.Differ.{differ, over_of};
 ghost use Rattle.counts.specs.Merge.{one_common};
-ghost use Rattle.counts.specs.Tally.{one_inner};
 
 // What is counted: inner far sides of the first, of the second, common ones, and those in exactly one list; over is what that
 // count is set over.
-#[derive(Drop)]
+#[derive(Clone, Copy)]
 pub struct Difference {
     pub first: usize,
     pub second: usize,
@@ -19,34 +18,20 @@ pub struct Difference {
     pub over: usize,
 }
 
-// 1 for an inner far side, 0 for an own link.
-fn one_inner(n: usize, s: u64) -> usize
-    ensures { result ≡ one_inner n s }
-{
-    if theory::is_inner(n, s) { 1 } else { 0 }
-}
-
 // How many far sides are inner.
+#[tactic(auto, using(crate::specs::Laws::Counted::counted))]
 pub fn inner_rows(n: usize, sides: &[u64]) -> usize
     ensures { result ≡ length (inners n sides.now) }
 {
-    let mut count = 0;
-    let mut i = 0;
-    while i < sides.len() {
-        count += one_inner(n, sides[i]);
-        i += 1;
-    }
-    count
+    sides.iter().filter(|s| theory::is_inner(n, **s)).count()
 }
 
 // 1 where x and y are the same inner far side, else 0.
+#[tactic(auto, unfolding(crate::specs::Merge::one_common))]
 fn one_common(n: usize, x: u64, y: u64) -> usize
     ensures { result ≡ one_common n x y }
 {
-    if x != y {
-        return 0;
-    }
-    one_inner(n, x)
+    usize::from(x == y && theory::is_inner(n, x))
 }
 
 // How many inner far sides are in both lists. One merge: of the two far sides in front the lesser is left behind, both where they
@@ -58,6 +43,7 @@ pub fn common_rows(n: usize, first: &[u64], second: &[u64]) -> usize
     let mut count = 0;
     let mut i = 0;
     let mut j = 0;
+    // A `while`: each list goes on by itself.
     while i < first.len() && j < second.len() {
         let x = first[i];
         let y = second[j];
@@ -72,7 +58,7 @@ pub fn common_rows(n: usize, first: &[u64], second: &[u64]) -> usize
 fn over_of(inner: usize) -> usize
     ensures { result ≡ over_of inner }
 {
-    if inner == 0 { 1 } else { inner }
+    inner.max(1)
 }
 
 // The whole difference of two lists; those in exactly one are counted from the three numbers before.

@@ -2,29 +2,29 @@
 #![tactic(auto)]
 
 ghost use Rattle.std.specs.Prelude.{◌≡◌, ◌<◌};
-ghost use Rattle.theory.specs.Tables.{cost, limit, CostTable};
+ghost use Rattle.tables.specs.Entries.{costs_in};
 ghost use Rattle.far_end.specs.FarEnd.{far_end, farther_of};
 
+use tables::Costs;
+
 // The farther of w and x from image 0, and x where both cost the same.
-fn farther(n: usize, t: &[u32], w: usize, x: usize) -> usize
-    requires { CostTable limit n t.now × (w < n) × (x < n) }
-    ensures { result ≡ farther_of (cost t.now n) w x }
+fn farther(t: &Costs<'_>, w: usize, x: usize) -> usize
+    requires { (w < t.now.n) × (x < t.now.n) }
+    ensures { result ≡ farther_of (costs_in t.now) w x }
 {
-    let far = tables::entry(t, n, 0, w);
-    let farthest = tables::entry(t, n, 0, x);
+    let far = t.entry(0, w);
+    let farthest = t.entry(0, x);
     if farthest < far { w } else { x }
 }
 
 // The other image with the greatest cost from image 0, the lowest on a tie.
-pub fn far_end(n: usize, t: &[u32]) -> usize
-    requires { CostTable limit n t.now }
-    ensures { result ≡ far_end (cost t.now n) n }
+#[tactic(auto, using(crate::proofs::Laws::FarEnd::turns))]
+pub fn far_end(t: &Costs<'_>) -> usize
+    ensures { result ≡ far_end (costs_in t.now) t.now.n }
 {
     let mut x = 1;
-    let mut w = 2;
-    while w < n {
-        x = farther(n, t, w, x);
-        w += 1;
+    for w in 2..t.n {
+        x = farther(t, w, x);
     }
     x
 }

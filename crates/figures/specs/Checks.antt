@@ -1,7 +1,6 @@
 -- The checks of the next table, in document 02's order. Assumes nothing.
 use Rattle.std.specs.Prelude.{Bool, false, not, List, [], ◌++◌, ◌∷◌, ℕ, eqb, ltb}
-use Rattle.ground.specs.Refusals.{refusal, refuse_if, ◌then◌}
-use Rattle.ground.specs.declared.Check.{Check}
+use Rattle.ground.specs.Refusals.{refusal, refuse_if, ◌then◌, Check}
 use Rattle.cost_forms.specs.Form.{cost_form_at}
 use Rattle.stored_costs.specs.Reading.{table_checks}
 use Rattle.figures.specs.Figures.{sides_at}

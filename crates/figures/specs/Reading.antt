@@ -1,7 +1,6 @@
 -- Which tables are read, and how the report ends. Assumes nothing.
-use Rattle.std.specs.Prelude.{List, [], ◌++◌, ◌∷◌, suc, zero, ℕ, drop}
-use Rattle.ground.specs.declared.Check.{Check}
-use Rattle.ground.specs.declared.Check.TheVariants.{Passed, Refused}
+use Rattle.ground.specs.Refusals.{Check}
+use Rattle.std.specs.Prelude.{List, [], ◌++◌, ◌∷◌, suc, zero, ℕ, drop, Ok, Err}
 use Rattle.figures.specs.Tables.{Table, table_at}
 use Rattle.figures.specs.Checks.{most_tables, next_check}
 
@@ -15,13 +14,13 @@ ended ts c = record { read = ts; stop = c }
 
 -- a refusal ends the report at the tables before; else it goes on
 abbrev pub go_on : Check → List Table → Ended → Ended
-go_on Passed ts e = e
-go_on (Refused r) ts e = ended ts (Refused r)
+go_on (Ok tt) ts e = e
+go_on (Err r) ts e = ended ts (Err r)
 
 -- at most k tables more from the bytes s, once ts were read: it ends where the bytes end
 unfoldable pub read_on : ℕ → ℕ → List Table → List ℕ → Ended
-read_on L zero ts s = ended ts Passed
-read_on L (suc k) ts [] = ended ts Passed
+read_on L zero ts s = ended ts (Ok tt)
+read_on L (suc k) ts [] = ended ts (Ok tt)
 read_on L (suc k) ts (b ∷ s) =
     go_on (next_check L ts (b ∷ s)) ts
     (read_on L k (ts ++ (table_at (b ∷ s) ∷ [])) (drop (table_at (b ∷ s)).used (b ∷ s)))

@@ -1,8 +1,7 @@
 -- The tables that the report has read, in the order of the bytes. Assumes nothing.
-use Rattle.std.specs.Prelude.{Bool, false, not, true, List, [], map, ◌∷◌, ℕ}
+use Rattle.ground.specs.Refusals.{Check}
+use Rattle.std.specs.Prelude.{Bool, false, not, true, List, [], map, ◌∷◌, ℕ, Ok, Err}
 use Rattle.ground.specs.Filters.{filter}
-use Rattle.ground.specs.declared.Check.{Check}
-use Rattle.ground.specs.declared.Check.TheVariants.{Passed, Refused}
 use Rattle.theory.specs.LinkTables.{Row}
 use Rattle.theory.specs.Tables.{cost}
 use Rattle.wiring.specs.Check.{wiring_check}
@@ -33,8 +32,8 @@ tree_of L t = exact_rows L t.images t.costs
 
 -- a check passed
 abbrev pub passes : Check → Bool
-passes Passed = true
-passes (Refused r) = false
+passes (Ok tt) = true
+passes (Err r) = false
 
 -- accepted: it does not get 7
 unfoldable pub is_accepted : Table → Bool

@@ -10,7 +10,7 @@ ghost use Rattle.figures.specs.Pairing.{pair_count};
 
 // The figures: n of the first table, the tables read, how many were accepted and how many got 7, the far sides seen, the pairs of an
 // accepted table and the next accepted one with the sum and the largest of their Robinson-Foulds counts, and the bytes used.
-#[derive(Clone, Copy)]
+#[derive(Clone, Copy, Default, PartialEq, Eq)]
 pub struct Figures {
     pub images: usize,
     pub tables: usize,
@@ -27,24 +27,7 @@ pub struct Figures {
 pub fn no_figures() -> Figures
     ensures { result ≡ no_figures }
 {
-    Figures {
-        images: 0,
-        tables: 0,
-        accepted: 0,
-        apart: 0,
-        sides: 0,
-        pairs: 0,
-        count_sum: 0,
-        largest_count: 0,
-        used: 0,
-    }
-}
-
-// The greater of the two.
-fn greater(x: usize, y: usize) -> usize
-    ensures { result ≡ max x y }
-{
-    if x < y { y } else { x }
+    Figures::default()
 }
 
 // How many inner far sides of the tree `next` are not among the first `sides` of those kept.
@@ -63,8 +46,7 @@ pub fn count_pair(n: usize, before: usize, last: &[u64], next: &[u64]) -> usize
     if before == 0 {
         return 0;
     }
-    let difference = counts::differ(n, last, next);
-    difference.count
+    counts::differ(n, last, next).count
 }
 
 // The figures with an accepted table more, over n images and of so many bytes: `all` far sides are seen then, and `pair` is the count of its pair.
@@ -76,12 +58,12 @@ pub fn with_tree(figures: Figures, n: usize, more: usize, all: usize, pair: usiz
         images: n,
         tables: figures.tables + 1,
         accepted: figures.accepted + 1,
-        apart: figures.apart,
         sides: all,
         pairs: figures.accepted,
         count_sum: figures.count_sum + pair,
-        largest_count: greater(figures.largest_count, pair),
+        largest_count: figures.largest_count.max(pair),
         used: figures.used + more,
+        ..figures
     }
 }
 
@@ -93,12 +75,8 @@ pub fn with_apart(figures: Figures, n: usize, more: usize) -> Figures
     Figures {
         images: n,
         tables: figures.tables + 1,
-        accepted: figures.accepted,
         apart: figures.apart + 1,
-        sides: figures.sides,
-        pairs: figures.pairs,
-        count_sum: figures.count_sum,
-        largest_count: figures.largest_count,
         used: figures.used + more,
+        ..figures
     }
 }

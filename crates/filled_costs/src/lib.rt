@@ -20,11 +20,9 @@ fn fill_left(n: usize, i: usize, out: &mut [u32])
 {
     let start = i * n;
     let mut above = i;
-    let mut j = 0;
-    while j < i {
+    for j in 0..i {
         out[start + j] = out[above];
         above += n;
-        j += 1;
     }
 }
 
@@ -34,11 +32,9 @@ fn fill_right(position: usize, w: usize, count: usize, bytes: &[u8], start: usiz
     ensures { out.new ≡ over_at out.old start (listed (field_value (bits bytes.now) position w) count) }
 {
     let mut p = position;
-    let mut k = 0;
-    while k < count {
+    for k in 0..count {
         out[start + k] = cost_forms::entry_at(bytes, p, w);
         p += w;
-        k += 1;
     }
 }
 
@@ -58,9 +54,7 @@ pub fn fill(form: Form, n: usize, bytes: &[u8], out: &mut [u32])
     requires { Held form n (length bytes.now) × (n * n ≤ length out.old) }
     ensures { out.new ≡ front (stored_table form n bytes.now) out.old }
 {
-    let mut i = 0;
-    while i < n {
+    for i in 0..n {
         fill_row(form, n, bytes, i, out);
-        i += 1;
     }
 }

@@ -1,8 +1,8 @@
 -- What the second engine's promise is worth. It is the promise of `tree::exact`, word for word: so demand 2 holds of both engines, no
 -- call tells them apart, and a caller who stands on the promise may take either. A call is seen from outside: its answer r, and the two
 -- lent slices before, f and v, and after, f' and v'. Assumes nothing.
+use Rattle.ground.specs.Refusals.{Written}
 use Rattle.std.specs.Prelude.{true, List, ◌↔◌, ◌≡◌, suc, ℕ, ◌≤◌, length}
-use Rattle.ground.specs.declared.Written.{Written}
 use Rattle.theory.specs.FourPoint.{FourPoint}
 use Rattle.theory.specs.Laws.Outcomes.{left_rows_once}
 use Rattle.theory.specs.Outcomes.{LeftRows}

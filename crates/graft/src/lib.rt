@@ -7,7 +7,8 @@
 ghost use Rattle.std.specs.Prelude.{true, ◌≡◌, ◌-◌, ◌*◌, ◌≤◌, length};
 ghost use Rattle.ground.specs.Refusals.{places_if};
 ghost use Rattle.theory.specs.Outcomes.{LeftRows};
-ghost use Rattle.theory.specs.Tables.{limit, cost, CostTable};
+ghost use Rattle.theory.specs.Tables.{limit};
+ghost use Rattle.tables.specs.Entries.{costs_in};
 ghost use Rattle.wiring.specs.Check.{wiring_check};
 ghost use Rattle.tree.specs.Exact.{exact_rows};
 ghost use Rattle.tree.specs.Readings.{exact_outcome, outcome};
@@ -15,69 +16,71 @@ ghost use Rattle.tree.specs.Writing.{RowsWritten};
 ghost use Rattle.recognition.specs.Recognition.{all_graft, placed};
 ghost use Rattle.recognition.specs.Seats.{seat, Seated};
 
-use ground::{Check, Written};
+use ground::Refusal;
+use tables::Costs;
 
 // Grafts all images in the order o, in which each can be, and writes the rows into slices that have room for them; their number.
-fn write_grafted(n: usize, t: &[u32], o: &[u32], fars: &mut [u64], costs: &mut [u32]) -> usize
-    requires { CostTable limit n t.now × Seated n o.now × (all_graft (placed (cost t.now n) (seat o.now)) (n - 1) ≡ true)
-        × (2 * n - 3 ≤ length fars.old) × (2 * n - 3 ≤ length costs.old) }
-    ensures { RowsWritten (exact_rows limit n t.now) result fars.old costs.old fars.new
+#[tactic(auto, using(crate::specs::Laws::Answer::count_few, crate::specs::Laws::Answer::count_fits))]
+fn write_grafted(t: &Costs<'_>, o: &[u32], fars: &mut [u64], costs: &mut [u32]) -> usize
+    requires { Seated t.now.n o.now × (all_graft (placed (costs_in t.now) (seat o.now)) (t.now.n - 1) ≡ true)
+        × (2 * t.now.n - 3 ≤ length fars.old) × (2 * t.now.n - 3 ≤ length costs.old) }
+    ensures { RowsWritten (exact_rows limit t.now.n t.now.entries.now) result fars.old costs.old fars.new
         costs.new }
 {
     let mut f = [0u64; 192];
     let mut v = [0u32; 192];
-    let count = grafting::graft_all(n, t, o, &mut f, &mut v);
+    let count = grafting::graft_all(t, o, &mut f, &mut v);
     tree::write_rows(&f, &v, count, fars, costs);
     count
 }
 
 // The refusal of a table that no wiring gives, with the images as the first engine finds them.
-fn refuse(n: usize, t: &[u32]) -> Written
-    requires { CostTable limit n t.now }
-    ensures { result ≡ places_if (wiring_check (cost t.now n) n) 0 }
+fn refuse(t: &Costs<'_>) -> Result<usize, Refusal>
+    ensures { result ≡ places_if (wiring_check (costs_in t.now) t.now.n) 0 }
 {
-    let c = wiring::check_wiring(n, t);
-    match c {
-        Check::Refused(r) => Written::Refused(r),
-        Check::Passed => Written::Places(0),
-    }
+    wiring::check_wiring(t)?;
+    Ok(0)
 }
 
 // The exact reading of a cost table, written into slices that have room for it, or refusal 7.
-fn read(n: usize, t: &[u32], fars: &mut [u64], costs: &mut [u32]) -> Written
-    requires { CostTable limit n t.now × (2 * n - 3 ≤ length fars.old) × (2 * n - 3 ≤ length costs.old) }
-    ensures { LeftRows (outcome (wiring_check (cost t.now n) n) (exact_rows limit n t.now) fars.old
+fn read(t: &Costs<'_>, fars: &mut [u64], costs: &mut [u32]) -> Result<usize, Refusal>
+    requires { (2 * t.now.n - 3 ≤ length fars.old) × (2 * t.now.n - 3 ≤ length costs.old) }
+    ensures { LeftRows (outcome (wiring_check (costs_in t.now) t.now.n) (exact_rows limit t.now.n t.now.entries.now) fars.old
         costs.old) result fars.new costs.new }
 {
     let mut o = [0u32; 64];
-    ordering::write_order(n, t, 0, n - 1, &mut o);
-    if recognition::can_graft_all(n, t, &o) {
-        return Written::Places(write_grafted(n, t, &o, fars, costs));
+    ordering::write_order(t, 0, t.n - 1, &mut o);
+    if recognition::can_graft_all(t, &o) {
+        return Ok(write_grafted(t, &o, fars, costs));
     }
-    refuse(n, t)
+    refuse(t)
 }
 
 // The exact reading by the second engine: the one tree that accounts for every entry, or the first four images that show that there
 // is none.
-pub fn exact(n: usize, t: &[u32], fars: &mut [u64], costs: &mut [u32]) -> Written
+#[tactic(auto, using(crate::specs::Laws::Answer::call_laws))]
+pub fn exact(n: usize, t: &[u32], fars: &mut [u64], costs: &mut [u32]) -> Result<usize, Refusal>
     ensures { LeftRows (exact_outcome limit n t.now fars.old costs.old) result fars.new costs.new }
 {
-    let c = tree::check_measured(n, t, fars.len(), costs.len());
-    match c {
-        Check::Refused(r) => Written::Refused(r),
-        Check::Passed => read(n, t, fars, costs),
-    }
+    tree::check_measured(n, t, fars.len(), costs.len())?;
+    read(&Costs { n, entries: t }, fars, costs)
 }
 
 // Which engine reads: the one that tests the fours of images, or the one that grafts.
-#[derive(Drop)]
+#[derive(Clone, Copy)]
 pub enum Engine {
     Fours,
     Grafts,
 }
 
 // The exact reading by either engine.
-pub fn exact_by(engine: Engine, n: usize, t: &[u32], fars: &mut [u64], costs: &mut [u32]) -> Written
+pub fn exact_by(
+    engine: Engine,
+    n: usize,
+    t: &[u32],
+    fars: &mut [u64],
+    costs: &mut [u32],
+) -> Result<usize, Refusal>
     ensures { LeftRows (exact_outcome limit n t.now fars.old costs.old) result fars.new costs.new }
 {
     match engine {

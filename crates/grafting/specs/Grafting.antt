@@ -1,7 +1,7 @@
 -- Grafting one image at a time onto the path from the first image to the one placed before: document 001, procedure 2. Images are
 -- named by their places in the order o, from 0 for the first; e i j is the entry of the images at the places i and j, and all costs
 -- are doubled. The path is a list of rows from the first image on; a row's far side holds the images placed behind it. Assumes nothing.
-use Rattle.std.specs.Prelude.{List, [], map, ◌++◌, ◌∷◌, suc, zero, ℕ, ◌+◌, ◌-◌, ◌^◌}
+use Rattle.std.specs.Prelude.{List, [], map, ◌++◌, ◌∷◌, suc, zero, ℕ, ◌-◌, ◌^◌}
 use Rattle.ground.specs.Ranges.{from}
 use Rattle.theory.specs.FarSides.{own}
 use Rattle.theory.specs.LinkTables.{Row}

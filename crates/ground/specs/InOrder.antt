@@ -1,14 +1,13 @@
 -- What it means that a call refuses by fixed numbers in a fixed order. Assumes nothing.
-use Rattle.std.specs.Prelude.{List, ◌≡◌, ℕ, ◌<◌}
+use Rattle.ground.specs.Refusals.{Check}
+use Rattle.std.specs.Prelude.{List, ◌≡◌, ℕ, ◌<◌, Ok, Err}
 use Rattle.ground.specs.Filters.{Each}
 use Rattle.ground.specs.Steps.{Step, decided}
-use Rattle.ground.specs.declared.Check.{Check}
-use Rattle.ground.specs.declared.Check.TheVariants.{Passed, Refused}
 use Rattle.ground.specs.declared.Refusal.{Refusal}
 
 -- the check refuses by number k and by no other, if at all
 abbrev pub Only : ℕ → Check → Type 0
-Only k c = (r : Refusal) → c ≡ Refused r → r.number ≡ k
+Only k c = (r : Refusal) → c ≡ Err r → r.number ≡ k
 
 -- a step refuses by its own number alone, and that is not 0, which means accepted
 pub record Own (s : Step) : Type 0 where
@@ -22,4 +21,4 @@ pub record Decides {A : Type 0} (refused : ℕ → Refusal → A) (l : List Step
 
 -- c is the checks of these steps one after another
 abbrev pub InOrder : List Step → Check → Type 0
-InOrder l c = Decides (λ m. Refused) l Passed c
+InOrder l c = Decides (λ m. Err) l (Ok tt) c

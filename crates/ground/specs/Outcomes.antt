@@ -1,11 +1,7 @@
 -- An answer, and a lent slice as a call leaves it. Assumes nothing.
-use Rattle.std.specs.Prelude.{List, ◌≡◌, ℕ, length}
+use Rattle.std.specs.Prelude.{List, ◌≡◌, ℕ, length, Ok, Err}
 use Rattle.ground.specs.Buffers.{front}
-use Rattle.ground.specs.Refusals.{places_if}
-use Rattle.ground.specs.declared.Check.{Check}
-use Rattle.ground.specs.declared.Check.TheVariants.{Passed, Refused}
-use Rattle.ground.specs.declared.Written.{Written}
-use Rattle.ground.specs.declared.Written.TheVariants.{Places}
+use Rattle.ground.specs.Refusals.{places_if, Check, Written}
 
 pub record Outcome (A : Type 0) : Type 0 where
   pub answer : A
@@ -18,8 +14,8 @@ pub record Left {A : Type 0} (w : Outcome A) (r : A) (e : List ℕ) : Type 0 whe
 
 -- m at the front of the lent places d where the check passed; where it refused they are as they were
 abbrev pub front_if : Check → List ℕ → List ℕ → List ℕ
-front_if Passed m d = front m d
-front_if (Refused r) m d = d
+front_if (Ok tt) m d = front m d
+front_if (Err r) m d = d
 
 -- m at the front and its length the answer where the check passed; else the refusal, and nothing altered
 abbrev pub written_if : Check → List ℕ → List ℕ → Outcome Written
@@ -27,4 +23,4 @@ written_if y m d = record { answer = places_if y (length m); places = front_if y
 
 -- an accepted writing of m into the lent places d, of which so many are used
 abbrev pub wrote_into : ℕ → List ℕ → List ℕ → Outcome Written
-wrote_into used m d = record { answer = Places used; places = front m d }
+wrote_into used m d = record { answer = Ok used; places = front m d }

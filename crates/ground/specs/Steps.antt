@@ -1,9 +1,7 @@
 -- The checks of a call one after another, each with the number that it refuses by. Assumes nothing.
-use Rattle.std.specs.Prelude.{List, [], ◌++◌, ◌∷◌, map, ◌≡◌, ℕ}
+use Rattle.std.specs.Prelude.{List, [], ◌++◌, ◌∷◌, map, ◌≡◌, ℕ, Ok, Err}
 use Rattle.ground.specs.Filters.{Each}
-use Rattle.ground.specs.Refusals.{if_passed}
-use Rattle.ground.specs.declared.Check.{Check}
-use Rattle.ground.specs.declared.Check.TheVariants.{Passed, Refused}
+use Rattle.ground.specs.Refusals.{if_passed, Check}
 use Rattle.ground.specs.declared.Refusal.{Refusal}
 
 -- one check, the number that it refuses by, and the table that it is about, 0 where a call takes one table
@@ -36,7 +34,7 @@ decided refused (s ∷ l) y = if_passed (refused s.table) s.check (decided refus
 
 -- every check passed
 abbrev pub Passes : List Step → Type 0
-Passes l = Each l (λ s. s.check ≡ Passed)
+Passes l = Each l (λ s. s.check ≡ Ok tt)
 
 -- s is the first step that refuses, with the refusal r: all before it passed
 pub record FirstRefused (l : List Step) (s : Step) (r : Refusal) : Type 0 where
@@ -44,7 +42,7 @@ pub record FirstRefused (l : List Step) (s : Step) (r : Refusal) : Type 0 where
   pub after : List Step
   pub steps : l ≡ before ++ (s ∷ after)
   pub passed : Passes before
-  pub refused : s.check ≡ Refused r
+  pub refused : s.check ≡ Err r
 
 -- some step refuses
 abbrev pub Refuses : List Step → Type 0

@@ -1,7 +1,6 @@
 -- Timings that are a little off: where no entry of a second table differs by more than D, the index of no division moves by more than 4 D,
 -- below 0 too. Assumes nothing.
-use Rattle.std.specs.Prelude.{List, ◌≡◌, ℕ, ◌*◌, pos, ℤ, ◌+ℤ◌, ◌≤ℤ◌}
-use Rattle.ground.specs.declared.SignedAnswer.TheVariants.{Value}
+use Rattle.std.specs.Prelude.{List, ◌≡◌, ℕ, ℤ, Ok}
 use Rattle.theory.proofs.Laws.Stable.{near_sym}
 use Rattle.theory.specs.Readings.{Near}
 use Rattle.theory.specs.Tables.{cost}
@@ -11,7 +10,7 @@ use Rattle.index.proofs.Laws.Value.{index_is}
 use Rattle.index.proofs.Promises.{index_answered, value_only}
 pub use Rattle.index.specs.Moved.{Moved}
 
-pub moved : (L D n : ℕ) (t u : List ℕ) (S : ℕ) (v w : ℤ) → index_answer L n t S ≡ Value v → index_answer L n u S ≡ Value w
+pub moved : (L D n : ℕ) (t u : List ℕ) (S : ℕ) (v w : ℤ) → index_answer L n t S ≡ Ok v → index_answer L n u S ≡ Ok w
     → Near D (cost t n) (cost u n) n → Moved D v w
 moved L D n t u S v w e g p =
     let a = index_answered L n t S v e in

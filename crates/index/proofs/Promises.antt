@@ -1,27 +1,23 @@
 -- What the promise of the index call is worth: what an accepted answer says, and that there is no second answer. Assumes nothing.
-use Rattle.std.specs.Prelude.{List, ◌≡◌, ℕ, ℤ, ◌≤ℤ◌}
+use Rattle.std.specs.Prelude.{List, ◌≡◌, ℕ, ℤ, ◌≤ℤ◌, Ok, Err}
 use Rattle.std.proofs.Common.{subst, arith}
 use Rattle.ground.specs.Bits.{bit}
 use Rattle.ground.specs.Laws.Refusals.{if_accepted}
 use Rattle.ground.proofs.Laws.Signed.{signed_antisym}
-use Rattle.ground.specs.declared.SignedAnswer.TheVariants.{Value}
 use Rattle.theory.specs.Index.{index}
 use Rattle.theory.specs.Tables.{cost}
-use Rattle.index.specs.AtZero.{AtZero}
 use Rattle.index.specs.Call.{IndexAsked, index_answer, index_check}
-use Rattle.index.specs.Ends.{Ends, Nearest}
 use Rattle.index.specs.IndexIs.{IndexIs}
 use Rattle.index.proofs.Laws.AtZero.{at_zero}
 use Rattle.index.proofs.Laws.Ends.{ends}
 use Rattle.index.proofs.Laws.Nearest.{nearest}
 use Rattle.index.proofs.Laws.Passed.{index-passed}
 use Rattle.index.proofs.Laws.Value.{index_is}
-use Rattle.ground.specs.declared.SignedAnswer.TheVariants as answer
 pub use Rattle.index.specs.Promises.{Answered}
 
-pub index_answered : (L n : ℕ) (t : List ℕ) (S : ℕ) (v : ℤ) → index_answer L n t S ≡ Value v → Answered L n t S v
+pub index_answered : (L n : ℕ) (t : List ℕ) (S : ℕ) (v : ℤ) → index_answer L n t S ≡ Ok v → Answered L n t S v
 index_answered L n t S v e =
-    let p = if_accepted answer.Refused (index_check L n t S) (Value (index (cost t n) n (bit S)))
+    let p = if_accepted Err (index_check L n t S) (Ok (index (cost t n) n (bit S)))
     (λ r q. absurd (let z : ◌≡◌ {A = ℕ} 0 1 = cc in omega arith)) e in
     let same : index (cost t n) n (bit S) ≡ v = let q = p.1 in cc in
     let a = (index-passed L n t S).0 p.0 in
@@ -34,7 +30,7 @@ index_answered L n t S v e =
     })
 
 -- every cost table and every far side is answered
-pub index-answers : (L n : ℕ) (t : List ℕ) (S : ℕ) → IndexAsked L n t S → index_answer L n t S ≡ Value (index (cost t n) n (bit S))
+pub index-answers : (L n : ℕ) (t : List ℕ) (S : ℕ) → IndexAsked L n t S → index_answer L n t S ≡ Ok (index (cost t n) n (bit S))
 index-answers L n t S a = rw ((index-passed L n t S).1 a)
 
 -- no second number is the index

@@ -1,9 +1,7 @@
 -- What the index call answers.
 use Rattle.std.specs.Prelude.{Bool, ◌||◌, List, ℕ, ◌^◌, eqb, leb}
 use Rattle.ground.specs.Bits.{bit}
-use Rattle.ground.specs.Refusals.{refusal, refuse_if, signed_if, ◌then◌}
-use Rattle.ground.specs.declared.Check.{Check}
-use Rattle.ground.specs.declared.SignedAnswer.{SignedAnswer}
+use Rattle.ground.specs.Refusals.{refusal, refuse_if, signed_if, ◌then◌, Check, SignedAnswer}
 use Rattle.theory.specs.Index.{index}
 use Rattle.theory.specs.Tables.{CostTable, cost}
 use Rattle.tables.specs.Checks.{costs_check, size_check}

@@ -1,9 +1,6 @@
 -- The greatest and the least indices that are reached, and settled examples; all are computed. Assumes nothing.
-use Rattle.std.specs.Prelude.{List, [], map, ◌∷◌, refl, ◌≡◌, ℕ, ◌*◌, ◌-◌, neg_ℤ, pos}
-use Rattle.ground.specs.Lowest.{check_all}
-use Rattle.ground.specs.declared.SignedAnswer.{SignedAnswer}
-use Rattle.ground.specs.declared.SignedAnswer.TheVariants.{Value}
-use Rattle.theory.specs.Index.{index}
+use Rattle.ground.specs.Refusals.{SignedAnswer}
+use Rattle.std.specs.Prelude.{List, map, ℕ}
 use Rattle.theory.specs.Tables.{limit}
 use Rattle.index.specs.Call.{index_answer}
 

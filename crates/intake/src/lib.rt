@@ -24,6 +24,7 @@ pub fn read_full<R: Read>(from: &mut R, places: &mut [u8]) -> usize
     ensures bytes { Consumes (R.remaining from.old) (R.remaining from.new) (take result places.new) }
 {
     let mut done = 0;
+    // A `while`: each read brings as many bytes as come.
     while done < places.len() {
         let count = read_some(from, &mut places[done..]);
         if count == 0 {

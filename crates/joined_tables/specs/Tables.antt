@@ -1,8 +1,7 @@
 -- The tables of a batch, and the checks of the next one: l are the joined far sides and v the joined doubled costs that the tables before left.
 -- Assumes nothing.
 use Rattle.std.specs.Prelude.{List, [], ◌∷◌, ℕ, ltb, length, take}
-use Rattle.ground.specs.Refusals.{refusal, refuse_if, ◌then◌}
-use Rattle.ground.specs.declared.Check.{Check}
+use Rattle.ground.specs.Refusals.{refusal, refuse_if, ◌then◌, Check}
 use Rattle.links.specs.Checks.{count_checks}
 use Rattle.link_writer.specs.Writing.{fit_checks}
 use Rattle.bits.specs.declared.Form.{Form}

@@ -9,27 +9,21 @@ ghost use Rattle.joined_tables.specs.Bytes.{batch_bytes};
 ghost use Rattle.joined_tables.specs.Fitting.{BatchFits, NextFits};
 
 use bits::Edition;
-use ground::Check;
+use ground::Refusal;
 
 // Refusal 2 where either slice has fewer rows left than the table counts.
-fn check_run_out(count: usize, fars: &[u64], costs: &[u32]) -> Check
+fn check_run_out(count: usize, fars: &[u64], costs: &[u32]) -> Result<(), Refusal>
     ensures { result ≡ run_out_checks count fars.now costs.now }
 {
-    let sides = ground::refuse_if(fars.len() < count, 2, 0, 0);
-    let Check::Passed = sides else {
-        return sides;
-    };
+    ground::refuse_if(fars.len() < count, 2, 0, 0)?;
     ground::refuse_if(costs.len() < count, 2, 0, 0)
 }
 
 // Refusal 2 where either slice has rows left over.
-pub fn check_left_over(fars: &[u64], costs: &[u32]) -> Check
+pub fn check_left_over(fars: &[u64], costs: &[u32]) -> Result<(), Refusal>
     ensures { result ≡ left_over_checks fars.now costs.now }
 {
-    let sides = ground::refuse_if(0 < fars.len(), 2, 0, 0);
-    let Check::Passed = sides else {
-        return sides;
-    };
+    ground::refuse_if(0 < fars.len(), 2, 0, 0)?;
     ground::refuse_if(0 < costs.len(), 2, 0, 0)
 }
 
@@ -41,17 +35,11 @@ fn check_next(
     fars: &[u64],
     costs: &[u32],
     room: usize,
-) -> Check
+) -> Result<(), Refusal>
     ensures { result ≡ next_checks (link_form edition) n count fars.now costs.now room }
 {
-    let sizes = links::check_count(n, count);
-    let Check::Passed = sizes else {
-        return sizes;
-    };
-    let supply = check_run_out(count, fars, costs);
-    let Check::Passed = supply else {
-        return supply;
-    };
+    links::check_count(n, count)?;
+    check_run_out(count, fars, costs)?;
     link_writer::check_links(edition, n, &fars[..count], &costs[..count], room)
 }
 
@@ -64,7 +52,7 @@ pub fn check_from(
     fars: &[u64],
     costs: &[u32],
     room: usize,
-) -> Check
+) -> Result<(), Refusal>
     requires { (rows ≤ length fars.now) × (rows ≤ length costs.now) }
     ensures { result ≡ next_checks (link_form edition) n count (drop rows fars.now) (drop rows costs.now) room }
 {
@@ -114,12 +102,10 @@ pub fn put_tables(
 {
     let mut used = 0;
     let mut rows = 0;
-    let mut table = 0;
-    while table < ns.len() {
+    for table in 0..ns.len() {
         let n = number_at(ns, table);
         let count = number_at(counts, table);
         used += put_next(edition, n, count, rows, fars, costs, &mut out[used..]);
         rows += count;
-        table += 1;
     }
 }

@@ -1,11 +1,10 @@
 -- Demand 1 for the replay, said as in Demand1.antt, and its exception: document 02 lets a replay whose event is refused write the table before
 -- that event. The number of the event stands where other calls have a table's, 0 for the start. Assumes nothing.
-use Rattle.std.specs.Prelude.{List, [], ◌++◌, ◌∷◌, refl, ◌≡◌, ℕ, length}
+use Rattle.ground.specs.Refusals.{Check}
+use Rattle.std.specs.Prelude.{List, [], ◌++◌, ◌∷◌, refl, ◌≡◌, ℕ, length, Ok, Err}
 use Rattle.std.proofs.Common.{ap, sym, ◌∙◌}
 use Rattle.ground.specs.Ranges.{from, gather}
 use Rattle.ground.specs.Steps.{of_table}
-use Rattle.ground.specs.declared.Check.{Check}
-use Rattle.ground.specs.declared.Check.TheVariants.{Passed, Refused}
 use Rattle.theory.specs.Outcomes.{LeftRows}
 use Rattle.theory.specs.Tables.{limit}
 use Rattle.leaving.specs.InOrder.{Stop, event_numbers, replay_decides, replay-numbers, replay_steps, stop_at}
@@ -38,7 +37,7 @@ module _ (n : ℕ) (t es f v f' v' : List ℕ) (r : KemotuikiReplay) (p : LeftRo
   start_unaltered h z = go (replay_outcome limit n t es f v).answer.stop refl
     where
       go : (c : Check) → (replay_outcome limit n t es f v).answer.stop ≡ c → (f' ≡ f) × (v' ≡ v)
-      go Passed e = absurd (h (ap (λ (x : KemotuikiReplay). x.head.number) p.answered ∙ ap (λ c. (of_check c).number) e))
-      go (Refused q) e =
+      go (Ok tt) e = absurd (h (ap (λ (x : KemotuikiReplay). x.head.number) p.answered ∙ ap (λ c. (of_check c).number) e))
+      go (Err q) e =
           let u = leaving.start_unaltered limit n t es f v q e (sym (ap (λ (x : KemotuikiReplay). x.event) p.answered) ∙ z) in
           (p.far-sides ∙ u.0, p.doubled ∙ u.1)

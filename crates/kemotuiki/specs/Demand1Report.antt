@@ -1,11 +1,10 @@
 -- Demand 1 for the term report, said as in Demand1.antt, and its exception: document 02 lets a report whose table is refused leave the figures of
 -- the tables before it. Assumes nothing.
-use Rattle.std.specs.Prelude.{List, [], ◌++◌, ◌∷◌, refl, ◌≡◌, ℕ, length}
+use Rattle.ground.specs.Refusals.{Check}
+use Rattle.std.specs.Prelude.{List, [], ◌++◌, ◌∷◌, refl, ◌≡◌, ℕ, length, Ok, Err}
 use Rattle.std.proofs.Common.{ap, sym, ◌∙◌}
 use Rattle.ground.specs.Ranges.{from, gather}
 use Rattle.ground.specs.Steps.{of_table}
-use Rattle.ground.specs.declared.Check.{Check}
-use Rattle.ground.specs.declared.Check.TheVariants.{Passed, Refused}
 use Rattle.theory.specs.Tables.{limit}
 use Rattle.figures.specs.Checks.{most_tables}
 use Rattle.report.specs.InOrder.{Stop, report_steps, stop_at, table_numbers, tables_in}
@@ -36,9 +35,9 @@ module _ (bytes f t s f' t' s' : List ℕ) (r : KemotuikiReport) (p : LeftReport
   room_unaltered h z = go (report_outcome limit bytes f t s).answer.stop refl
     where
       go : (c : Check) → (report_outcome limit bytes f t s).answer.stop ≡ c → (f' ≡ f) × (t' ≡ t) × (s' ≡ s)
-      go Passed e =
+      go (Ok tt) e =
           absurd (h (ap (λ (x : KemotuikiReport). x.head.number) p.answered ∙ ap (λ c. (of_end (report_outcome limit bytes f t s).answer.table c).number) e))
-      go (Refused q) e =
+      go (Err q) e =
           let k = ap (λ (x : KemotuikiReport). x.head.table) p.answered ∙ ap (λ c. (of_end (report_outcome limit bytes f t s).answer.table c).table) e in
           let u = reporting.room_unaltered limit bytes f t s q e (sym k ∙ z) in
           (p.far-sides ∙ u.0, p.tree_numbers ∙ u.1, p.cost_sums ∙ u.2)

@@ -1,5 +1,6 @@
 -- Demand 1 for the calls over stored tables, and for the text of an answer, said as in Demand1.antt. Assumes nothing.
-use Rattle.std.specs.Prelude.{List, [], ◌++◌, ◌∷◌, refl, ◌≡◌, min, ℕ, length}
+use Rattle.ground.specs.Refusals.{refused_in}
+use Rattle.std.specs.Prelude.{List, [], ◌++◌, ◌∷◌, refl, ◌≡◌, min, ℕ, length, Err}
 use Rattle.std.proofs.Common.{ap, sym, ◌∙◌}
 use Rattle.ground.specs.Laws.Outcomes.{front_stops}
 use Rattle.ground.specs.Outcomes.{Left}
@@ -29,21 +30,16 @@ use Rattle.numbers.specs.declared.KemotuikiLinks.{KemotuikiLinks}
 use Rattle.kemotuiki.specs.Crossing.{crossed, crossed_rows}
 use Rattle.kemotuiki.specs.Laws.Refusals.{by_left, by_rows, refusals}
 use Rattle.kemotuiki.specs.Refusals.{Refusals}
-use Rattle.ground.specs.declared.Written.TheVariants as written
 use Rattle.cost_writer.proofs.InOrder as costs-written
 use Rattle.cost_writer.specs.Writing as costs-writing
 use Rattle.stored_costs.proofs.InOrder as costs-read
 use Rattle.stored_costs.specs.Outcomes as costs-reading
 use Rattle.stored_costs.specs.Reading as costs-checks
-use Rattle.stored_costs.specs.declared.StoredCosts.TheVariants as stored-costs
 use Rattle.link_writer.specs.InOrder as links-written
 use Rattle.link_writer.specs.Writing as links-writing
 use Rattle.stored_links.proofs.InOrder as links-read
 use Rattle.stored_links.specs.Outcomes as links-reading
 use Rattle.stored_links.specs.Reading as links-checks
-use Rattle.stored_links.specs.declared.StoredLinks.TheVariants as stored-links
-use Rattle.batch.specs.declared.Batched.TheVariants as batched
-use Rattle.choice.specs.declared.Chosen.TheVariants as chosen
 
 -- k is the number of the form, 0 for the old one
 
@@ -53,7 +49,7 @@ pub write_costs : (k n : ℕ) (t out out' : List ℕ) (r : KemotuikiBytes)
     (out' ∷ [])
 write_costs k n t out out' r p =
     let form = cost_form (edition_by k) in
-    by_left (λ (x : KemotuikiBytes). x.head) of_bytes written.Refused (λ q. refl) (costs-writing.write_checks form n t (length out)) _ _ out refl refl
+    by_left (λ (x : KemotuikiBytes). x.head) of_bytes Err (λ q. refl) (costs-writing.write_checks form n t (length out)) _ _ out refl refl
     (costs-written.write_order form n t (length out)) p
 
 -- 9 of the position before all else
@@ -63,7 +59,7 @@ pub read_costs : (bytes : List ℕ) (position : ℕ) (out out' : List ℕ) (r : 
     (out ∷ []) (out' ∷ [])
 read_costs bytes position out out' r p =
     let form = cost_form_at bytes position in
-    by_left (λ (x : KemotuikiCosts). x.head) of_costs stored-costs.Refused (λ q. refl) (costs-checks.read_at_checks form bytes position (length out)) _ _
+    by_left (λ (x : KemotuikiCosts). x.head) of_costs Err (λ q. refl) (costs-checks.read_at_checks form bytes position (length out)) _ _
     out refl refl (costs-read.read_at_order form bytes position (length out)) p
 
 pub write_links : (k n N : ℕ) (f v out out' : List ℕ) (r : KemotuikiBytes)
@@ -72,7 +68,7 @@ pub write_links : (k n N : ℕ) (f v out out' : List ℕ) (r : KemotuikiBytes)
     (out ∷ []) (out' ∷ [])
 write_links k n N f v out out' r p =
     let form = link_form (edition_by k) in
-    by_left (λ (x : KemotuikiBytes). x.head) of_bytes written.Refused (λ q. refl) (links-writing.write_checks form n N f v (length out)) _ _ out refl refl
+    by_left (λ (x : KemotuikiBytes). x.head) of_bytes Err (λ q. refl) (links-writing.write_checks form n N f v (length out)) _ _ out refl refl
     (links-written.write_order form n N f v (length out)) p
 
 -- 9 of the position before all else; the shorter of the two lent buffers is the room
@@ -83,7 +79,7 @@ pub read_links : (bytes : List ℕ) (position : ℕ) (f v f' v' : List ℕ) (r :
 read_links bytes position f v f' v' r p =
     let form = link_form_at bytes position in
     let c = links-checks.read_at_checks form bytes position (min (length f) (length v)) in
-    by_rows (λ (x : KemotuikiLinks). x.head) of_links stored-links.Refused (λ q. refl) c _ (links-reading.read_outcome form bytes position f v) f v refl refl
+    by_rows (λ (x : KemotuikiLinks). x.head) of_links Err (λ q. refl) c _ (links-reading.read_outcome form bytes position f v) f v refl refl
     (links-read.read_at_order form bytes position (min (length f) (length v))) refl (λ q e. (sym (front_stops c _ f e), sym (front_stops c _ v e))) p
 
 -- 2 with number 0 for lists of two lengths; then the link writer's, table by table; then 2 for places left over, with the last table's number
@@ -95,7 +91,7 @@ pub write_batch : (k : ℕ) (ns counts f v out out' : List ℕ) (r : KemotuikiBy
     (batch_steps (link_form (edition_by k)) ns counts f v (length out)) r.head (out ∷ []) (out' ∷ [])
 write_batch k ns counts f v out out' r p =
     let form = link_form (edition_by k) in
-    refusals (λ (x : KemotuikiBytes). x.head) of_batched batched.Refused (λ m q. refl) (batch_numbers_lem form ns counts f v (length out)) refl
+    refusals (λ (x : KemotuikiBytes). x.head) of_batched refused_in (λ m q. refl) (batch_numbers_lem form ns counts f v (length out)) refl
     (batch_decides form ns counts f v (length out)).1 p.answered
     (λ s q e. ap (λ (x : List ℕ). x ∷ []) (p.left ∙ batch_unaltered form ns counts f v out s q e))
 
@@ -104,20 +100,20 @@ pub choice : (s t : List ℕ) (r : KemotuikiChoice) → r ≡ of_chosen (choice_
     → Refusals (of_table 1 (9 ∷ 1 ∷ 10 ∷ 9 ∷ 11 ∷ 12 ∷ 13 ∷ []) ++ (of_table 2 (9 ∷ 1 ∷ 10 ∷ 9 ∷ 11 ∷ 12 ∷ 13 ∷ []) ++ of_table 0 (15 ∷ 14 ∷ [])))
     (choice_steps (link_form_at s 0) (link_form_at t 0) s t) r.head [] []
 choice s t r e =
-    refusals (λ (x : KemotuikiChoice). x.head) of_chosen chosen.Refused (λ m q. refl) refl refl (choice_decides (link_form_at s 0) (link_form_at t 0) s t).2 e
+    refusals (λ (x : KemotuikiChoice). x.head) of_chosen refused_in (λ m q. refl) refl refl (choice_decides (link_form_at s 0) (link_form_at t 0) s t).2 e
     (λ a q f. refl)
 
 -- the reader's without 3, then those of the form that is asked for
 pub convert_costs : (k : ℕ) (s out out' : List ℕ) (r : KemotuikiBytes) → Left (crossed of_bytes (costs_converted (edition_by k) s out)) r out'
     → Refusals (of_table 0 (9 ∷ 1 ∷ 9 ∷ 11 ∷ 4 ∷ 20 ∷ 17 ∷ 3 ∷ [])) (cost_steps (edition_by k) s (length out)) r.head (out ∷ []) (out' ∷ [])
 convert_costs k s out out' r p =
-    by_left (λ (x : KemotuikiBytes). x.head) of_bytes written.Refused (λ q. refl) (cost_checks (edition_by k) s (length out)) _ _ out refl refl
+    by_left (λ (x : KemotuikiBytes). x.head) of_bytes Err (λ q. refl) (cost_checks (edition_by k) s (length out)) _ _ out refl refl
     (cost-order (edition_by k) s (length out)) p
 
 pub convert_links : (k : ℕ) (s out out' : List ℕ) (r : KemotuikiBytes) → Left (crossed of_bytes (links_converted (edition_by k) s out)) r out'
     → Refusals (of_table 0 (9 ∷ 1 ∷ 10 ∷ 9 ∷ 11 ∷ 12 ∷ 13 ∷ 17 ∷ 3 ∷ [])) (link_steps (edition_by k) s (length out)) r.head (out ∷ []) (out' ∷ [])
 convert_links k s out out' r p =
-    by_left (λ (x : KemotuikiBytes). x.head) of_bytes written.Refused (λ q. refl) (link_checks (edition_by k) s (length out)) _ _ out refl refl
+    by_left (λ (x : KemotuikiBytes). x.head) of_bytes Err (λ q. refl) (link_checks (edition_by k) s (length out)) _ _ out refl refl
     (link_order (edition_by k) s (length out)) p
 
 -- ## Texts
@@ -126,5 +122,5 @@ pub refusal-text : (number table a b c d : ℕ) (out out' : List ℕ) (r : Kemot
     → Left (crossed of_bytes (refusal_text_outcome number table a b c d out)) r out'
     → Refusals (of_table 0 (3 ∷ [])) (refusal_text_steps (length out)) r.head (out ∷ []) (out' ∷ [])
 refusal-text number table a b c d out out' r p =
-    by_left (λ (k : KemotuikiBytes). k.head) of_bytes written.Refused (λ q. refl) (refusal_text_check (length out)) _ _ out refl refl
+    by_left (λ (k : KemotuikiBytes). k.head) of_bytes Err (λ q. refl) (refusal_text_check (length out)) _ _ out refl refl
     (refusal_text_order (length out)) p

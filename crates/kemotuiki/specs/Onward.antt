@@ -1,10 +1,8 @@
 -- What the two readings, the consensus and the replay leave goes on as it stands: path costs, upper rows, routes, storage and Newick text take the rows from
 -- the front of the two slices, f' and v' after f and v. Assumes nothing.
-use Rattle.std.specs.Prelude.{List, refl, ◌≡◌, ℕ, ◌*◌, ◌-◌, ◌≤◌, length, take}
+use Rattle.ground.specs.Refusals.{Check, Written}
+use Rattle.std.specs.Prelude.{List, refl, ◌≡◌, ℕ, ◌*◌, ◌-◌, ◌≤◌, length, take, Ok, Err}
 use Rattle.std.proofs.Common.{ap, subst, sym, ◌∙◌, arith, length-take}
-use Rattle.ground.specs.declared.Check.{Check}
-use Rattle.ground.specs.declared.Check.TheVariants.{Passed, Refused}
-use Rattle.ground.specs.declared.Written.TheVariants.{Places}
 use Rattle.theory.specs.Laws.JoinedRows.{rows_of-most}
 use Rattle.theory.specs.LinkTables.{LinkTable, Row, rows_of}
 use Rattle.theory.specs.Outcomes.{LeftRows}
@@ -25,13 +23,11 @@ use Rattle.tree.specs.Readings.{exact_check, exact_outcome, measured_check, meas
 use Rattle.tree.specs.Writing.{RowsStand, rows_left}
 use Rattle.consensus.specs.Call.{consensus_outcome}
 use Rattle.consensus.proofs.Promises.{consensus-answer}
-use Rattle.consensus.specs.declared.Shared.TheVariants.{Rows}
 use Rattle.leaving.specs.Promises.{Replays}
 use Rattle.leaving.specs.Replay.{after, table_of}
 use Rattle.leaving.specs.declared.Replayed.{Replayed}
 use Rattle.newick_text.specs.LinkTrees.{newick}
 use Rattle.newick_reader.specs.Outcomes.{read_outcome}
-use Rattle.newick_reader.specs.declared.NewickTree.TheVariants.{Table}
 use Rattle.newick_reader.proofs.Promises as newick-read
 use Rattle.newick_writer.proofs.Promises as newick-written
 use Rattle.newick_writer.specs.Writing as newick-writing
@@ -40,20 +36,20 @@ use Rattle.newick_writer.specs.Writing as newick-writing
 abbrev pub TextRead : ℕ → ℕ → List Row → List ℕ → List ℕ → Type 0
 TextRead n r T f u =
     let o = read_outcome (newick T) f u in
-    (o.answer ≡ Table n r) × RowsStand T r f u o.far_list o.cost_list
+    (o.answer ≡ Ok (record { n = n; count = r })) × RowsStand T r f u o.far_list o.cost_list
 
 -- the r rows l and v over n images pass every check of the calls over link tables, where these name images and have room
 pub record GoesOn (n r : ℕ) (l v : List ℕ) : Type 0 where
-  pub path : (i j : ℕ) → 1 ≤ i → i ≤ n → 1 ≤ j → j ≤ n → path_checks limit n r l v i j ≡ Passed
-  pub upper-rows : (room : ℕ) → 2 * n - 3 ≤ room → upper_checks limit n r l v room ≡ Passed
-  pub route : (i room : ℕ) → 1 ≤ i → i ≤ n → 2 * n - 3 ≤ room → route_checks limit n r l v i room ≡ Passed
+  pub path : (i j : ℕ) → 1 ≤ i → i ≤ n → 1 ≤ j → j ≤ n → path_checks limit n r l v i j ≡ Ok tt
+  pub upper-rows : (room : ℕ) → 2 * n - 3 ≤ room → upper_checks limit n r l v room ≡ Ok tt
+  pub route : (i room : ℕ) → 1 ≤ i → i ≤ n → 2 * n - 3 ≤ room → route_checks limit n r l v i room ≡ Ok tt
   -- in the new form, whose limit is that of link tables
-  pub stored : (room : ℕ) → link_used new_links n r ≤ room → write_checks new_links n r l v room ≡ Passed
+  pub stored : (room : ℕ) → link_used new_links n r ≤ room → write_checks new_links n r l v room ≡ Ok tt
   -- and what is stored is read back as the same rows
   pub read_back : (out f u : List ℕ) → link_used new_links n r ≤ length out → 2 * n - 3 ≤ length f → 2 * n - 3 ≤ length u
       → read_either (write_outcome new_links n r l v out).places 0 f u ≡ read_into n r (link_used new_links n r) l v f u
   -- as Newick text, which is read back as the same rows
-  pub as_newick : (room : ℕ) → length (newick (rows_of l v)) ≤ room → newick-writing.write_checks n r l v room ≡ Passed
+  pub as_newick : (room : ℕ) → length (newick (rows_of l v)) ≤ room → newick-writing.write_checks n r l v room ≡ Ok tt
   pub newick-back : (f u : List ℕ) → 2 * n - 3 ≤ length f → 2 * n - 3 ≤ length u → TextRead n r (rows_of l v) f u
 
 links_go_on : (n r : ℕ) (l v : List ℕ) → Links limit n r l v → GoesOn n r l v
@@ -79,7 +75,7 @@ rows_go_on n r f' v' a b t e =
     (record { some = a; few = b; counted = omega (arith, e, m, length-take r f'); costed = omega (arith, e, m, length-take r v'); table = t })
 
 -- the links that a team shares
-pub consensus_goes_on : (n m : ℕ) (t f v : List ℕ) (r : ℕ) (f' v' : List ℕ) → LeftRows (consensus_outcome limit n m t f v) (Rows r) f' v'
+pub consensus_goes_on : (n m : ℕ) (t f v : List ℕ) (r : ℕ) (f' v' : List ℕ) → LeftRows (consensus_outcome limit n m t f v) (Ok r) f' v'
     → GoesOn n r (take r f') (take r v')
 consensus_goes_on n m t f v r f' v' l =
     let a = consensus-answer limit n m t f v r f' v' l in
@@ -88,22 +84,22 @@ consensus_goes_on n m t f v r f' v' l =
 -- ## The same of the two readings
 
 -- the answer counts the rows that were left
-rows-counted : (c : Check) (T : List Row) (f v : List ℕ) (r : ℕ) (f' v' : List ℕ) → LeftRows (outcome c T f v) (Places r) f' v' → rows_left r f' v' ≡ T
+rows-counted : (c : Check) (T : List Row) (f v : List ℕ) (r : ℕ) (f' v' : List ℕ) → LeftRows (outcome c T f v) (Ok r) f' v' → rows_left r f' v' ≡ T
     → r ≡ length (rows_left r f' v')
-rows-counted Passed T f v r f' v' l e = same r (length T) l.answered ∙ sym (ap length e)
+rows-counted (Ok tt) T f v r f' v' l e = same r (length T) l.answered ∙ sym (ap length e)
   where
-    same : (a b : ℕ) → Places a ≡ Places b → a ≡ b
+    same : (a b : ℕ) → ◌≡◌ {A = Written} (Ok a) (Ok b) → a ≡ b
     same a b e = cc
-rows-counted (Refused q) T f v r f' v' l e = absurd (let w = l.answered in let z : ◌≡◌ {A = ℕ} 0 1 = cc in omega arith)
+rows-counted (Err q) T f v r f' v' l e = absurd (let w = l.answered in let z : ◌≡◌ {A = ℕ} 0 1 = cc in omega arith)
 
-pub exact_goes_on : (n : ℕ) (t f v : List ℕ) (r : ℕ) (f' v' : List ℕ) → LeftRows (exact_outcome limit n t f v) (Places r) f' v'
+pub exact_goes_on : (n : ℕ) (t f v : List ℕ) (r : ℕ) (f' v' : List ℕ) → LeftRows (exact_outcome limit n t f v) (Ok r) f' v'
     → GoesOn n r (take r f') (take r v')
 exact_goes_on n t f v r f' v' l =
     let a = exact_answer limit n t f v r f' v' l in
     let c = a.ready.table in
     rows_go_on n r f' v' c.some c.few a.tree.tree (rows-counted (exact_check limit n t (length f) (length v)) _ f v r f' v' l a.left.rows)
 
-pub measured_goes_on : (n : ℕ) (t f v : List ℕ) (r : ℕ) (f' v' : List ℕ) → LeftRows (measured_outcome limit n t f v) (Places r) f' v'
+pub measured_goes_on : (n : ℕ) (t f v : List ℕ) (r : ℕ) (f' v' : List ℕ) → LeftRows (measured_outcome limit n t f v) (Ok r) f' v'
     → GoesOn n r (take r f') (take r v')
 measured_goes_on n t f v r f' v' l =
     let a = measured-answer limit n t f v r f' v' l in

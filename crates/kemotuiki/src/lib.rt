@@ -36,6 +36,7 @@ ghost use Rattle.bits.specs.Editions.{edition_by};
 ghost use Rattle.cost_forms.specs.Form.{cost_form};
 ghost use Rattle.link_forms.specs.Form.{link_form};
 
+use bits::Edition;
 use numbers::{
     KemotuikiBytes, KemotuikiChoice, KemotuikiComparison, KemotuikiCosts, KemotuikiIndex,
     KemotuikiLevels, KemotuikiLinks, KemotuikiOrder, KemotuikiPath, KemotuikiReplay,
@@ -47,7 +48,7 @@ use numbers::{
 pub extern "C" fn kemotuiki_index(n: usize, t: &[u32], s: u64) -> KemotuikiIndex
     ensures { result ≡ of_index (index_answer limit n t.now s) }
 {
-    numbers::of_index(index::index(n, t, s))
+    index::index(n, t, s).into()
 }
 
 // The order around the tree from first to last.
@@ -61,7 +62,7 @@ pub extern "C" fn kemotuiki_order(
 ) -> KemotuikiOrder
     ensures { Left (crossed of_order (order_outcome limit n t.now first last out.old)) result out.new }
 {
-    numbers::of_order(order::order(n, t, first, last, out))
+    order::order(n, t, first, last, out).into()
 }
 
 // The measured reading.
@@ -75,7 +76,7 @@ pub extern "C" fn kemotuiki_measured(
     ensures { LeftRows (crossed_rows of_rows (measured_outcome limit n t.now fars.old costs.old)) result
         fars.new costs.new }
 {
-    numbers::of_rows(tree::measured(n, t, fars, costs))
+    tree::measured(n, t, fars, costs).into()
 }
 
 // The exact reading.
@@ -89,7 +90,7 @@ pub extern "C" fn kemotuiki_exact(
     ensures { LeftRows (crossed_rows of_rows (exact_outcome limit n t.now fars.old costs.old)) result
         fars.new costs.new }
 {
-    numbers::of_rows(tree::exact(n, t, fars, costs))
+    tree::exact(n, t, fars, costs).into()
 }
 
 // The exact reading by the second engine, which answers the same on every argument.
@@ -103,7 +104,7 @@ pub extern "C" fn kemotuiki_exact_grafted(
     ensures { LeftRows (crossed_rows of_rows (exact_outcome limit n t.now fars.old costs.old)) result
         fars.new costs.new }
 {
-    numbers::of_rows(graft::exact(n, t, fars, costs))
+    graft::exact(n, t, fars, costs).into()
 }
 
 // The reading of levels: groups, and the height of each.
@@ -117,7 +118,7 @@ pub extern "C" fn kemotuiki_levels(
     ensures { LeftLevels (crossed_levels of_levels (levels_outcome limit n t.now members.old heights.old)) result
         members.new heights.new }
 {
-    numbers::of_levels(levels::levels(n, t, members, heights))
+    levels::levels(n, t, members, heights).into()
 }
 
 // The path cost of images i and j.
@@ -132,7 +133,7 @@ pub extern "C" fn kemotuiki_path(
 ) -> KemotuikiPath
     ensures { result ≡ of_path (path_outcome limit n count fars.now costs.now i j) }
 {
-    numbers::of_path(routes::path(n, count, fars, costs, i, j))
+    routes::path(n, count, fars, costs, i, j).into()
 }
 
 // The upper row of each row.
@@ -146,7 +147,7 @@ pub extern "C" fn kemotuiki_upper_rows(
 ) -> KemotuikiRows
     ensures { Left (crossed of_rows (upper_outcome limit n count fars.now costs.now out.old)) result out.new }
 {
-    numbers::of_rows(routes::upper_rows(n, count, fars, costs, out))
+    routes::upper_rows(n, count, fars, costs, out).into()
 }
 
 // The route of image i.
@@ -161,7 +162,7 @@ pub extern "C" fn kemotuiki_route(
 ) -> KemotuikiRows
     ensures { Left (crossed of_rows (route_outcome limit n count fars.now costs.now i out.old)) result out.new }
 {
-    numbers::of_rows(routes::route(n, count, fars, costs, i, out))
+    routes::route(n, count, fars, costs, i, out).into()
 }
 
 // Two tables compared by their trees.
@@ -169,7 +170,7 @@ pub extern "C" fn kemotuiki_route(
 pub extern "C" fn kemotuiki_compare(n: usize, first: &[u32], second: &[u32]) -> KemotuikiComparison
     ensures { result ≡ of_comparison (comparison limit n first.now second.now) }
 {
-    numbers::of_comparison(compare::compare(n, first, second))
+    compare::compare(n, first, second).into()
 }
 
 // The links that a team shares.
@@ -184,7 +185,7 @@ pub extern "C" fn kemotuiki_consensus(
     ensures { LeftRows (crossed_rows of_shared (consensus_outcome limit n number tables.now fars.old costs.old)) result
         fars.new costs.new }
 {
-    numbers::of_shared(consensus::consensus(n, number, tables, fars, costs))
+    consensus::consensus(n, number, tables, fars, costs).into()
 }
 
 // The replay of a trace: from the exact reading, one byte for each event, the number of the image that leaves.
@@ -199,7 +200,7 @@ pub extern "C" fn kemotuiki_replay(
     ensures { LeftRows (crossed_rows of_replayed (replay_outcome limit n t.now events.now fars.old
         costs.old)) result fars.new costs.new }
 {
-    numbers::of_replayed(leaving::replay(n, t, events, fars, costs))
+    leaving::replay(n, t, events, fars, costs).into()
 }
 
 // The term report over stored cost tables: its figures, and in front of three slices the far sides seen, each with its number of trees and the
@@ -214,7 +215,7 @@ pub extern "C" fn kemotuiki_report(
     ensures { LeftReport (crossed_report of_report (report_outcome limit bytes.now fars.old trees.old
         sums.old)) result fars.new trees.new sums.new }
 {
-    numbers::of_report(report::report(bytes, fars, trees, sums))
+    report::report(bytes, fars, trees, sums).into()
 }
 
 // A cost table stored. Here and below the form is 0 for the old one and any other number for the new one.
@@ -228,7 +229,7 @@ pub extern "C" fn kemotuiki_write_costs(
     ensures { Left (crossed of_bytes (costs-writing.write_outcome (cost_form (edition_by form)) n t.now out.old)) result
         out.new }
 {
-    numbers::of_bytes(cost_writer::write_costs(bits::edition_by(form), n, t, out))
+    cost_writer::write_costs(Edition::from(form), n, t, out).into()
 }
 
 // A stored cost table read.
@@ -240,7 +241,7 @@ pub extern "C" fn kemotuiki_read_costs(
 ) -> KemotuikiCosts
     ensures { Left (crossed of_costs (costs-reading.read_either bytes.now position out.old)) result out.new }
 {
-    numbers::of_costs(stored_costs::read_costs(bytes, position, out))
+    stored_costs::read_costs(bytes, position, out).into()
 }
 
 // A link table stored.
@@ -256,7 +257,7 @@ pub extern "C" fn kemotuiki_write_links(
     ensures { Left (crossed of_bytes (links-writing.write_outcome (link_form (edition_by form)) n count fars.now costs.now
         out.old)) result out.new }
 {
-    numbers::of_bytes(link_writer::write_links(bits::edition_by(form), n, count, fars, costs, out))
+    link_writer::write_links(Edition::from(form), n, count, fars, costs, out).into()
 }
 
 // A stored link table read.
@@ -271,7 +272,7 @@ pub extern "C" fn kemotuiki_read_links(
         (links-reading.read_either bytes.now position fars.old costs.old)) result fars.new
         costs.new }
 {
-    numbers::of_links(stored_links::read_links(bytes, position, fars, costs))
+    stored_links::read_links(bytes, position, fars, costs).into()
 }
 
 // Link tables stored one after another.
@@ -287,7 +288,7 @@ pub extern "C" fn kemotuiki_write_batch(
     ensures { Left (crossed of_batched (batch_outcome (link_form (edition_by form)) ns.now counts.now fars.now
         costs.now out.old)) result out.new }
 {
-    numbers::of_batched(batch::write_batch(bits::edition_by(form), ns, counts, fars, costs, out))
+    batch::write_batch(Edition::from(form), ns, counts, fars, costs, out).into()
 }
 
 // Which of two stored link tables includes the other. A part of a buffer cannot cross, but its number and its used bytes say it.
@@ -295,7 +296,7 @@ pub extern "C" fn kemotuiki_write_batch(
 pub extern "C" fn kemotuiki_choice(first: &[u8], second: &[u8]) -> KemotuikiChoice
     ensures { result ≡ of_chosen (choice_either first.now second.now) }
 {
-    numbers::of_chosen(choice::choice(first, second))
+    choice::choice(first, second).into()
 }
 
 // A stored cost table in the form that is asked for.
@@ -307,7 +308,7 @@ pub extern "C" fn kemotuiki_convert_costs(
 ) -> KemotuikiBytes
     ensures { Left (crossed of_bytes (costs_converted (edition_by form) bytes.now out.old)) result out.new }
 {
-    numbers::of_bytes(conversion::convert_costs(bits::edition_by(form), bytes, out))
+    conversion::convert_costs(Edition::from(form), bytes, out).into()
 }
 
 // A stored link table in the form that is asked for.
@@ -319,7 +320,7 @@ pub extern "C" fn kemotuiki_convert_links(
 ) -> KemotuikiBytes
     ensures { Left (crossed of_bytes (links_converted (edition_by form) bytes.now out.old)) result out.new }
 {
-    numbers::of_bytes(conversion::convert_links(bits::edition_by(form), bytes, out))
+    conversion::convert_links(Edition::from(form), bytes, out).into()
 }
 
 // A link table as Newick text.
@@ -334,7 +335,7 @@ pub extern "C" fn kemotuiki_write_newick(
     ensures { Left (crossed of_bytes (newick-writing.write_outcome n count fars.now costs.now out.old)) result
         out.new }
 {
-    numbers::of_bytes(newick_writer::write_newick(n, count, fars, costs, out))
+    newick_writer::write_newick(n, count, fars, costs, out).into()
 }
 
 // Newick text read as a link table.
@@ -347,7 +348,7 @@ pub extern "C" fn kemotuiki_read_newick(
     ensures { LeftRows (crossed_rows of_tree (newick-reading.read_outcome text.now fars.old costs.old)) result
         fars.new costs.new }
 {
-    numbers::of_tree(newick_reader::read_newick(text, fars, costs))
+    newick_reader::read_newick(text, fars, costs).into()
 }
 
 // What an answer with this head says, as text with a zero byte behind it.
@@ -363,5 +364,5 @@ pub extern "C" fn kemotuiki_refusal_text(
 ) -> KemotuikiBytes
     ensures { Left (crossed of_bytes (refusal_text_outcome number table a b c d out.old)) result out.new }
 {
-    numbers::of_bytes(refusal_text::refusal_text(number, table, a, b, c, d, out))
+    refusal_text::refusal_text(number, table, a, b, c, d, out).into()
 }

@@ -1,7 +1,6 @@
 -- Document 01's trees E and H when an image leaves, the team of nine when images 4 and 1 fail, and refused events, computed. Assumes nothing.
-use Rattle.std.specs.Prelude.{List, [], ◌∷◌, refl, ◌≡◌}
+use Rattle.std.specs.Prelude.{List, [], ◌∷◌, refl, ◌≡◌, Ok, Err}
 use Rattle.ground.specs.Refusals.{refusal}
-use Rattle.ground.specs.declared.Check.TheVariants.{Passed, Refused}
 use Rattle.theory.specs.LinkTables.{Row}
 use Rattle.rows.specs.Rows.{put, put_all}
 use Rattle.mending.specs.Leaving.{joined, mend}
@@ -43,25 +42,25 @@ nine =
 abbrev nine_left : List Row
 nine_left = (2, 12) ∷ (4, 4) ∷ (8, 4) ∷ (16, 2) ∷ (28, 14) ∷ (32, 2) ∷ (64, 8) ∷ (96, 40) ∷ (124, 20) ∷ (126, 4) ∷ []
 
-pub four_and_one : replay 1 9 nine (4 ∷ 1 ∷ []) ≡ record { images = 7; rows = nine_left; event = 0; stop = Passed }
+pub four_and_one : replay 1 9 nine (4 ∷ 1 ∷ []) ≡ record { images = 7; rows = nine_left; event = 0; stop = (Ok tt) }
 unfolding replay joined put_all put
 four_and_one = refl
 
 -- the seven that are left have no image 9: the third event is refused, the rows before it stay, and the fourth is not looked at
-pub no_image_nine : replay 1 9 nine (4 ∷ 1 ∷ 9 ∷ 2 ∷ []) ≡ record { images = 7; rows = nine_left; event = 3; stop = Refused (refusal 8 0 0 0 0) }
+pub no_image_nine : replay 1 9 nine (4 ∷ 1 ∷ 9 ∷ 2 ∷ []) ≡ record { images = 7; rows = nine_left; event = 3; stop = Err (refusal 8 0 0 0 0) }
 unfolding replay joined put_all put
 no_image_nine = refl
 
 -- images 1 and 1 leave E: the first event is taken, and the second would leave two
-pub two_left : replay 1 4 tree_e (1 ∷ 1 ∷ []) ≡ record { images = 3; rows = mend 3 0 tree_e; event = 2; stop = Refused (refusal 1 2 0 0 0) }
+pub two_left : replay 1 4 tree_e (1 ∷ 1 ∷ []) ≡ record { images = 3; rows = mend 3 0 tree_e; event = 2; stop = Err (refusal 1 2 0 0 0) }
 unfolding replay
 two_left = refl
 
 -- an image that is not there: 8 comes before 1, as for image 0
-pub unknown : replay 1 3 (mend 3 0 tree_e) (4 ∷ []) ≡ record { images = 3; rows = mend 3 0 tree_e; event = 1; stop = Refused (refusal 8 0 0 0 0) }
+pub unknown : replay 1 3 (mend 3 0 tree_e) (4 ∷ []) ≡ record { images = 3; rows = mend 3 0 tree_e; event = 1; stop = Err (refusal 8 0 0 0 0) }
 unfolding replay
 unknown = refl
 
-pub image_none : replay 1 3 (mend 3 0 tree_e) (0 ∷ []) ≡ record { images = 3; rows = mend 3 0 tree_e; event = 1; stop = Refused (refusal 8 0 0 0 0) }
+pub image_none : replay 1 3 (mend 3 0 tree_e) (0 ∷ []) ≡ record { images = 3; rows = mend 3 0 tree_e; event = 1; stop = Err (refusal 8 0 0 0 0) }
 unfolding replay
 image_none = refl

@@ -1,14 +1,12 @@
 -- The checks of the replay by their numbers, each with the number of the event that it is about: 0 for the start. Assumes nothing.
-use Rattle.std.specs.Prelude.{List, [], ◌++◌, ◌∷◌, refl, ◌≡◌, suc, ℕ, ◌-◌, length}
+use Rattle.std.specs.Prelude.{List, [], ◌++◌, ◌∷◌, refl, ◌≡◌, suc, ℕ, ◌-◌, length, Ok, Err}
 use Rattle.std.proofs.Common.{ap, ◌∙◌, arith}
 use Rattle.ground.specs.InOrder.{Decides, InOrder, Own}
 use Rattle.ground.specs.Laws.Filters.{each_nil}
 use Rattle.ground.specs.Laws.InOrder.{decides_next, join-order, refuse_order}
 use Rattle.ground.specs.Ranges.{from, gather}
-use Rattle.ground.specs.Refusals.{if_passed, outside, refusal}
+use Rattle.ground.specs.Refusals.{if_passed, outside, refusal, Check}
 use Rattle.ground.specs.Steps.{Step, about, numbers_of, of_table, ◌by◌}
-use Rattle.ground.specs.declared.Check.{Check}
-use Rattle.ground.specs.declared.Check.TheVariants.{Passed, Refused}
 use Rattle.ground.specs.declared.Refusal.{Refusal}
 use Rattle.theory.specs.Checks.{image_check, images_check}
 use Rattle.theory.specs.Laws.InOrder.{images-order}
@@ -46,9 +44,9 @@ abbrev pub Stop : Type 0
 Stop = ℕ × Check
 
 abbrev pub stop_at : ℕ → Refusal → Stop
-stop_at k r = (k, Refused r)
+stop_at k r = (k, Err r)
 
-from_decides : (k n : ℕ) (T : List Row) (es : List ℕ) → Decides stop_at (steps_from k n es) (0, Passed) ((replay k n T es).event, (replay k n T es).stop)
+from_decides : (k n : ℕ) (T : List Row) (es : List ℕ) → Decides stop_at (steps_from k n es) (0, (Ok tt)) ((replay k n T es).event, (replay k n T es).stop)
 unfolding steps_from
 from_decides k n T [] = rw (replay_none k n T) (record { same = refl; own = each_nil Own })
 from_decides k n T (e ∷ es) =
@@ -60,11 +58,11 @@ from_decides k n T (e ∷ es) =
 
     go : (c : Check) → event_check n e ≡ c
         → ((replay k n T (e ∷ es)).event, (replay k n T (e ∷ es)).stop) ≡ if_passed (stop_at k) (event_check n e) (next.event, next.stop)
-    go Passed q = rw (replay_goes k n T e es q, q) refl
-    go (Refused r) q = rw (replay_stops k n T e es r q, q) refl
+    go (Ok tt) q = rw (replay_goes k n T e es q, q) refl
+    go (Err r) q = rw (replay_stops k n T e es r q, q) refl
 
 pub replay_decides : (L n : ℕ) (t es f v : List ℕ)
-    → let a = (replay_outcome L n t es f v).answer in Decides stop_at (replay_steps L n t es (length f) (length v)) (0, Passed) (a.event, a.stop)
+    → let a = (replay_outcome L n t es f v).answer in Decides stop_at (replay_steps L n t es (length f) (length v)) (0, (Ok tt)) (a.event, a.stop)
 replay_decides L n t es f v =
     let d = decides_next stop_at 0 (exact_order L n t (length f) (length v)) (from_decides 1 n (exact_rows L n t) es) in
     record { same = go (exact_check L n t (length f) (length v)) ∙ d.same; own = d.own }
@@ -73,22 +71,22 @@ replay_decides L n t es f v =
     p = replay 1 n (exact_rows L n t) es
 
     go : (c : Check) → ((outcome c p f v).answer.event, (outcome c p f v).answer.stop) ≡ if_passed (stop_at 0) c (p.event, p.stop)
-    go Passed = refl
-    go (Refused r) = refl
+    go (Ok tt) = refl
+    go (Err r) = refl
 
 -- ## A refused start, which alone has event 0, leaves the lent slices as they were
 
 pub start_unaltered : (L n : ℕ) (t es f v : List ℕ) (q : Refusal) → let o = replay_outcome L n t es f v in
-    o.answer.stop ≡ Refused q → o.answer.event ≡ 0 → (o.far_list ≡ f) × (o.cost_list ≡ v)
+    o.answer.stop ≡ Err q → o.answer.event ≡ 0 → (o.far_list ≡ f) × (o.cost_list ≡ v)
 start_unaltered L n t es f v q = go (exact_check L n t (length f) (length v))
   where
     p : Standing
     p = replay 1 n (exact_rows L n t) es
 
-    go : (c : Check) → (outcome c p f v).answer.stop ≡ Refused q → (outcome c p f v).answer.event ≡ 0
+    go : (c : Check) → (outcome c p f v).answer.stop ≡ Err q → (outcome c p f v).answer.event ≡ 0
         → ((outcome c p f v).far_list ≡ f) × ((outcome c p f v).cost_list ≡ v)
-    go (Refused r) a b = (refl, refl)
-    go Passed a b = absurd (omega (arith, numbered_on 1 n (exact_rows L n t) es q a))
+    go (Err r) a b = (refl, refl)
+    go (Ok tt) a b = absurd (omega (arith, numbered_on 1 n (exact_rows L n t) es q a))
 
 -- ## The numbers
 

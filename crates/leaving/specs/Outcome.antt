@@ -1,8 +1,7 @@
 -- What the replay answers and leaves in the two lent slices, in document 02's words. Assumes nothing.
-use Rattle.std.specs.Prelude.{List, ℕ, length}
+use Rattle.ground.specs.Refusals.{Check}
+use Rattle.std.specs.Prelude.{List, ℕ, length, Ok, Err}
 use Rattle.ground.specs.Buffers.{front}
-use Rattle.ground.specs.declared.Check.{Check}
-use Rattle.ground.specs.declared.Check.TheVariants.{Passed, Refused}
 use Rattle.theory.specs.LinkTables.{costs, fars}
 use Rattle.theory.specs.Outcomes.{RowsOutcome}
 use Rattle.tree.specs.Exact.{exact_rows}
@@ -13,12 +12,12 @@ use Rattle.leaving.specs.Replay.{Standing, replay}
 -- the exact reading's refusals for the start, as event 0, and nothing altered; else the replay's images, number of rows, refused event
 -- and refusal, and its rows in front: where an event was refused, those before it
 abbrev pub outcome : Check → Standing → List ℕ → List ℕ → RowsOutcome Replayed
-outcome Passed p f v = record {
+outcome (Ok tt) p f v = record {
   answer = record { images = p.images; rows = length p.rows; event = p.event; stop = p.stop };
   far_list = front (fars p.rows) f;
   cost_list = front (costs p.rows) v;
 }
-outcome (Refused r) p f v = record { answer = record { images = 0; rows = 0; event = 0; stop = Refused r }; far_list = f; cost_list = v }
+outcome (Err r) p f v = record { answer = record { images = 0; rows = 0; event = 0; stop = Err r }; far_list = f; cost_list = v }
 
 -- of the cost table t of n images and the events es
 abbrev pub replay_outcome : ℕ → ℕ → List ℕ → List ℕ → List ℕ → List ℕ → RowsOutcome Replayed

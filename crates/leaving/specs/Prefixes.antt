@@ -1,9 +1,8 @@
 -- Every prefix of the events: two calls with the same start and the same lent slices. The call with the events `begun` answered a and left g
 -- and w; the call with those and `more` answered b and left f' and v'. Assumes nothing.
-use Rattle.std.specs.Prelude.{List, ◌++◌, refl, ◌≡◌, ℕ, ◌+◌, length}
+use Rattle.ground.specs.Refusals.{Check}
+use Rattle.std.specs.Prelude.{List, ◌++◌, refl, ◌≡◌, ℕ, ◌+◌, length, Ok, Err}
 use Rattle.std.proofs.Common.{ap, sym, ◌∙◌, arith}
-use Rattle.ground.specs.declared.Check.{Check}
-use Rattle.ground.specs.declared.Check.TheVariants.{Passed, Refused}
 use Rattle.ground.specs.declared.Refusal.{Refusal}
 use Rattle.theory.specs.LinkTables.{Row}
 use Rattle.theory.specs.Outcomes.{LeftRows}
@@ -21,15 +20,15 @@ use Rattle.leaving.specs.Replay.{Standing, replay}
 module _ (n : ℕ) (t begun more f v : List ℕ) (a b : Replayed) (g w f' v' : List ℕ)
     (l : LeftRows (replay_outcome limit n t begun f v) a g w) (m : LeftRows (replay_outcome limit n t (begun ++ more) f v) b f' v') where
   -- it was refused: the events behind are not looked at
-  pub ended_there : (q : Refusal) → a.stop ≡ Refused q → (b ≡ a) × (f' ≡ g) × (v' ≡ w)
+  pub ended_there : (q : Refusal) → a.stop ≡ Err q → (b ≡ a) × (f' ≡ g) × (v' ≡ w)
   ended_there q s = go (exact_check limit n t (length f) (length v)) refl
     where
       go : (c : Check) → exact_check limit n t (length f) (length v) ≡ c → (b ≡ a) × (f' ≡ g) × (v' ≡ w)
-      go (Refused u) e =
+      go (Err u) e =
           let x = rw e at l in
           let y = rw e at m in
           (y.answered ∙ sym x.answered, y.far-sides ∙ sym x.far-sides, y.doubled ∙ sym x.doubled)
-      go Passed e =
+      go (Ok tt) e =
           let x = rw e at l in
           let y = rw e at m in
           let z = replay-ended 1 n (exact_rows limit n t) begun more q (sym (ap (λ (i : Replayed). i.stop) x.answered) ∙ s) in
@@ -37,18 +36,18 @@ module _ (n : ℕ) (t begun more f v : List ℕ) (a b : Replayed) (g w f' v' : L
           (u.answered ∙ sym x.answered, u.far-sides ∙ sym x.far-sides, u.doubled ∙ sym x.doubled)
 
   -- it was not: the replay goes on from the rows that it left
-  pub goes_on : a.stop ≡ Passed → standing b f' v' ≡ replay (1 + length begun) a.images (rows_left a.rows g w) more
+  pub goes_on : a.stop ≡ Ok tt → standing b f' v' ≡ replay (1 + length begun) a.images (rows_left a.rows g w) more
   goes_on s = go (exact_check limit n t (length f) (length v)) refl
     where
-      stands : (p : Standing) → rows_left (length p.rows) (outcome Passed p f v).far_list (outcome Passed p f v).cost_list ≡ p.rows
+      stands : (p : Standing) → rows_left (length p.rows) (outcome (Ok tt) p f v).far_list (outcome (Ok tt) p f v).cost_list ≡ p.rows
       stands p = (written_stand p.rows (length p.rows) f v _ _ (record { counted = refl; far-front = refl; cost-front = refl })).rows
 
       go : (c : Check) → exact_check limit n t (length f) (length v) ≡ c → standing b f' v' ≡ replay (1 + length begun) a.images (rows_left a.rows g w) more
-      go (Refused u) e =
+      go (Err u) e =
           let x = rw e at l.answered in
-          let z : Refused u ≡ Passed = sym (ap (λ (i : Replayed). i.stop) x) ∙ s in
+          let z : Err u ≡ (Ok tt) = sym (ap (λ (i : Replayed). i.stop) x) ∙ s in
           absurd (let y : ◌≡◌ {A = ℕ} 0 1 = cc in omega arith)
-      go Passed e =
+      go (Ok tt) e =
           let x = rw e at l in
           let y = rw e at m in
           let p = replay 1 n (exact_rows limit n t) begun in

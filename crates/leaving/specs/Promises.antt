@@ -1,12 +1,10 @@
 -- What the promise of the replay is worth. A call is seen from outside: its answer r, and the two lent slices before, f and v, and after,
 -- f' and v'. A start that is refused alters nothing; of any other the rows that stand in front are the exact reading of the cost table after
 -- the events that were taken, whether the events ended or one was refused. Assumes nothing.
-use Rattle.std.specs.Prelude.{List, ◌++◌, ◌⊎◌, refl, ◌≡◌, ℕ, ◌*◌, ◌+◌, ◌-◌, ◌≤◌, length}
+use Rattle.ground.specs.Refusals.{Check}
+use Rattle.std.specs.Prelude.{List, ◌++◌, ◌⊎◌, refl, ◌≡◌, ℕ, ◌*◌, ◌+◌, ◌-◌, ◌≤◌, length, Ok, Err}
 use Rattle.std.proofs.Common.{inl, inr, le_trans, arith}
-use Rattle.ground.specs.declared.Check.{Check}
-use Rattle.ground.specs.declared.Check.TheVariants.{Passed, Refused}
 use Rattle.ground.specs.declared.Refusal.{Refusal}
-use Rattle.ground.specs.declared.Written.TheVariants.{Places}
 use Rattle.theory.specs.LinkTables.{Row}
 use Rattle.theory.specs.Outcomes.{LeftRows}
 use Rattle.theory.specs.Readings.{Exact}
@@ -32,8 +30,8 @@ module _ (n : ℕ) (t es f v : List ℕ) where
   -- the start was refused as the exact reading refuses it: event 0, and nothing altered
   pub record StartRefused (r : Replayed) (f' v' : List ℕ) : Type 0 where
     pub refusal : Refusal
-    pub refused : exact_check limit n t (length f) (length v) ≡ Refused refusal
-    pub answer : r ≡ record { images = 0; rows = 0; event = 0; stop = Refused refusal }
+    pub refused : exact_check limit n t (length f) (length v) ≡ Err refusal
+    pub answer : r ≡ record { images = 0; rows = 0; event = 0; stop = Err refusal }
     pub far_same : f' ≡ f
     pub cost_same : v' ≡ v
 
@@ -51,12 +49,12 @@ module _ (n : ℕ) (t es f v : List ℕ) where
     pub exact : Exact limit (after (cost t n) taken) r.images (rows_left r.rows f' v')
     pub only : (T : List Row) → Exact limit (after (cost t n) taken) r.images T → T ≡ rows_left r.rows f' v'
     -- so the exact reading, given that table and the same slices, would have left the same in them, the places behind the rows included
-    pub anew : LeftRows (exact_outcome limit r.images (table_of r.images (after (cost t n) taken)) f v) (Places r.rows) f' v'
+    pub anew : LeftRows (exact_outcome limit r.images (table_of r.images (after (cost t n) taken)) f v) (Ok r.rows) f' v'
     -- no event is left; or the first one that is was refused, with its number
     pub ended : Ended 1 taken left (standing r f' v')
 
   replays : (p : Standing) → Taken limit (cost t n) 1 n es p → Ready limit n t (length f) (length v) → Wired limit n t
-      → Replays (outcome Passed p f v).answer (outcome Passed p f v).far_list (outcome Passed p f v).cost_list
+      → Replays (outcome (Ok tt) p f v).answer (outcome (Ok tt) p f v).far_list (outcome (Ok tt) p f v).cost_list
   replays p k y w =
       let few : 2 * p.images - 3 ≤ 2 * n - 3 = omega (arith, k.fewer) in
       let same = (written_stand p.rows (length p.rows) f v _ _ (record { counted = refl; far-front = refl; cost-front = refl })).rows in
@@ -79,10 +77,10 @@ module _ (n : ℕ) (t es f v : List ℕ) where
   replay-left r f' v' l = go (exact_check limit n t (length f) (length v)) refl
     where
       go : (c : Check) → exact_check limit n t (length f) (length v) ≡ c → StartRefused r f' v' ⊎ Replays r f' v'
-      go (Refused q) e =
+      go (Err q) e =
           let m = rw e at l in
           inl (record { refusal = q; refused = e; answer = m.answered; far_same = m.far-sides; cost_same = m.doubled })
-      go Passed e =
+      go (Ok tt) e =
           let m = rw e at l in
           let y = exact_ready limit n t (length f) (length v) e in
           let w = passed-wired limit n t (length f) (length v) e in

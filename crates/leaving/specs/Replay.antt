@@ -1,10 +1,8 @@
 -- The replay of a trace, in document 02's words: one number for each event, that of the image that leaves, counted from 1.
 -- Assumes nothing.
-use Rattle.std.specs.Prelude.{List, [], map, ◌∷◌, suc, ℕ, ◌%◌, ◌*◌, ◌-◌, ◌/◌}
+use Rattle.std.specs.Prelude.{List, [], map, ◌∷◌, suc, ℕ, ◌%◌, ◌*◌, ◌-◌, ◌/◌, Ok, Err}
 use Rattle.ground.specs.Ranges.{from}
-use Rattle.ground.specs.Refusals.{if_passed}
-use Rattle.ground.specs.declared.Check.{Check}
-use Rattle.ground.specs.declared.Check.TheVariants.{Passed, Refused}
+use Rattle.ground.specs.Refusals.{if_passed, Check}
 use Rattle.theory.specs.LinkTables.{Row}
 use Rattle.mending.specs.Leaving.{leave, mend}
 use Rattle.events.specs.Checks.{event_check}
@@ -18,9 +16,9 @@ pub record Standing : Type 0 where
 
 -- the events, numbered on from k, over n images with the rows T; a refusal ends the replay, and the rows before it stay
 unfoldable pub replay : ℕ → ℕ → List Row → List ℕ → Standing
-replay k n T [] = record { images = n; rows = T; event = 0; stop = Passed }
+replay k n T [] = record { images = n; rows = T; event = 0; stop = (Ok tt) }
 replay k n T (e ∷ es) =
-    if_passed (λ r. record { images = n; rows = T; event = k; stop = Refused r }) (event_check n e)
+    if_passed (λ r. record { images = n; rows = T; event = k; stop = Err r }) (event_check n e)
     (replay (suc k) (n - 1) (mend (n - 1) (e - 1) T) es)
 
 -- ## The cost table that is left

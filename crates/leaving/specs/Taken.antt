@@ -1,6 +1,5 @@
 -- Which events a replay took, what it has then, and how it ended. Assumes nothing.
-use Rattle.std.specs.Prelude.{List, [], ◌++◌, ◌∷◌, ◌≡◌, ℕ, ◌+◌, ◌≤◌, length}
-use Rattle.ground.specs.declared.Check.TheVariants.{Passed, Refused}
+use Rattle.std.specs.Prelude.{List, [], ◌++◌, ◌∷◌, ◌≡◌, ℕ, ◌+◌, ◌≤◌, length, Ok, Err}
 use Rattle.ground.specs.declared.Refusal.{Refusal}
 use Rattle.theory.specs.Readings.{Exact}
 use Rattle.theory.specs.Tables.{WellFormed}
@@ -9,8 +8,8 @@ use Rattle.leaving.specs.Replay.{Standing, after}
 
 -- how a replay ended: with all events, or at the one that was refused
 pub data Ended (k : ℕ) (taken left : List ℕ) (p : Standing) : Type 0 where
-  all : left ≡ [] → p.stop ≡ Passed → p.event ≡ 0 → Ended k taken left p
-  at : (e : ℕ) (es : List ℕ) (r : Refusal) → left ≡ e ∷ es → event_check p.images e ≡ Refused r → p.stop ≡ Refused r
+  all : left ≡ [] → p.stop ≡ Ok tt → p.event ≡ 0 → Ended k taken left p
+  at : (e : ℕ) (es : List ℕ) (r : Refusal) → left ≡ e ∷ es → event_check p.images e ≡ Err r → p.stop ≡ Err r
       → p.event ≡ k + length taken → Ended k taken left p
 
 -- a replay of es, numbered on from k, over n images from the table d

@@ -2,9 +2,8 @@
 // from 1 in events, from 0 below.
 #![tactic(auto)]
 
-ghost use Rattle.std.specs.Prelude.{◌≡◌, ◌-◌, ◌*◌, ◌≤◌, length};
+ghost use Rattle.std.specs.Prelude.{◌≡◌, ◌-◌, ◌*◌, ◌≤◌, length, Ok, Err};
 ghost use Rattle.ground.specs.Refusals.{◌then◌};
-ghost use Rattle.ground.specs.declared.Check.TheVariants.{Passed};
 ghost use Rattle.theory.specs.Outcomes.{LeftRows};
 ghost use Rattle.theory.specs.Tables.{limit};
 ghost use Rattle.tables.specs.Checks.{size_check};
@@ -14,16 +13,16 @@ ghost use Rattle.leaving.specs.Outcome.{outcome, replay_outcome};
 ghost use Rattle.leaving.specs.Replay.{replay};
 ghost use Rattle.leaving.specs.Standing.{SoundRows, Stands};
 
-use ground::{Check, Written};
+use ground::Refusal;
 
 // What the replay answers: the images that are left, the number of their rows, and the event that was refused, 0 where none was or
 // the start was, with the refusal.
-#[derive(Drop)]
+#[derive(Clone, Copy)]
 pub struct Replayed {
     pub images: usize,
     pub rows: usize,
     pub event: usize,
-    pub stop: Check,
+    pub stop: Result<(), Refusal>,
 }
 
 // The events one after another, over n images whose rows stand in the first `count` places; a refusal ends it. The rows that are left stand
@@ -35,27 +34,24 @@ fn run(n: usize, fars: &mut [u64], costs: &mut [u32], count: usize, events: &[u8
 {
     let mut images = n;
     let mut rows = count;
-    let mut i = 0;
-    while i < events.len() {
-        let e = ground::wide(events[i]);
-        let c = events::check_event(images, e);
-        let Check::Passed = c else {
+    for (i, event) in events.iter().enumerate() {
+        let e = usize::from(*event);
+        if let Err(r) = events::check_event(images, e) {
             return Replayed {
                 images,
                 rows,
                 event: i + 1,
-                stop: c,
+                stop: Err(r),
             };
-        };
+        }
         rows = mending::mend(images - 1, e - 1, fars, costs, rows);
         images -= 1;
-        i += 1;
     }
     Replayed {
         images,
         rows,
         event: 0,
-        stop: Check::Passed,
+        stop: Ok(()),
     }
 }
 
@@ -70,7 +66,7 @@ fn finish(
     costs: &mut [u32],
 ) -> Replayed
     requires { SoundRows limit n f.old v.old count × (2 * n - 3 ≤ length fars.old) × (2 * n - 3 ≤ length costs.old) }
-    ensures { LeftRows (outcome Passed (replay 1 n (rows_in f.old v.old count) events.now)
+    ensures { LeftRows (outcome (Ok tt) (replay 1 n (rows_in f.old v.old count) events.now)
         fars.old costs.old) result fars.new costs.new }
 {
     let r = run(n, f, v, count, events);
@@ -78,14 +74,23 @@ fn finish(
     r
 }
 
+// The answer where the start is refused.
+fn refuse_start(r: Refusal) -> Replayed
+    ensures { result ≡ record { images = 0; rows = 0; event = 0; stop = Err r } }
+{
+    Replayed {
+        images: 0,
+        rows: 0,
+        event: 0,
+        stop: Err(r),
+    }
+}
+
 // The start's refusals that come before a look at the entries: 1, 2, 3.
-fn check_start(n: usize, t: &[u32], f: usize, v: usize) -> Check
+fn check_start(n: usize, t: &[u32], f: usize, v: usize) -> Result<(), Refusal>
     ensures { result ≡ (size_check n t.now then outputs_room_check (2 * n - 3) f v) }
 {
-    let c = tables::check_size(n, t);
-    let Check::Passed = c else {
-        return c;
-    };
+    tables::check_size(n, t)?;
     tree::check_room(n, f, v)
 }
 
@@ -96,25 +101,13 @@ pub fn replay(n: usize, t: &[u32], events: &[u8], fars: &mut [u64], costs: &mut 
     ensures { LeftRows (replay_outcome limit n t.now events.now fars.old costs.old) result
         fars.new costs.new }
 {
-    let c = check_start(n, t, fars.len(), costs.len());
-    let Check::Passed = c else {
-        return Replayed {
-            images: 0,
-            rows: 0,
-            event: 0,
-            stop: c,
-        };
-    };
+    if let Err(r) = check_start(n, t, fars.len(), costs.len()) {
+        return refuse_start(r);
+    }
     let mut f = [0u64; 128];
     let mut v = [0u32; 128];
-    let read = graft::exact(n, t, &mut f, &mut v);
-    match read {
-        Written::Refused(r) => Replayed {
-            images: 0,
-            rows: 0,
-            event: 0,
-            stop: Check::Refused(r),
-        },
-        Written::Places(count) => finish(n, &mut f, &mut v, count, events, fars, costs),
+    match graft::exact(n, t, &mut f, &mut v) {
+        Err(r) => refuse_start(r),
+        Ok(count) => finish(n, &mut f, &mut v, count, events, fars, costs),
     }
 }

@@ -1,16 +1,17 @@
 -- What refusal 21 is worth: it is given exactly where the three-point condition does not hold, and shows the first three images, in
 -- ascending order, that fail it. Assumes nothing.
-use Rattle.std.specs.Prelude.{Bool, true, ◌↔◌, ◌⊎◌, refl, ◌≡◌, ℕ, ◌+◌, ◌-◌, ◌<◌, ◌≤◌}
+use Rattle.std.specs.Prelude.{Bool, true, ◌↔◌, refl, ◌≡◌, ℕ, ◌-◌, ◌<◌, ◌≤◌, Ok, Err}
 use Rattle.std.proofs.Math.Bool.{false}
 use Rattle.std.proofs.Math.Logic.{inl, inr}
 use Rattle.std.proofs.Common.{ap, sym, ◌∙◌, arith}
 use Rattle.ground.specs.Lowest.{LowestRefused}
 use Rattle.ground.specs.Laws.Lowest.{all-passed, all-refused}
-use Rattle.ground.specs.Refusals.{refusal, refuse_if}
+use Rattle.ground.specs.Refusals.{refuse_if}
 use Rattle.ground.specs.Laws.Refusals.{refuse_if-passed}
-use Rattle.ground.specs.declared.Check.TheVariants.{Passed, Refused}
 use Rattle.ground.specs.declared.Refusal.{Refusal}
-use Rattle.theory.specs.Tables.{WellFormed}
+use Rattle.theory.specs.Tables.{WellFormed, limit}
+use Rattle.tables.specs.Entries.{costs_in}
+use Rattle.tables.specs.declared.costs.Costs.{Costs}
 use Rattle.leveling.specs.Check.{first_three, levels_check}
 use Rattle.leveling.proofs.Laws.Scan.{first-passed, levels_scan}
 use Rattle.leveling.proofs.Laws.Sorted.{none_failing, fail_apart}
@@ -19,24 +20,28 @@ use Rattle.leveling.specs.ThreePoint.{ThreePoint, failing, fails, three}
 pub use Rattle.leveling.specs.Promises.{Before, FirstFailing}
 
 -- passed exactly when the condition holds
-pub levels_passed : (L : ℕ) (d : ℕ → ℕ → ℕ) (n : ℕ) → WellFormed L d n → (levels_check d n ≡ Passed) ↔ ThreePoint d n
+pub levels_passed : (L : ℕ) (d : ℕ → ℕ → ℕ) (n : ℕ) → WellFormed L d n → (levels_check d n ≡ Ok tt) ↔ ThreePoint d n
 levels_passed L d n c = (λ e. (none_failing L d n c).0 (first-passed (failing d n) e), λ t. ap first_three ((none_failing L d n c).1 t))
 
-refused_is : (b : Bool) (r q : Refusal) → refuse_if b r ≡ Refused q → (b ≡ true) × (q ≡ r)
+-- a cost table with levels passes
+pub levels_pass : (t : Costs) → ThreePoint (costs_in t) t.n → levels_check (costs_in t) t.n ≡ Ok tt
+levels_pass t h = (levels_passed limit (costs_in t) t.n t.formed.formed).1 h
+
+refused_is : (b : Bool) (r q : Refusal) → refuse_if b r ≡ Err q → (b ≡ true) × (q ≡ r)
 refused_is true r q e = (refl, cc)
 refused_is false r q e = absurd (let z : ◌≡◌ {A = ℕ} 0 1 = cc in omega arith)
 
 module _ (d : ℕ → ℕ → ℕ) (n : ℕ) where
-  last_passed : (i j k : ℕ) → last_scan d n i j ≡ Passed → j ≤ k → k < n → fails d (three i j k) ≡ false
+  last_passed : (i j k : ℕ) → last_scan d n i j ≡ Ok tt → j ≤ k → k < n → fails d (three i j k) ≡ false
   unfolding last_scan
   last_passed i j k e h m = refuse_if-passed (fails d (three i j k)) _ (all-passed (three_check d i j) j (n - j) e k h (omega arith))
 
-  second-passed : (i j k : ℕ) → second_scan d n i ≡ Passed → i ≤ j → j ≤ k → k < n → fails d (three i j k) ≡ false
+  second-passed : (i j k : ℕ) → second_scan d n i ≡ Ok tt → i ≤ j → j ≤ k → k < n → fails d (three i j k) ≡ false
   unfolding second_scan
   second-passed i j k e g h m = last_passed i j k (all-passed (last_scan d n i) i (n - i) e j g (omega arith)) h m
 
   -- refused with the first of all
-  pub levels_refused : (r : Refusal) → levels_check d n ≡ Refused r → FirstFailing d n r
+  pub levels_refused : (r : Refusal) → levels_check d n ≡ Err r → FirstFailing d n r
   unfolding second_scan last_scan
   levels_refused r e =
       let x = all-refused (second_scan d n) 0 n r (sym (levels_scan d n) ∙ e) in

@@ -1,10 +1,6 @@
 -- Examples of refusal 21, computed: the settled tables E and G have levels and D has none; a table whose threes with image 1 all pass has
 -- none; and of two threes that fail the first is that of the dictionary, though its last image is a later one. Assumes nothing.
-use Rattle.std.specs.Prelude.{List, [], ◌∷◌, refl, ◌≡◌, ℕ}
-use Rattle.ground.specs.Refusals.{refusal}
-use Rattle.ground.specs.declared.Check.TheVariants.{Passed, Refused}
-use Rattle.theory.specs.Tables.{cost}
-use Rattle.leveling.specs.Check.{levels_check}
+use Rattle.std.specs.Prelude.{List, [], ◌∷◌, ℕ}
 
 abbrev pub E : List ℕ
 E = 0 ∷ 2 ∷ 4 ∷ 4 ∷ 2 ∷ 0 ∷ 4 ∷ 4 ∷ 4 ∷ 4 ∷ 0 ∷ 2 ∷ 4 ∷ 4 ∷ 2 ∷ 0 ∷ []

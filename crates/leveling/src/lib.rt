@@ -2,32 +2,30 @@
 #![tactic(auto)]
 
 ghost use Rattle.std.specs.Prelude.{true, ◌↔◌, ◌≡◌, ◌<◌};
-ghost use Rattle.theory.specs.Tables.{limit, cost, CostTable};
+ghost use Rattle.tables.specs.Entries.{costs_in};
 ghost use Rattle.leveling.specs.Check.{levels_check};
 ghost use Rattle.leveling.specs.Scan.{three_check, last_scan, second_scan};
 ghost use Rattle.leveling.specs.Joins.{Nearest, joins, joins_at, nearer};
 ghost use Rattle.leveling.specs.ThreePoint.{ThreePoint, fails, three};
 
-use ground::{Check, Refusal};
+use ground::Refusal;
+use tables::Costs;
 
 // Whether the images i, j, k fail the condition.
-fn is_failing(n: usize, t: &[u32], i: usize, j: usize, k: usize) -> bool
-    requires { CostTable limit n t.now × (i < n) × (j < n) × (k < n) }
-    ensures { result ≡ fails (cost t.now n) (three i j k) }
+fn is_failing(t: &Costs<'_>, i: usize, j: usize, k: usize) -> bool
+    requires { (i < t.now.n) × (j < t.now.n) × (k < t.now.n) }
+    ensures { result ≡ fails (costs_in t.now) (three i j k) }
 {
-    let x = tables::entry(t, n, i, j);
-    let y = tables::entry(t, n, i, k);
-    let z = tables::entry(t, n, j, k);
-    wiring::is_once(x, y, z)
+    wiring::is_once(t.entry(i, j), t.entry(i, k), t.entry(j, k))
 }
 
 // Refusal 21 for the images i, j, k.
-fn check_three(n: usize, t: &[u32], i: usize, j: usize, k: usize) -> Check
-    requires { CostTable limit n t.now × (i < n) × (j < n) × (k < n) }
-    ensures { result ≡ three_check (cost t.now n) i j k }
+fn check_three(t: &Costs<'_>, i: usize, j: usize, k: usize) -> Result<(), Refusal>
+    requires { (i < t.now.n) × (j < t.now.n) × (k < t.now.n) }
+    ensures { result ≡ three_check (costs_in t.now) i j k }
 {
-    if is_failing(n, t, i, j, k) {
-        return Check::Refused(Refusal {
+    if is_failing(t, i, j, k) {
+        return Err(Refusal {
             number: 21,
             a: i + 1,
             b: j + 1,
@@ -35,107 +33,84 @@ fn check_three(n: usize, t: &[u32], i: usize, j: usize, k: usize) -> Check
             d: 0,
         });
     }
-    Check::Passed
+    Ok(())
 }
 
 // Refusal 21 for the threes that begin with i, j. A repeat never fails, so the third image is a later one.
-fn scan_last(n: usize, t: &[u32], i: usize, j: usize) -> Check
-    requires { CostTable limit n t.now × (i < n) × (j < n) }
-    ensures { result ≡ last_scan (cost t.now n) n i j }
+#[tactic(auto, using(crate::proofs::Laws::Scan::last_in_turn))]
+fn scan_last(t: &Costs<'_>, i: usize, j: usize) -> Result<(), Refusal>
+    requires { (i < t.now.n) × (j < t.now.n) }
+    ensures { result ≡ last_scan (costs_in t.now) t.now.n i j }
 {
-    let mut k = j + 1;
-    while k < n {
-        let c = check_three(n, t, i, j, k);
-        match c {
-            Check::Refused(_) => return c,
-            Check::Passed => k += 1,
-        }
+    for k in j + 1..t.n {
+        check_three(t, i, j, k)?;
     }
-    Check::Passed
+    Ok(())
 }
 
 // Refusal 21 for the threes that begin with i.
-fn scan_second(n: usize, t: &[u32], i: usize) -> Check
-    requires { CostTable limit n t.now × (i < n) }
-    ensures { result ≡ second_scan (cost t.now n) n i }
+#[tactic(auto, using(crate::proofs::Laws::Scan::second_in_turn))]
+fn scan_second(t: &Costs<'_>, i: usize) -> Result<(), Refusal>
+    requires { i < t.now.n }
+    ensures { result ≡ second_scan (costs_in t.now) t.now.n i }
 {
-    let mut j = i + 1;
-    while j < n {
-        let c = scan_last(n, t, i, j);
-        match c {
-            Check::Refused(_) => return c,
-            Check::Passed => j += 1,
-        }
+    for j in i + 1..t.n {
+        scan_last(t, i, j)?;
     }
-    Check::Passed
+    Ok(())
 }
 
 // Refusal 21 at the first of all threes i ≤ j ≤ k that fails. Those that begin with image 0 do not decide, as the fours do for refusal 7,
 // so it looks at all without repeats, fewer than n³/6.
-fn scan_first(n: usize, t: &[u32]) -> Check
-    requires { CostTable limit n t.now }
-    ensures { result ≡ levels_check (cost t.now n) n }
+#[tactic(auto, using(ground::specs::Laws::Lowest::in_turn, crate::proofs::Laws::Scan::levels_scan))]
+fn scan_first(t: &Costs<'_>) -> Result<(), Refusal>
+    ensures { result ≡ levels_check (costs_in t.now) t.now.n }
 {
-    let mut i = 0;
-    while i < n {
-        let c = scan_second(n, t, i);
-        match c {
-            Check::Refused(_) => return c,
-            Check::Passed => i += 1,
-        }
+    for i in 0..t.n {
+        scan_second(t, i)?;
     }
-    Check::Passed
+    Ok(())
 }
 
 // The nearer of the images p and i to image j, p on a tie.
-fn nearer(n: usize, t: &[u32], j: usize, p: usize, i: usize) -> usize
-    requires { CostTable limit n t.now × (j < n) × (p < n) × (i < n) }
-    ensures { result ≡ nearer (cost t.now n) j p i }
+#[tactic(auto, unfolding(crate::specs::Joins::nearer))]
+fn nearer(t: &Costs<'_>, j: usize, p: usize, i: usize) -> usize
+    requires { (j < t.now.n) × (p < t.now.n) × (i < t.now.n) }
+    ensures { result ≡ nearer (costs_in t.now) j p i }
 {
-    if tables::entry(t, n, j, i) < tables::entry(t, n, j, p) {
-        return i;
-    }
-    p
+    if t.entry(j, i) < t.entry(j, p) { i } else { p }
 }
 
 // An image before j to which j is nearest.
-fn nearest(n: usize, t: &[u32], j: usize) -> usize
-    requires { CostTable limit n t.now × (0 < j) × (j < n) }
-    ensures { Nearest (cost t.now n) j j result }
+#[tactic(auto, using(crate::proofs::Laws::Joins::nearest_turns))]
+fn nearest(t: &Costs<'_>, j: usize) -> usize
+    requires { (0 < j) × (j < t.now.n) }
+    ensures { Nearest (costs_in t.now) j j result }
 {
     let mut p = 0;
-    let mut i = 1;
-    while i < j {
-        p = nearer(n, t, j, p, i);
-        i += 1;
+    for i in 1..j {
+        p = nearer(t, j, p, i);
     }
     p
 }
 
 // Whether image j is as far from i as p is, or as far as from p where this is more.
-fn joins_at(n: usize, t: &[u32], j: usize, p: usize, i: usize) -> bool
-    requires { CostTable limit n t.now × (j < n) × (p < n) × (i < n) }
-    ensures { result ≡ joins_at (cost t.now n) j p i }
+#[tactic(auto, unfolding(crate::specs::Joins::joins_at))]
+fn joins_at(t: &Costs<'_>, j: usize, p: usize, i: usize) -> bool
+    requires { (j < t.now.n) × (p < t.now.n) × (i < t.now.n) }
+    ensures { result ≡ joins_at (costs_in t.now) j p i }
 {
-    let x = tables::entry(t, n, j, i);
-    let y = tables::entry(t, n, p, i);
-    let z = tables::entry(t, n, j, p);
-    if y < z {
-        return x == z;
-    }
-    x == y
+    t.entry(j, i) == t.entry(p, i).max(t.entry(j, p))
 }
 
 // The same from every image before j.
-fn joins(n: usize, t: &[u32], j: usize, p: usize) -> bool
-    requires { CostTable limit n t.now × (j < n) × (p < n) }
-    ensures { result ≡ joins (cost t.now n) j p }
+#[tactic(auto, using(crate::proofs::Laws::Joins::joins_turns))]
+fn joins(t: &Costs<'_>, j: usize, p: usize) -> bool
+    requires { (j < t.now.n) × (p < t.now.n) }
+    ensures { result ≡ joins (costs_in t.now) j p }
 {
-    let mut i = 0;
-    while i < j {
-        if joins_at(n, t, j, p, i) {
-            i += 1;
-        } else {
+    for i in 0..j {
+        if !joins_at(t, j, p, i) {
             return false;
         }
     }
@@ -143,15 +118,12 @@ fn joins(n: usize, t: &[u32], j: usize, p: usize) -> bool
 }
 
 // Whether the table has levels, image by image, some n² steps.
-fn has_levels(n: usize, t: &[u32]) -> bool
-    requires { CostTable limit n t.now }
-    ensures { (result ≡ true) ↔ ThreePoint (cost t.now n) n }
+#[tactic(auto, using(crate::proofs::Laws::Joins::three_turns))]
+fn has_levels(t: &Costs<'_>) -> bool
+    ensures { (result ≡ true) ↔ ThreePoint (costs_in t.now) t.now.n }
 {
-    let mut j = 1;
-    while j < n {
-        if joins(n, t, j, nearest(n, t, j)) {
-            j += 1;
-        } else {
+    for j in 1..t.n {
+        if !joins(t, j, nearest(t, j)) {
             return false;
         }
     }
@@ -159,12 +131,12 @@ fn has_levels(n: usize, t: &[u32]) -> bool
 }
 
 // Refusal 21 at the first of all threes that fails; it is looked for only where there is one.
-pub fn check_levels(n: usize, t: &[u32]) -> Check
-    requires { CostTable limit n t.now }
-    ensures { result ≡ levels_check (cost t.now n) n }
+#[tactic(auto, using(crate::proofs::Promises::levels_pass))]
+pub fn check_levels(t: &Costs<'_>) -> Result<(), Refusal>
+    ensures { result ≡ levels_check (costs_in t.now) t.now.n }
 {
-    if has_levels(n, t) {
-        return Check::Passed;
+    if has_levels(t) {
+        return Ok(());
     }
-    scan_first(n, t)
+    scan_first(t)
 }

@@ -1,11 +1,10 @@
 -- Examples of groups and heights, computed: the settled tables E, whose groups are two pairs and all images, and G, whose only group is all
 -- of them; a table of five images with one group inside another, both with image 1; and B, whose zeros the call refuses first.
 -- Assumes nothing.
-use Rattle.std.specs.Prelude.{List, [], ◌∷◌, refl, ◌≡◌, ℕ}
+use Rattle.std.specs.Prelude.{[], ◌∷◌, refl, ◌≡◌, Err}
 use Rattle.std.specs.Int.Count.{ones, ones_in}
 use Rattle.ground.specs.Lowest.{check_all}
 use Rattle.ground.specs.Refusals.{refusal}
-use Rattle.ground.specs.declared.Check.TheVariants.{Refused}
 use Rattle.theory.specs.Tables.{cost, limit}
 use Rattle.leveling.specs.Examples.{E, G}
 use Rattle.levels.specs.Groups.{groups, height, heights}
@@ -18,6 +17,6 @@ pub level_examples : (groups (cost E 4) 4 ≡ 3 ∷ 12 ∷ 15 ∷ []) × (height
 unfolding groups height ones ones_in
 level_examples = (refl, refl, refl, refl, refl, refl)
 
-pub zeros_first : levels_checks limit 3 B 2 2 ≡ Refused (refusal 20 1 2 0 0)
+pub zeros_first : levels_checks limit 3 B 2 2 ≡ Err (refusal 20 1 2 0 0)
 unfolding levels_checks check_all
 zeros_first = refl

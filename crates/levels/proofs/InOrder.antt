@@ -1,13 +1,10 @@
 -- The checks of the reading of levels by their numbers. Assumes nothing.
-use Rattle.std.specs.Prelude.{List, ◌++◌, ◌∷◌, min, ℕ, ◌-◌}
+use Rattle.std.specs.Prelude.{List, min, ℕ, ◌-◌}
 use Rattle.ground.specs.InOrder.{InOrder}
 use Rattle.ground.specs.Laws.InOrder.{join-order, room-order}
-use Rattle.ground.specs.Refusals.{room_check}
-use Rattle.ground.specs.Steps.{Step, ◌by◌}
 use Rattle.theory.specs.Tables.{cost}
-use Rattle.tables.specs.InOrder.{costs_steps, size_steps}
 use Rattle.tables.proofs.InOrder.{costs-order, size-order}
-use Rattle.leveling.specs.InOrder.{levels_order, levels_steps}
+use Rattle.leveling.specs.InOrder.{levels_order}
 use Rattle.levels.specs.Outcome.{levels_checks}
 pub use Rattle.levels.specs.InOrder.{call_steps}
 

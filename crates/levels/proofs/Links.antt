@@ -1,17 +1,14 @@
 -- What the exact tree of a table with levels looks like: which sets of images stand on the sides of its links, and what the links cost.
 -- Heights are those of the groups, and 0 for one image. Assumes nothing.
-use Rattle.std.specs.Prelude.{false, true, ◌↔◌, ◌⊎◌, ◌≡◌, ℕ, ◌*◌, ◌+◌, ◌-◌, ◌<◌, ◌^◌}
-use mathlib.Core.List.{List, Memᴰ}
+use Rattle.std.specs.Prelude.{ℕ}
+use mathlib.Core.List.{List}
 use Rattle.std.proofs.Common.{inl}
-use Rattle.theory.specs.FarSides.{FarSide, holds, inner, own}
-use Rattle.theory.specs.LinkTables.{Row, cost_of, fars}
+use Rattle.theory.specs.LinkTables.{Row}
 use Rattle.theory.specs.Readings.{Exact}
 use Rattle.theory.specs.Tables.{WellFormed}
-use Rattle.levels.specs.Groups.{Group, height}
 use Rattle.levels.proofs.Laws.Links.{far_link, inner_are, link_group, links_are, near_link}
 use Rattle.levels.proofs.Laws.NextGroups.{cost-alone, cost-both, image_height, next-all, next_exists}
 use Rattle.levels.specs.Laws.Rest.{link_own}
-use Rattle.levels.specs.Sides.{NextGroup, Part, link_of, rest}
 use Rattle.leveling.specs.ThreePoint.{ThreePoint}
 pub use Rattle.levels.specs.Links.{LevelTree}
 

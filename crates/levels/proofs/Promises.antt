@@ -1,15 +1,11 @@
 -- What the promise of the reading of levels says of a call, which found g and v in its two lent slices and left g' and v': what an accepted
 -- one left, when it is accepted, that a refused one altered nothing, and that no second answer meets the promise. Assumes nothing.
-use Rattle.std.specs.Prelude.{List, refl, ◌≡◌, ℕ, ◌<◌, drop, length, take}
+use Rattle.std.specs.Prelude.{List, refl, ◌≡◌, ℕ, ◌<◌, drop, length, take, Ok, Err}
 use Rattle.std.proofs.Common.{ap, ap₂, sym, ◌∙◌, arith, drop_at, take_at}
 use Rattle.std.proofs.lemmas.List.{length-map}
 use Rattle.ground.specs.Buffers.{front}
-use Rattle.ground.specs.Refusals.{places_if}
-use Rattle.ground.specs.declared.Check.{Check}
-use Rattle.ground.specs.declared.Check.TheVariants.{Passed, Refused}
+use Rattle.ground.specs.Refusals.{places_if, Check}
 use Rattle.ground.specs.declared.Refusal.{Refusal}
-use Rattle.ground.specs.declared.Written.TheVariants.{Places}
-use Rattle.ground.specs.declared.Written.TheVariants as written
 use Rattle.theory.specs.Tables.{cost}
 use Rattle.leveling.specs.Check.{levels_check}
 use Rattle.leveling.specs.Promises.{FirstFailing}
@@ -48,40 +44,39 @@ module _ (L n : ℕ) (t g v : List ℕ) where
       }
 
   -- accepted, it was asked for a table with levels, and this is what it left
-  pub levels_answer : (r : ℕ) (g' v' : List ℕ) → LeftLevels (levels_outcome L n t g v) (Places r) g' v' → LevelsAnswer r g' v'
+  pub levels_answer : (r : ℕ) (g' v' : List ℕ) → LeftLevels (levels_outcome L n t g v) (Ok r) g' v' → LevelsAnswer r g' v'
   levels_answer r g' v' = go (levels_checks L n t (length g) (length v)) refl
     where
-      same : (a b : ℕ) → Places a ≡ Places b → a ≡ b
-      same a b e = cc
-
-      go : (c : Check) → levels_checks L n t (length g) (length v) ≡ c → LeftLevels (levels_outcome L n t g v) (Places r) g' v' → LevelsAnswer r g' v'
-      go (Refused q) e l = absurd (let w = rw e at l.answered in let z : ◌≡◌ {A = ℕ} 0 1 = cc in omega arith)
-      go Passed e l =
+      go : (c : Check) → levels_checks L n t (length g) (length v) ≡ c → LeftLevels (levels_outcome L n t g v) (Ok r) g' v' → LevelsAnswer r g' v'
+      go (Err q) e l = absurd (let w = rw e at l.answered in let z : ◌≡◌ {A = ℕ} 0 1 = cc in omega arith)
+      go (Ok tt) e l =
           let a = passed_asked L n t (length g) (length v) e in
-          left-answer a.0 a.1 r g' v' (same r _ (rw e at l.answered)) (rw e at l.group-left) (rw e at l.height-left)
+          let w = rw e at l.answered in
+          let counted : r ≡ length (groups (cost t n) n) = cc in
+          left-answer a.0 a.1 r g' v' counted (rw e at l.group-left) (rw e at l.height-left)
 
   -- every table with levels is read
   pub levels_reads : LevelsAsked L n t (length g) (length v) → ThreePoint (cost t n) n
-      → (levels_outcome L n t g v).answer ≡ Places (length (groups (cost t n) n))
+      → (levels_outcome L n t g v).answer ≡ Ok (length (groups (cost t n) n))
   levels_reads a p = rw (asked_passed L n t (length g) (length v) a p)
 
   -- and every other cost table is refused with the first three images that show why
-  pub levels_refuses : (q : Refusal) → LevelsAsked L n t (length g) (length v) → (levels_outcome L n t g v).answer ≡ written.Refused q
+  pub levels_refuses : (q : Refusal) → LevelsAsked L n t (length g) (length v) → (levels_outcome L n t g v).answer ≡ Err q
       → FirstFailing (cost t n) n q
   levels_refuses q a e = go (levels_check (cost t n) n) refl (rw (asked_checks L n t (length g) (length v) a) at e)
     where
-      go : (c : Check) → levels_check (cost t n) n ≡ c → places_if c (length (groups (cost t n) n)) ≡ written.Refused q → FirstFailing (cost t n) n q
-      go Passed w e = absurd (let z : ◌≡◌ {A = ℕ} 0 1 = cc in omega arith)
-      go (Refused p) w e = let s : p ≡ q = cc in levels_refused (cost t n) n q (w ∙ ap Refused s)
+      go : (c : Check) → levels_check (cost t n) n ≡ c → places_if c (length (groups (cost t n) n)) ≡ Err q → FirstFailing (cost t n) n q
+      go (Ok tt) w e = absurd (let z : ◌≡◌ {A = ℕ} 0 1 = cc in omega arith)
+      go (Err p) w e = let s : p ≡ q = cc in levels_refused (cost t n) n q (w ∙ ap Err s)
 
   -- refused, nothing is altered
-  pub levels_unaltered : (q : Refusal) (g' v' : List ℕ) → LeftLevels (levels_outcome L n t g v) (written.Refused q) g' v' → (g' ≡ g) × (v' ≡ v)
+  pub levels_unaltered : (q : Refusal) (g' v' : List ℕ) → LeftLevels (levels_outcome L n t g v) (Err q) g' v' → (g' ≡ g) × (v' ≡ v)
   levels_unaltered q g' v' = go (levels_checks L n t (length g) (length v)) refl
     where
-      go : (c : Check) → levels_checks L n t (length g) (length v) ≡ c → LeftLevels (levels_outcome L n t g v) (written.Refused q) g' v'
+      go : (c : Check) → levels_checks L n t (length g) (length v) ≡ c → LeftLevels (levels_outcome L n t g v) (Err q) g' v'
           → (g' ≡ g) × (v' ≡ v)
-      go Passed e l = absurd (let w = rw e at l.answered in let z : ◌≡◌ {A = ℕ} 0 1 = cc in omega arith)
-      go (Refused p) e l = (rw e at l.group-left, rw e at l.height-left)
+      go (Ok tt) e l = absurd (let w = rw e at l.answered in let z : ◌≡◌ {A = ℕ} 0 1 = cc in omega arith)
+      go (Err p) e l = (rw e at l.group-left, rw e at l.height-left)
 
 -- no second answer meets the promise
 pub left_levels_once : {A : Type 0} {o : LevelsOutcome A} {a b : A} {g h v w : List ℕ} → LeftLevels o a g v → LeftLevels o b h w
@@ -89,8 +84,8 @@ pub left_levels_once : {A : Type 0} {o : LevelsOutcome A} {a b : A} {g h v w : L
 left_levels_once p q = (p.answered ∙ sym q.answered, p.group-left ∙ sym q.group-left, p.height-left ∙ sym q.height-left)
 
 -- Two tables with the same groups and heights are the same, so calls that left the same were asked about the same table.
-pub levels_tell : (L n : ℕ) (t u g v h w : List ℕ) (r s : ℕ) (g' v' h' w' : List ℕ) → LeftLevels (levels_outcome L n t g v) (Places r) g' v'
-    → LeftLevels (levels_outcome L n u h w) (Places s) h' w' → take r g' ≡ take s h' → take r v' ≡ take s w'
+pub levels_tell : (L n : ℕ) (t u g v h w : List ℕ) (r s : ℕ) (g' v' h' w' : List ℕ) → LeftLevels (levels_outcome L n t g v) (Ok r) g' v'
+    → LeftLevels (levels_outcome L n u h w) (Ok s) h' w' → take r g' ≡ take s h' → take r v' ≡ take s w'
     → (i j : ℕ) → i < n → j < n → cost t n i j ≡ cost u n i j
 levels_tell L n t u g v h w r s g' v' h' w' p q e f =
     let a = levels_answer L n t g v r g' v' p in

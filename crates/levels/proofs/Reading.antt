@@ -1,19 +1,12 @@
 -- What the reading of levels is worth, as document 02 says it: the groups l of a table with levels, and their heights v. Assumes nothing.
-use Rattle.std.specs.Prelude.{true, ◌↔◌, refl, ◌≡◌, ℕ, ◌-◌, ◌<◌, ◌^◌, ◌≤◌, length}
-use mathlib.Core.List.{List, Memᴰ, map}
-use Rattle.ground.specs.Ascending.{Between}
-use Rattle.ground.specs.Filters.{Each}
+use Rattle.std.specs.Prelude.{refl, ℕ, ◌-◌, ◌^◌, ◌≤◌}
 use Rattle.theory.proofs.Demands.{exact_reading}
-use Rattle.theory.specs.FarSides.{Nested, holds}
-use Rattle.theory.specs.LinkTables.{Row}
-use Rattle.theory.specs.Readings.{Exact}
 use Rattle.theory.specs.Tables.{WellFormed}
 use Rattle.leveling.proofs.Laws.ThreePoint.{four}
 use Rattle.leveling.specs.ThreePoint.{ThreePoint}
-use Rattle.levels.specs.Groups.{Group, Smallest, groups, height, heights}
+use Rattle.levels.specs.Groups.{groups, heights}
 use Rattle.levels.proofs.Laws.Count.{groups-most}
 use Rattle.levels.proofs.Laws.Groups.{groups_between, groups-mem}
-use Rattle.levels.specs.Links.{LevelTree}
 use Rattle.levels.proofs.Links.{level_tree}
 use Rattle.levels.proofs.Laws.Smallest.{all-group, groups_nested, smallest_exists, smallest-height, within_number}
 pub use Rattle.levels.specs.Reading.{LevelReading}

@@ -1,15 +1,7 @@
 -- Examples of groups and heights, computed: the settled tables E, whose groups are two pairs and all images, and G, whose only group is all
 -- of them; a table of five images with one group inside another, both with image 1; and B, whose zeros the call refuses first.
 -- Assumes nothing.
-use Rattle.std.specs.Prelude.{List, [], ◌∷◌, refl, ◌≡◌, ℕ}
-use Rattle.std.specs.Int.Count.{ones, ones_in}
-use Rattle.ground.specs.Lowest.{check_all}
-use Rattle.ground.specs.Refusals.{refusal}
-use Rattle.ground.specs.declared.Check.TheVariants.{Refused}
-use Rattle.theory.specs.Tables.{cost, limit}
-use Rattle.leveling.specs.Examples.{E, G}
-use Rattle.levels.specs.Groups.{groups, height, heights}
-use Rattle.levels.specs.Outcome.{levels_checks}
+use Rattle.std.specs.Prelude.{List, [], ◌∷◌, ℕ}
 
 abbrev pub B : List ℕ
 B = 0 ∷ 0 ∷ 0 ∷ 0 ∷ 0 ∷ 0 ∷ 0 ∷ 0 ∷ 0 ∷ []

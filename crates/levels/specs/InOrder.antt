@@ -1,14 +1,10 @@
 -- The checks of the reading of levels by their numbers. Assumes nothing.
 use Rattle.std.specs.Prelude.{List, ◌++◌, ◌∷◌, min, ℕ, ◌-◌}
-use Rattle.ground.specs.InOrder.{InOrder}
-use Rattle.ground.specs.Laws.InOrder.{join-order, room-order}
 use Rattle.ground.specs.Refusals.{room_check}
 use Rattle.ground.specs.Steps.{Step, ◌by◌}
 use Rattle.theory.specs.Tables.{cost}
 use Rattle.tables.specs.InOrder.{costs_steps, size_steps}
-use Rattle.tables.proofs.InOrder.{costs-order, size-order}
-use Rattle.leveling.specs.InOrder.{levels_order, levels_steps}
-use Rattle.levels.specs.Outcome.{levels_checks}
+use Rattle.leveling.specs.InOrder.{levels_steps}
 
 -- 1, 2, 3, 4, 5, 6, 20, 21
 abbrev pub call_steps : ℕ → ℕ → List ℕ → ℕ → ℕ → List Step

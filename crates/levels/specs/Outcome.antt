@@ -2,9 +2,7 @@
 -- link table. Assumes nothing.
 use Rattle.std.specs.Prelude.{List, ◌≡◌, min, ℕ, ◌-◌, ◌≤◌, length}
 use Rattle.ground.specs.Outcomes.{front_if}
-use Rattle.ground.specs.Refusals.{places_if, room_check, ◌then◌}
-use Rattle.ground.specs.declared.Check.{Check}
-use Rattle.ground.specs.declared.Written.{Written}
+use Rattle.ground.specs.Refusals.{places_if, room_check, ◌then◌, Check, Written}
 use Rattle.theory.specs.Tables.{CostTable, cost}
 use Rattle.tables.specs.Checks.{costs_check, size_check}
 use Rattle.leveling.specs.Check.{levels_check}

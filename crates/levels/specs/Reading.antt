@@ -6,7 +6,7 @@ use Rattle.ground.specs.Filters.{Each}
 use Rattle.theory.specs.FarSides.{Nested, holds}
 use Rattle.theory.specs.LinkTables.{Row}
 use Rattle.theory.specs.Readings.{Exact}
-use Rattle.levels.specs.Groups.{Group, Smallest, height, heights}
+use Rattle.levels.specs.Groups.{Group, Smallest, height}
 use Rattle.levels.specs.Links.{LevelTree}
 
 pub record LevelReading (L : ℕ) (d : ℕ → ℕ → ℕ) (n : ℕ) (l v : List ℕ) : Type 0 where

@@ -1,8 +1,7 @@
 -- What the call answers is the listing of levels, for which there is room, and there is no other answer. Assumes nothing.
-use Rattle.std.specs.Prelude.{List, refl, ◌≡◌, ℕ, ◌≤◌, drop, length, replicate, take}
+use Rattle.ground.specs.Refusals.{Check}
+use Rattle.std.specs.Prelude.{List, refl, ◌≡◌, ℕ, ◌≤◌, drop, length, replicate, take, Ok, Err}
 use Rattle.std.proofs.Common.{ap, sym, ◌∙◌, arith, length-append, take_at}
-use Rattle.ground.specs.declared.Check.{Check}
-use Rattle.ground.specs.declared.Check.TheVariants.{Passed, Refused}
 use Rattle.listing_lines.specs.Laws.Lengths.{refused-most}
 use Rattle.listing_text.specs.Listing.{images_said, table_said}
 use Rattle.levels_text.specs.Laws.Lengths.{levels_most}
@@ -16,10 +15,10 @@ module _ (s : List ℕ) where
   levels_fit = go (levels_said s) refl
     where
       go : (c : Check) → levels_said s ≡ c → length (levels_text s) ≤ room
-      go Passed e =
+      go (Ok tt) e =
           let g = levels_accepted s e in
           omega (arith, ap length g.shown, levels_most (images_said s) (table_said s) g.table g.levels)
-      go (Refused q) e = omega (arith, ap length (levels_refused s q e), refused-most q)
+      go (Err q) e = omega (arith, ap length (levels_refused s q e), refused-most q)
 
   -- what is printed is the listing
   pub listed-front : {size : ℕ} {text : List ℕ} → Listed s size text → take size text ≡ levels_text s

@@ -1,10 +1,8 @@
 -- What the promise of a listing of levels says: which tables are listed and as what, and what a refusal prints. Assumes nothing.
-use Rattle.std.specs.Prelude.{List, ◌++◌, ◌≡◌, ℕ}
+use Rattle.std.specs.Prelude.{List, ◌++◌, ◌≡◌, ℕ, Ok, Err}
 use Rattle.std.proofs.Common.{ap, ◌∙◌, arith}
 use Rattle.ground.specs.Laws.Refusals.{then_passed}
-use Rattle.ground.specs.Refusals.{◌then◌}
-use Rattle.ground.specs.declared.Check.{Check}
-use Rattle.ground.specs.declared.Check.TheVariants.{Passed, Refused}
+use Rattle.ground.specs.Refusals.{◌then◌, Check}
 use Rattle.ground.specs.declared.Refusal.{Refusal}
 use Rattle.theory.specs.Tables.{CostTable, cost, limit}
 use Rattle.leveling.specs.Check.{levels_check}
@@ -49,7 +47,7 @@ module _ (s : List ℕ) where
   levels_checks_lem = text_then (stored_checks s) (levels_check (cost_said s) (images_said s)) (groups_said s)
 
   -- a table that passes them all is listed
-  pub levels_accepted : levels_said s ≡ Passed → GroupsListed s
+  pub levels_accepted : levels_said s ≡ Ok tt → GroupsListed s
   levels_accepted e =
       let p = then_passed (stored_checks s) (levels_check (cost_said s) (images_said s)) e in
       let c = table_said_lem s p.0 in
@@ -62,7 +60,7 @@ module _ (s : List ℕ) where
       }
 
   -- the first refusal prints one line and no other
-  pub levels_refused : (q : Refusal) → levels_said s ≡ Refused q → levels_text s ≡ refused_line q
+  pub levels_refused : (q : Refusal) → levels_said s ≡ Err q → levels_text s ≡ refused_line q
   levels_refused q e = levels_checks_lem ∙ ap (λ (k : Check). text_if k (groups_said s)) e
 
 -- a table has the same listing in whichever form it is stored, whatever follows it

@@ -47,6 +47,7 @@ pub fn row_at(form: Form, n: usize, k: usize) -> usize
 }
 
 // The number n that the bytes say.
+#[tactic(auto, unfolding(crate::specs::Said::images_of))]
 pub fn images(form: Form, bytes: &[u8]) -> usize
     requires { (form.head ≤ 7) × (bytes_for (form.head + 14) ≤ length bytes.now) }
     ensures { result ≡ images_of form bytes.now }
@@ -55,6 +56,7 @@ pub fn images(form: Form, bytes: &[u8]) -> usize
 }
 
 // The row count that the bytes say.
+#[tactic(auto, unfolding(crate::specs::Said::count_of))]
 pub fn row_count(form: Form, bytes: &[u8]) -> usize
     requires { (form.head ≤ 7) × (bytes_for (form.head + 14) ≤ length bytes.now) }
     ensures { result ≡ count_of form bytes.now }
@@ -71,6 +73,7 @@ fn far_at(bytes: &[u8], position: usize, n: usize) -> u64
 }
 
 // The doubled cost at the position.
+#[tactic(auto, using(bits::specs::Laws::Turns::value_part_lt))]
 fn cost_at(bytes: &[u8], position: usize, w: usize) -> u32
     requires { (w ≤ 32) × (position + w ≤ 8 * length bytes.now) × (position ≤ last_row_end) }
     ensures { result ≡ value_of (part (bits bytes.now) position w) }
@@ -84,11 +87,9 @@ pub fn fill(form: Form, n: usize, count: usize, bytes: &[u8], fars: &mut [u64], 
     ensures { (fars.new ≡ front (fars_of form n count bytes.now) fars.old)
         × (costs.new ≡ front (costs_of form n count bytes.now) costs.old) }
 {
-    let mut k = 0;
-    while k < count {
+    for k in 0..count {
         let p = row_at(form, n, k);
         fars[k] = far_at(bytes, p, n);
         costs[k] = cost_at(bytes, p + (n - 1), form.width);
-        k += 1;
     }
 }

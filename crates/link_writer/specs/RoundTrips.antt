@@ -1,10 +1,8 @@
 -- What document 01 says of stored link tables, in the words of the calls: of both forms at once, e and g being either. Assumes nothing.
-use Rattle.std.specs.Prelude.{List, [], ◌++◌, ◌≡◌, min, ℕ, ◌*◌, ◌+◌, ◌-◌, ◌/◌, ◌≤◌, drop, length, take}
+use Rattle.ground.specs.Refusals.{Written}
+use Rattle.std.specs.Prelude.{List, [], ◌++◌, ◌≡◌, min, ℕ, ◌*◌, ◌+◌, ◌-◌, ◌/◌, ◌≤◌, drop, length, take, Ok, Err}
 use Rattle.std.proofs.Common.{ap, subst, sym, ◌∙◌, arith, length-append, length-drop, drop_at, take_at}
-use Rattle.ground.specs.declared.Check.TheVariants.{Refused}
 use Rattle.ground.specs.declared.Refusal.{Refusal}
-use Rattle.ground.specs.declared.Written.{Written}
-use Rattle.ground.specs.declared.Written.TheVariants.{Places}
 use Rattle.ground.specs.Outcomes.{Outcome, wrote_into}
 use Rattle.theory.specs.Tables.{limit}
 use Rattle.bits.specs.Bits.{AllBytes}
@@ -25,15 +23,12 @@ use Rattle.stored_links.specs.Laws.WriteBack.{read_links}
 use Rattle.stored_links.specs.Outcomes.{judged_either, read_either, read_outcome}
 use Rattle.stored_links.specs.Reading.{read_at_checks}
 use Rattle.link_forms.specs.Said.{costs_of, fars_of}
-use Rattle.stored_links.specs.declared.StoredLinks.TheVariants.{Table}
 use Rattle.stored_links.specs.Stored.{TableAt, read_into}
-use Rattle.ground.specs.declared.Written.TheVariants as written
-use Rattle.stored_links.specs.declared.StoredLinks.TheVariants as stored
 
 -- Reading what was written gives the table back, in whichever form it was written: the rows, their count, and the bytes used.
 pub reading_undoes_writing : (e : Edition) (n N : ℕ) (l v out f u : List ℕ) → Links (link_form e).limit n N l v → link_used (link_form e) n N ≤ length out
     → 2 * n - 3 ≤ length f → 2 * n - 3 ≤ length u
-    → ((write_outcome (link_form e) n N l v out).answer ≡ Places (link_used (link_form e) n N))
+    → ((write_outcome (link_form e) n N l v out).answer ≡ Ok (link_used (link_form e) n N))
     × (read_either (write_outcome (link_form e) n N l v out).places 0 f u ≡ read_into n N (link_used (link_form e) n N) l v f u)
 reading_undoes_writing e n N l v out f u t h i j =
     let w = written_is (link_form e) (form_limit e) n N l v out t h in
@@ -44,7 +39,7 @@ reading_undoes_writing e n N l v out f u t h i j =
 
 -- Writing what was read, in the form that it had, gives the same used bytes.
 pub writing_undoes_reading : (bytes : List ℕ) (position room n N used : ℕ) (out : List ℕ) → AllBytes bytes
-    → judged_either bytes position room ≡ Table n N used → used ≤ length out
+    → judged_either bytes position room ≡ Ok (record { n = n; count = N; used = used }) → used ≤ length out
     → let form = link_form_at bytes position in
     write_outcome form n N (fars_of form n N (drop (position / 8) bytes)) (costs_of form n N (drop (position / 8) bytes)) out
     ≡ wrote_into used (take used (drop (position / 8) bytes)) out
@@ -54,7 +49,7 @@ writing_undoes_reading bytes position room n N used out b e h =
     (links_marked bytes position) h
 
 -- What is read is a link table over n images with so many rows.
-pub reading_is_a_table : (bytes : List ℕ) (position room n N used : ℕ) → judged_either bytes position room ≡ Table n N used
+pub reading_is_a_table : (bytes : List ℕ) (position room n N used : ℕ) → judged_either bytes position room ≡ Ok (record { n = n; count = N; used = used })
     → let form = link_form_at bytes position in
     Links limit n N (fars_of form n N (drop (position / 8) bytes)) (costs_of form n N (drop (position / 8) bytes))
 reading_is_a_table bytes position room n N used e =
@@ -65,7 +60,7 @@ reading_is_a_table bytes position room n N used e =
 
 -- One table has one stored form of each kind: what is read as the same table, in the same form, stands in the same bytes.
 pub one_stored_form : (a b : List ℕ) (p q r s n N i j : ℕ) → AllBytes a → AllBytes b → edition_of (drop (p / 8) a) ≡ edition_of (drop (q / 8) b)
-    → judged_either a p r ≡ Table n N i → judged_either b q s ≡ Table n N j
+    → judged_either a p r ≡ Ok (record { n = n; count = N; used = i }) → judged_either b q s ≡ Ok (record { n = n; count = N; used = j })
     → fars_of (link_form_at a p) n N (drop (p / 8) a) ≡ fars_of (link_form_at b q) n N (drop (q / 8) b)
     → costs_of (link_form_at a p) n N (drop (p / 8) a) ≡ costs_of (link_form_at b q) n N (drop (q / 8) b)
     → take i (drop (p / 8) a) ≡ take j (drop (q / 8) b)
@@ -120,11 +115,11 @@ one_after_another e g m n M N k x l y out f u s t r h i z j =
     rw both (p.0, p.1)
 
 -- Refused, no lent place is altered.
-pub refused_writing : (form : Form) (n N : ℕ) (l v out : List ℕ) (r : Refusal) → write_checks form n N l v (length out) ≡ Refused r
-    → write_outcome form n N l v out ≡ record { answer = written.Refused r; places = out }
+pub refused_writing : (form : Form) (n N : ℕ) (l v out : List ℕ) (r : Refusal) → write_checks form n N l v (length out) ≡ Err r
+    → write_outcome form n N l v out ≡ record { answer = Err r; places = out }
 refused_writing form n N l v out r e = rw e
 
 pub refused_reading : (form : Form) (bytes : List ℕ) (position : ℕ) (f u : List ℕ) (r : Refusal)
-    → read_at_checks form bytes position (min (length f) (length u)) ≡ Refused r
-    → read_outcome form bytes position f u ≡ record { answer = stored.Refused r; far_list = f; cost_list = u }
+    → read_at_checks form bytes position (min (length f) (length u)) ≡ Err r
+    → read_outcome form bytes position f u ≡ record { answer = Err r; far_list = f; cost_list = u }
 refused_reading form bytes position f u r e = refused_alters_nothing form (drop (position / 8) bytes) f u e

@@ -1,8 +1,6 @@
 -- Writing a stored link table in a form: the checks in order, and the outcome. N is the row count, l the far sides, v the doubled costs. Assumes nothing.
 use Rattle.std.specs.Prelude.{Bool, List, ℕ, ◌*◌, ◌≤◌, ltb, get_or, length}
-use Rattle.ground.specs.Refusals.{places_if, room_check, ◌then◌}
-use Rattle.ground.specs.declared.Check.{Check}
-use Rattle.ground.specs.declared.Written.{Written}
+use Rattle.ground.specs.Refusals.{places_if, room_check, ◌then◌, Check, Written}
 use Rattle.ground.specs.Outcomes.{Outcome, front_if}
 use Rattle.theory.specs.Tables.{limit}
 use Rattle.links.specs.Checks.{row_checks, size_checks}

@@ -16,7 +16,7 @@ ghost use Rattle.link_forms.specs.Sizes.{Small};
 ghost use Rattle.link_writer.specs.Writing.{RoomFor, fit_checks, large, store_checks, store_outcome, write_outcome};
 
 use bits::{Edition, Form};
-use ground::{Check, Written};
+use ground::Refusal;
 use packer::Gathered;
 
 // One row behind what was put: images n down to 2 are half the far side, and the cost stands behind them.
@@ -43,10 +43,8 @@ fn put_rows(
         out.old out.new g result }
 {
     let mut gathered = g;
-    let mut k = 0;
-    while k < fars.len() {
+    for k in 0..fars.len() {
         gathered = put_row(gathered, w, n, fars[k], costs[k], out);
-        k += 1;
     }
     gathered
 }
@@ -85,39 +83,43 @@ fn first_large(most: u32, costs: &[u32]) -> usize
     requires { most ≤ limit }
     ensures { result ≡ first (large most costs.now) (length costs.now) }
 {
-    let mut k = 0;
-    while k < costs.len() {
+    for k in 0..costs.len() {
         if 2 * most < costs[k] {
             return k;
         }
-        k += 1;
     }
-    k
+    costs.len()
 }
 
 // Refusals 17 and 3 of rows as many as counted.
-fn check_store(form: Form, n: usize, fars: &[u64], costs: &[u32], room: usize) -> Check
+fn check_store(
+    form: Form,
+    n: usize,
+    fars: &[u64],
+    costs: &[u32],
+    room: usize,
+) -> Result<(), Refusal>
     requires { Small form n (length fars.now) × (form.limit ≤ limit) × (length costs.now ≡ length fars.now) }
     ensures { result ≡ store_checks form n fars.now costs.now room }
 {
     let row = first_large(form.limit, costs);
-    let fit = ground::refuse_if(row < costs.len(), 17, row + 1, 0);
-    let Check::Passed = fit else {
-        return fit;
-    };
+    ground::refuse_if(row < costs.len(), 17, row + 1, 0)?;
     let end = link_forms::row_at(form, n, fars.len());
     ground::refuse_if(room < (end + 7) / 8, 3, 0, 0)
 }
 
 // Refusals 12, 13, 17 and 3, for those who counted the rows themselves.
-pub fn check_links(edition: Edition, n: usize, fars: &[u64], costs: &[u32], room: usize) -> Check
+pub fn check_links(
+    edition: Edition,
+    n: usize,
+    fars: &[u64],
+    costs: &[u32],
+    room: usize,
+) -> Result<(), Refusal>
     requires { Small (link_form edition) n (length fars.now) × (length costs.now ≡ length fars.now) }
     ensures { result ≡ fit_checks (link_form edition) n fars.now costs.now room }
 {
-    let rows = links::check_rows(theory::LIMIT, n, fars, costs);
-    let Check::Passed = rows else {
-        return rows;
-    };
+    links::check_rows(theory::LIMIT, n, fars, costs)?;
     check_store(link_forms::form_of(edition), n, fars, costs, room)
 }
 
@@ -128,24 +130,19 @@ pub fn store_links(
     fars: &[u64],
     costs: &[u32],
     out: &mut [u8],
-) -> Written
+) -> Result<usize, Refusal>
     requires { Links limit n (length fars.now) fars.now costs.now }
     ensures { Left (store_outcome (link_form edition) n fars.now costs.now out.old) result out.new }
 {
-    match check_store(link_forms::form_of(edition), n, fars, costs, out.len()) {
-        Check::Refused(r) => Written::Refused(r),
-        Check::Passed => Written::Places(put_links(edition, n, fars, costs, out)),
-    }
+    check_store(link_forms::form_of(edition), n, fars, costs, out.len())?;
+    Ok(put_links(edition, n, fars, costs, out))
 }
 
 // Refusals 1, 10, 2, 12 and 13.
-fn check_table(n: usize, count: usize, fars: &[u64], costs: &[u32]) -> Check
+fn check_table(n: usize, count: usize, fars: &[u64], costs: &[u32]) -> Result<(), Refusal>
     ensures { result ≡ (size_checks n count fars.now costs.now then row_checks limit n fars.now costs.now) }
 {
-    let sizes = links::check_rows_size(n, count, fars, costs);
-    let Check::Passed = sizes else {
-        return sizes;
-    };
+    links::check_rows_size(n, count, fars, costs)?;
     links::check_rows(theory::LIMIT, n, fars, costs)
 }
 
@@ -157,11 +154,9 @@ pub fn write_links(
     fars: &[u64],
     costs: &[u32],
     out: &mut [u8],
-) -> Written
+) -> Result<usize, Refusal>
     ensures { Left (write_outcome (link_form edition) n count fars.now costs.now out.old) result out.new }
 {
-    match check_table(n, count, fars, costs) {
-        Check::Refused(r) => Written::Refused(r),
-        Check::Passed => store_links(edition, n, fars, costs, out),
-    }
+    check_table(n, count, fars, costs)?;
+    store_links(edition, n, fars, costs, out)
 }

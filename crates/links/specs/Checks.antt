@@ -1,7 +1,6 @@
 -- The checks of a link table over n images, in document 01's words and order: N rows, l the far sides, v the doubled costs. Assumes nothing.
 use Rattle.std.specs.Prelude.{not, List, ℕ, ◌*◌, ◌-◌, eqb, length}
-use Rattle.ground.specs.Refusals.{outside, refusal, refuse_if, ◌then◌}
-use Rattle.ground.specs.declared.Check.{Check}
+use Rattle.ground.specs.Refusals.{outside, refusal, refuse_if, ◌then◌, Check}
 use Rattle.theory.specs.Checks.{images_check}
 use Rattle.bad_rows.specs.BadRows.{bad_row, missing}
 use Rattle.links.specs.FirstChecks.{first_check}

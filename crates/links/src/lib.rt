@@ -8,7 +8,7 @@ ghost use Rattle.theory.specs.FarSides.{own};
 ghost use Rattle.bad_rows.specs.BadRows.{missing};
 ghost use Rattle.links.specs.Checks.{count_checks, length_checks, size_checks, row_checks};
 
-use ground::Check;
+use ground::Refusal;
 
 // The far side of the own link of image i, from 0: i alone, and for image 0 all the others, which are twice all below 2^(n-1).
 pub fn own_link(n: usize, i: usize) -> u64
@@ -25,12 +25,10 @@ pub fn own_link(n: usize, i: usize) -> u64
 pub fn place_of(fars: &[u64], s: u64) -> usize
     ensures { result ≡ place_of 1 s fars.now }
 {
-    let mut k = 0;
-    while k < fars.len() {
-        if s == fars[k] {
+    for (k, side) in fars.iter().enumerate() {
+        if s == *side {
             return k + 1;
         }
-        k += 1;
     }
     0
 }
@@ -48,61 +46,45 @@ fn first_missing(n: usize, fars: &[u64]) -> usize
     requires { (3 ≤ n) × (n ≤ 64) }
     ensures { result ≡ first (missing n fars.now) n }
 {
-    let mut i = 0;
-    while i < n {
+    for i in 0..n {
         if is_missing(n, fars, i) {
             return i;
         }
-        i += 1;
     }
-    i
+    n
 }
 
 // 1, 10: the number of images, then the row count.
-pub fn check_count(n: usize, count: usize) -> Check
+pub fn check_count(n: usize, count: usize) -> Result<(), Refusal>
     ensures { result ≡ count_checks n count }
 {
-    let images = theory::check_images(n);
-    match images {
-        Check::Refused(_) => images,
-        Check::Passed => ground::refuse_if(ground::is_outside(n, 2 * n - 3, count), 10, count, 0),
-    }
+    theory::check_images(n)?;
+    ground::refuse_if(ground::is_outside(n, 2 * n - 3, count), 10, count, 0)
 }
 
 // 2: both slices are exactly as long as the row count.
-fn check_lengths(count: usize, fars: &[u64], costs: &[u32]) -> Check
+fn check_lengths(count: usize, fars: &[u64], costs: &[u32]) -> Result<(), Refusal>
     ensures { result ≡ length_checks count fars.now costs.now }
 {
-    let sides = ground::refuse_if(fars.len() != count, 2, 0, 0);
-    match sides {
-        Check::Refused(_) => sides,
-        Check::Passed => ground::refuse_if(costs.len() != count, 2, 0, 0),
-    }
+    ground::refuse_if(fars.len() != count, 2, 0, 0)?;
+    ground::refuse_if(costs.len() != count, 2, 0, 0)
 }
 
 // 1, 10, 2: what is asked of a link table before its rows are looked at.
-pub fn check_rows_size(n: usize, count: usize, fars: &[u64], costs: &[u32]) -> Check
+pub fn check_rows_size(n: usize, count: usize, fars: &[u64], costs: &[u32]) -> Result<(), Refusal>
     ensures { result ≡ size_checks n count fars.now costs.now }
 {
-    let counts = check_count(n, count);
-    match counts {
-        Check::Refused(_) => counts,
-        Check::Passed => check_lengths(count, fars, costs),
-    }
+    check_count(n, count)?;
+    check_lengths(count, fars, costs)
 }
 
 // 12, 13: the lowest bad row, then the lowest image without its own link. The limit is an argument: what was stored under another limit is read under it.
-pub fn check_rows(most: u32, n: usize, fars: &[u64], costs: &[u32]) -> Check
+pub fn check_rows(most: u32, n: usize, fars: &[u64], costs: &[u32]) -> Result<(), Refusal>
     requires { (3 ≤ n) × (n ≤ 64) × (length fars.now ≤ 125) × (length costs.now ≡ length fars.now) }
     ensures { result ≡ row_checks most n fars.now costs.now }
 {
     let row = bad_rows::first_bad_row(most, n, fars, costs);
-    let rows = ground::refuse_if(row < fars.len(), 12, row + 1, 0);
-    match rows {
-        Check::Refused(_) => rows,
-        Check::Passed => {
-            let image = first_missing(n, fars);
-            ground::refuse_if(image < n, 13, image + 1, 0)
-        }
-    }
+    ground::refuse_if(row < fars.len(), 12, row + 1, 0)?;
+    let image = first_missing(n, fars);
+    ground::refuse_if(image < n, 13, image + 1, 0)
 }

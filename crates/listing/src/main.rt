@@ -10,7 +10,5 @@ fn main(rt: HostRuntime) -> io::Result<()> {
     let mut input = [0u8; LONGEST_TABLE];
     let count = read_full(&mut rt.stdin(), &mut input);
     let text = listing_text::listing(&input[..count]);
-    let length = text.length;
-    let bytes = text.bytes;
-    rt.write_all(&bytes[..length])
+    rt.write_all(text.as_bytes())
 }

@@ -8,6 +8,7 @@ ghost use Rattle.text.specs.Putting.{Fits, Put};
 use ground::Refusal;
 
 // The first line: how many images, and how many rows.
+#[tactic(auto, unfolding(crate::specs::Lines::header, text::specs::Words::bytes_of))]
 fn put_header(out: &mut [u8], at: usize, n: usize, rows: usize) -> usize
     requires { Fits (header n rows) at out.old }
     ensures { Put (header n rows) at out.old result out.new }
@@ -20,6 +21,7 @@ fn put_header(out: &mut [u8], at: usize, n: usize, rows: usize) -> usize
 }
 
 // The line of a row: far side, doubled cost, upper row.
+#[tactic(auto, unfolding(crate::specs::Lines::row_line))]
 fn put_row(out: &mut [u8], at: usize, far: u64, cost: u32, upper: u32) -> usize
     requires { Fits (row_line far cost upper) at out.old }
     ensures { Put (row_line far cost upper) at out.old result out.new }
@@ -31,21 +33,21 @@ fn put_row(out: &mut [u8], at: usize, far: u64, cost: u32, upper: u32) -> usize
 }
 
 // The lines of all rows.
+#[tactic(auto, using(crate::proofs::Laws::Turns::row_fits, crate::proofs::Laws::Turns::all_rows))]
 fn put_rows(out: &mut [u8], at: usize, fars: &[u64], costs: &[u32], above: &[u32]) -> usize
     requires { (length fars.now ≤ length costs.now) × (length fars.now ≤ length above.now) × Fits
         (row_lines fars.now costs.now above.now) at out.old }
     ensures { Put (row_lines fars.now costs.now above.now) at out.old result out.new }
 {
     let mut place = at;
-    let mut i = 0;
-    while i < fars.len() {
+    for i in 0..fars.len() {
         place = put_row(out, place, fars[i], costs[i], above[i]);
-        i += 1;
     }
     place
 }
 
 // The last line: the images in their order.
+#[tactic(auto, unfolding(crate::specs::Lines::order_line, text::specs::Words::bytes_of))]
 fn put_order(out: &mut [u8], at: usize, around: &[u32]) -> usize
     requires { Fits (order_line around.now) at out.old }
     ensures { Put (order_line around.now) at out.old result out.new }
@@ -56,6 +58,7 @@ fn put_order(out: &mut [u8], at: usize, around: &[u32]) -> usize
 }
 
 // The line of a refusal: its number and its four places.
+#[tactic(auto, unfolding(crate::specs::Lines::refused_line, text::specs::Words::bytes_of))]
 pub fn put_refusal(out: &mut [u8], at: usize, q: Refusal) -> usize
     requires { Fits (refused_line q) at out.old }
     ensures { Put (refused_line q) at out.old result out.new }
@@ -70,6 +73,7 @@ pub fn put_refusal(out: &mut [u8], at: usize, q: Refusal) -> usize
 }
 
 // Header, rows and order.
+#[tactic(auto, unfolding(crate::specs::Lines::reading_text))]
 pub fn put_reading(
     out: &mut [u8],
     n: usize,

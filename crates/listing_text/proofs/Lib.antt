@@ -1,1 +1,3 @@
 pub mod Ignored
+-- Laws.
+pub mod Laws

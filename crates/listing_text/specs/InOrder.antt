@@ -1,11 +1,9 @@
 -- The checks of a listing by their numbers: its text is the line of the first refusal, or the accepted one. Assumes nothing.
-use Rattle.std.specs.Prelude.{List, ◌++◌, refl, ◌≡◌, ℕ}
+use Rattle.std.specs.Prelude.{List, ◌++◌, refl, ◌≡◌, ℕ, Ok, Err}
 use Rattle.ground.specs.InOrder.{Decides, InOrder}
 use Rattle.ground.specs.Laws.InOrder.{decides_last, join-order}
-use Rattle.ground.specs.Refusals.{◌then◌}
+use Rattle.ground.specs.Refusals.{◌then◌, Check}
 use Rattle.ground.specs.Steps.{Step}
-use Rattle.ground.specs.declared.Check.{Check}
-use Rattle.ground.specs.declared.Check.TheVariants.{Passed, Refused}
 use Rattle.theory.specs.Tables.{cost, limit}
 use Rattle.wiring.specs.Check.{wiring_check}
 use Rattle.wiring.specs.InOrder.{wiring_order, wiring_steps}
@@ -23,9 +21,9 @@ abbrev pub listing_steps : List ℕ → List Step
 listing_steps s = table_steps (cost_form_at s 0) s ++ wiring_steps (cost (table_said s) (images_said s)) (images_said s)
 
 -- of two checks the second counts only where the first passed
-behind : (c d w : Check) → (c ≡ Passed → (c then d) ≡ w) → (c then d) ≡ (c then w)
-behind Passed d w h = h refl
-behind (Refused q) d w h = refl
+behind : (c d w : Check) → (c ≡ Ok tt → (c then d) ≡ w) → (c then d) ≡ (c then w)
+behind (Ok tt) d w h = h refl
+behind (Err q) d w h = refl
 
 -- of the exact reading's checks 7 alone is left, since a stored table that passes its own is well-formed
 only_wiring : (s : List ℕ) → listing_checks s ≡ (stored_checks s then wiring_check (cost (table_said s) (images_said s)) (images_said s))

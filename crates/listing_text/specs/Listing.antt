@@ -1,7 +1,7 @@
 -- The listing of the stored cost table at the start of the bytes s, in either form, whatever follows it. Assumes nothing.
+use Rattle.ground.specs.Refusals.{Check}
 use Rattle.std.specs.Prelude.{List, ◌≡◌, ℕ, ◌≤◌, length, replicate, take}
 use Rattle.ground.specs.Buffers.{front}
-use Rattle.ground.specs.declared.Check.{Check}
 use Rattle.cost_forms.specs.Form.{cost_form_at}
 use Rattle.cost_forms.specs.Said.{images_of, stored_table}
 use Rattle.stored_costs.specs.Reading.{table_checks}

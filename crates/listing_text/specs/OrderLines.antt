@@ -1,12 +1,11 @@
 -- What the order line of a listing says: all images once, from 1 to the last image; and which image that is. Images are 1 to n here, as in
 -- the listing. Assumes nothing.
-use Rattle.std.specs.Prelude.{List, ◌++◌, refl, ◌≡◌, suc, ℕ, ◌-◌, ◌≤◌, get_or, length, replicate, take}
+use Rattle.std.specs.Prelude.{List, ◌++◌, refl, ◌≡◌, suc, ℕ, ◌-◌, ◌≤◌, get_or, length, replicate, take, Ok}
 use Rattle.std.proofs.Common.{append_assoc, ap, subst, ◌∙◌, arith, get_or-take}
 use Rattle.std.proofs.Math.Path.{sym}
 use Rattle.std.proofs.lemmas.List.{length-replicate}
 use Rattle.ground.specs.Members.{occurs}
 use Rattle.ground.specs.Outcomes.{Left}
-use Rattle.ground.specs.declared.Check.TheVariants.{Passed}
 use Rattle.theory.proofs.Demands.{ordered}
 use Rattle.theory.specs.LinkTables.{costs, fars}
 use Rattle.theory.specs.Order.{AnOrder, closed, order}
@@ -101,7 +100,7 @@ pub record Printed (s text : List ℕ) (last : ℕ) : Type 0 where
   pub least : (l : List ℕ) → AnOrder (images_said s) l
       → closed (cost (table_said s) (images_said s)) (counted_from0 (images (images_said s) (table_said s) 1 last)) ≤ closed (cost (table_said s) (images_said s)) l
 
-module _ (s : List ℕ) (e : listing_checks s ≡ Passed) where
+module _ (s : List ℕ) (e : listing_checks s ≡ Ok tt) where
   -- whichever image is last, the lines before the order line are the same
   pub shown : (which : Last) → listing_text which s ≡ rows_shown s ++ order_line (order_said which s)
   unfolding reading_text

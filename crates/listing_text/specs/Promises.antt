@@ -1,10 +1,8 @@
 -- What the promise of a listing says, of both programs: which tables are listed and as what, what a refusal prints, and that there is no other
 -- text. Assumes nothing.
-use Rattle.std.specs.Prelude.{List, ◌++◌, refl, ◌≡◌, ℕ, ◌≤◌, drop, length, replicate, take}
+use Rattle.std.specs.Prelude.{List, ◌++◌, refl, ◌≡◌, ℕ, ◌≤◌, drop, length, replicate, take, Ok, Err}
 use Rattle.std.proofs.Common.{ap, sym, ◌∙◌, arith, length-append, take_at}
-use Rattle.ground.specs.Refusals.{◌then◌}
-use Rattle.ground.specs.declared.Check.{Check}
-use Rattle.ground.specs.declared.Check.TheVariants.{Passed, Refused}
+use Rattle.ground.specs.Refusals.{◌then◌, Check}
 use Rattle.ground.specs.declared.Refusal.{Refusal}
 use Rattle.ground.specs.Laws.Refusals.{then_passed}
 use Rattle.theory.specs.Laws.Limits.{table_wide}
@@ -47,16 +45,16 @@ pub record ExactListed (which : Last) (s : List ℕ) (n : ℕ) (t : List ℕ) (T
 
 -- two checks one after the other
 pub text_then : (c d : Check) (m : List ℕ) → text_if c (text_if d m) ≡ text_if (c then d) m
-text_then Passed d m = refl
-text_then (Refused q) d m = refl
+text_then (Ok tt) d m = refl
+text_then (Err q) d m = refl
 
 module _ (s : List ℕ) where
   -- what is listed is a cost table, in whichever form it is stored
-  pub listing_table : listing_checks s ≡ Passed → CostTable limit (images_said s) (table_said s)
+  pub listing_table : listing_checks s ≡ Ok tt → CostTable limit (images_said s) (table_said s)
   listing_table e = table_said_lem s (then_passed (stored_checks s) (tree_check limit (images_said s) (table_said s)) e).0
 
   -- of the exact reading only 7 is left
-  pub listing_wiring : stored_checks s ≡ Passed → listing_checks s ≡ wiring_check (cost (table_said s) (images_said s)) (images_said s)
+  pub listing_wiring : stored_checks s ≡ Ok tt → listing_checks s ≡ wiring_check (cost (table_said s) (images_said s)) (images_said s)
   listing_wiring e =
       ap (λ (c : Check). c then tree_check limit (images_said s) (table_said s)) e
       ∙ tree_wiring limit (images_said s) (table_said s) (table_said_lem s e)
@@ -68,11 +66,11 @@ module _ (which : Last) (s : List ℕ) where
   listing_checks_lem = text_then (stored_checks s) (tree_check limit (images_said s) (table_said s)) (accepted_text which s)
 
   -- a table that passes them all is listed
-  pub listing_accepted : listing_checks s ≡ Passed → listing_text which s ≡ accepted_text which s
+  pub listing_accepted : listing_checks s ≡ Ok tt → listing_text which s ≡ accepted_text which s
   listing_accepted e = listing_checks_lem ∙ ap (λ (c : Check). text_if c (accepted_text which s)) e
 
   -- what it shows is the exact reading, of which there is no other
-  pub listing_exact : listing_checks s ≡ Passed → (T : List Row) × ExactListed which s (images_said s) (table_said s) T
+  pub listing_exact : listing_checks s ≡ Ok tt → (T : List Row) × ExactListed which s (images_said s) (table_said s) T
   listing_exact e =
       let n = images_said s in
       let t = table_said s in
@@ -83,7 +81,7 @@ module _ (which : Last) (s : List ℕ) where
       (T, record { exact = (exact_rows_lem limit n t w T).1 refl; only = λ U x. (exact_rows_lem limit n t w U).0 x; shown = listing_accepted e })
 
   -- the first refusal prints one line and no other
-  pub listing_refused : (q : Refusal) → listing_checks s ≡ Refused q → listing_text which s ≡ refused_line q
+  pub listing_refused : (q : Refusal) → listing_checks s ≡ Err q → listing_text which s ≡ refused_line q
   listing_refused q e = listing_checks_lem ∙ ap (λ (c : Check). text_if c (accepted_text which s)) e
 
   -- what is printed is the listing

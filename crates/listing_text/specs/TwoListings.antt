@@ -1,12 +1,11 @@
 -- The two listings of one input: they differ in the order line only, and there exactly where the far end is not image n. Assumes nothing.
 use mathlib.Core.List.Memᴰ
-use Rattle.std.specs.Prelude.{List, [], map, ◌++◌, ◌∷◌, ◌↔◌, refl, ◌≡◌, suc, ℕ, ◌-◌, ◌<◌, ◌^◌, ◌≤◌, get_or, take}
+use Rattle.std.specs.Prelude.{List, [], map, ◌++◌, ◌∷◌, ◌↔◌, refl, ◌≡◌, suc, ℕ, ◌-◌, ◌<◌, ◌^◌, ◌≤◌, get_or, take, Ok, Err}
 use Rattle.std.proofs.lemmas.List.{append_cancel_left}
 use Rattle.std.proofs.Math.Path.{ap}
 use Rattle.std.proofs.Common.{sym, ◌∙◌, arith}
 use Rattle.ground.specs.Filters.{Each}
 use Rattle.ground.specs.Laws.Filters.{each_cons, each_nil}
-use Rattle.ground.specs.declared.Check.TheVariants.{Passed, Refused}
 use Rattle.ground.specs.declared.Refusal.{Refusal}
 use Rattle.theory.proofs.Demands.{ordered}
 use Rattle.theory.specs.Order.{order}
@@ -24,8 +23,8 @@ use Rattle.listing_text.specs.declared.Last.TheVariants.{FarEnd, ImageN}
 
 -- x, the listing, and y, the one with last n, differ in the order line only, and where there is none in nothing
 pub record OrderLineOnly (s x y : List ℕ) : Type 0 where
-  pub refused : (q : Refusal) → listing_checks s ≡ Refused q → (x ≡ refused_line q) × (y ≡ refused_line q)
-  pub accepted : listing_checks s ≡ Passed
+  pub refused : (q : Refusal) → listing_checks s ≡ Err q → (x ≡ refused_line q) × (y ≡ refused_line q)
+  pub accepted : listing_checks s ≡ Ok tt
       → (x ≡ rows_shown s ++ order_line (order_said FarEnd s)) × (y ≡ rows_shown s ++ order_line (order_said ImageN s))
 
 pub order_line_only : (s : List ℕ) {a b : ℕ} {t u : List ℕ} → Listed FarEnd s a t → Listed ImageN s b u → OrderLineOnly s (take a t) (take b u)
@@ -41,7 +40,7 @@ suc_small n [] h p = each_nil (λ i. i < 2 ^ 64)
 suc_small n (x ∷ l) h p =
     each_cons (λ i. i < 2 ^ 64) (suc x) (map suc l) (omega (arith, p x (Memᴰ.head refl))) (suc_small n l h (λ y m. p y (Memᴰ.tail m)))
 
-module _ (s : List ℕ) (e : listing_checks s ≡ Passed) where
+module _ (s : List ℕ) (e : listing_checks s ≡ Ok tt) where
   -- the images of an order are small numbers
   order_small : (which : Last) → Each (order_said which s) (λ i. i < 2 ^ 64)
   order_small which =

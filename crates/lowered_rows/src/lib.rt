@@ -12,24 +12,14 @@ ghost use Rattle.lowered_rows.specs.Putting.{lowered_in, Given, PutAll, PutRoom}
 fn cost_more(c: u32, w: u32) -> u32
     ensures { result ≡ min c (w - 2 * limit) }
 {
-    let floor = 2 * theory::LIMIT;
-    if w < floor {
-        return 0;
-    }
-    ground::lower(c, w - floor)
+    c.min(w.saturating_sub(2 * theory::LIMIT))
 }
 
 // 1 for a row over n images that stays, an own link or one with a cost above 0; otherwise 0.
 fn stay(n: usize, s: u64, c: u32) -> usize
     ensures { (result ≡ one_if (stays n (s, c))) × (result ≤ 1) }
 {
-    if theory::is_inner(n, s) {
-        if 0 < c {
-            return 1;
-        }
-        return 0;
-    }
-    1
+    usize::from(!theory::is_inner(n, s) || 0 < c)
 }
 
 // The row of the far side s over the images up to k, its cost c lowered by the value w, stored at the place `at`; the count of rows
@@ -72,11 +62,9 @@ pub fn put_rows(
         fars.old costs.old result fars.new costs.new }
 {
     let mut place = at;
-    let mut i = 0;
-    while i < count {
-        let slot = ground::wide(slots[i]);
+    for i in 0..count {
+        let slot = usize::from(slots[i]);
         place = turn_row(k, add + f[i], v[i], best[slot], place, fars, costs);
-        i += 1;
     }
     place
 }

@@ -1,13 +1,11 @@
 -- What a mended link table is worth. Assumes nothing.
-use Rattle.std.specs.Prelude.{List, ◌≡◌, suc, zero, ℕ, ◌<◌, ◌≤◌}
+use Rattle.std.specs.Prelude.{List, suc, zero, ℕ, ◌<◌, ◌≤◌}
 use Rattle.std.proofs.Common.{arith}
-use Rattle.theory.specs.Demands.{OneTree}
 use Rattle.theory.proofs.Demands.{one_tree}
 use Rattle.theory.specs.LinkTables.{Row}
-use Rattle.theory.specs.Readings.{Exact, measured}
+use Rattle.theory.specs.Readings.{Exact}
 use Rattle.theory.specs.Tables.{WellFormed}
 use Rattle.mending.proofs.Laws.Mended.{leave_formed, mended_exact, mended_reading}
-use Rattle.mending.specs.Leaving.{leave, mend}
 pub use Rattle.mending.specs.Promises.{Mended}
 
 pub mended : (L : ℕ) (d : ℕ → ℕ → ℕ) (m x : ℕ) (T : List Row) → 3 ≤ m → x < suc m → WellFormed L d (suc m) → Exact L d (suc m) T → Mended L d m x T

@@ -8,57 +8,33 @@ ghost use Rattle.newick_allowed.specs.Tests.{begun, first_place, grown, more, op
 fn is_first(depth: usize, count: usize) -> bool
     ensures { result ≡ first_place depth count }
 {
-    if depth == 1 {
-        return count == 0;
-    }
-    false
+    depth == 1 && count == 0
 }
 
 // One vertex more, 3 for more than two.
 pub fn one_more(count: usize) -> usize
     ensures { result ≡ more count }
 {
-    if count < 3 {
-        return count + 1;
-    }
-    3
+    count.min(2) + 1
 }
 
 // Whether a bracket may open: not in the first place, and not as the 63rd.
 pub fn may_open(depth: usize, count: usize) -> bool
     ensures { result ≡ opened depth count }
 {
-    if is_first(depth, count) {
-        return false;
-    }
-    depth < 62
+    !is_first(depth, count) && depth < 62
 }
 
 // Whether an image may begin with the byte: 1 to 9, and in the first place 1.
-pub fn may_begin(depth: usize, count: usize, b: usize) -> bool
+pub fn may_begin(depth: usize, count: usize, b: u8) -> bool
     ensures { result ≡ begun depth count b }
 {
-    if b < 49 {
-        return false;
-    }
-    if 57 < b {
-        return false;
-    }
-    if is_first(depth, count) {
-        return b == 49;
-    }
-    true
+    b'1' <= b && b <= b'9' && (!is_first(depth, count) || b == b'1')
 }
 
 // Whether an image may have a second digit.
 pub fn may_grow(x: usize, depth: usize, count: usize) -> bool
     ensures { result ≡ grown x depth count }
 {
-    if x < 1 {
-        return false;
-    }
-    if 10 <= x {
-        return false;
-    }
-    !is_first(depth, count)
+    1 <= x && x < 10 && !is_first(depth, count)
 }

@@ -39,22 +39,22 @@ pub enum Seen {
     Dead,
 }
 
-fn after_start(b: usize) -> Seen
+fn after_start(b: u8) -> Seen
     ensures { result ≡ start_next b }
 {
-    if b == 40 {
-        return Seen::Vertex { depth: 1, count: 0 };
+    match b {
+        b'(' => Seen::Vertex { depth: 1, count: 0 },
+        _ => Seen::Dead,
     }
-    Seen::Dead
 }
 
 // An image begins.
-fn begin_image(depth: usize, count: usize, b: usize) -> Seen
+fn begin_image(depth: usize, count: usize, b: u8) -> Seen
     ensures { result ≡ image_begun depth count b }
 {
     if newick_allowed::may_begin(depth, count, b) {
         return Seen::Image {
-            x: b - 48,
+            x: usize::from(b - b'0'),
             depth,
             count,
         };
@@ -63,66 +63,61 @@ fn begin_image(depth: usize, count: usize, b: usize) -> Seen
 }
 
 // At the beginning of a vertex. An open bracket keeps the count of the one around it.
-fn after_vertex(depth: usize, count: usize, b: usize, outer: &mut [usize]) -> Seen
+fn after_vertex(depth: usize, count: usize, b: u8, outer: &mut [usize]) -> Seen
     requires { (1 ≤ depth) × (depth ≤ 62) × (length outer.old ≡ 64) }
     ensures { (result ≡ vertex_next depth count b) × (outer.new ≡ vertex_outer depth count b outer.old) }
 {
-    if b != 40 {
-        return begin_image(depth, count, b);
+    match b {
+        b'(' if newick_allowed::may_open(depth, count) => {
+            outer[depth - 1] = count;
+            Seen::Vertex {
+                depth: depth + 1,
+                count: 0,
+            }
+        }
+        b'(' => Seen::Dead,
+        _ => begin_image(depth, count, b),
     }
-    if newick_allowed::may_open(depth, count) {
-        outer[depth - 1] = count;
-        return Seen::Vertex {
-            depth: depth + 1,
-            count: 0,
-        };
-    }
-    Seen::Dead
 }
 
 // Behind the first or the second digit of an image.
-fn after_image(x: usize, depth: usize, count: usize, b: usize) -> Seen
+fn after_image(x: usize, depth: usize, count: usize, b: u8) -> Seen
     requires { x < 100 }
     ensures { result ≡ image_next x depth count b }
 {
-    if b == 58 {
-        return Seen::Blank { depth, count };
-    }
-    if !newick_text::is_digit(b) {
-        return Seen::Dead;
-    }
-    if newick_allowed::may_grow(x, depth, count) {
-        return Seen::Image {
-            x: 10 * x + (b - 48),
+    match b {
+        b':' => Seen::Blank { depth, count },
+        b'0'..=b'9' if newick_allowed::may_grow(x, depth, count) => Seen::Image {
+            x: 10 * x + usize::from(b - b'0'),
             depth,
             count,
-        };
+        },
+        _ => Seen::Dead,
     }
-    Seen::Dead
 }
 
 // Behind a closed bracket.
-fn after_closed(depth: usize, count: usize, b: usize) -> Seen
+fn after_closed(depth: usize, count: usize, b: u8) -> Seen
     ensures { result ≡ head_next depth count b }
 {
-    if b == 58 {
-        return Seen::Blank { depth, count };
+    match b {
+        b':' => Seen::Blank { depth, count },
+        _ => Seen::Dead,
     }
-    Seen::Dead
 }
 
 // Behind the colon.
-fn after_blank(depth: usize, count: usize, b: usize) -> Seen
+fn after_blank(depth: usize, count: usize, b: u8) -> Seen
     ensures { result ≡ blank_next depth count b }
 {
-    if newick_text::is_digit(b) {
-        return Seen::Cost {
-            x: b - 48,
+    match b {
+        b'0'..=b'9' => Seen::Cost {
+            x: usize::from(b - b'0'),
             depth,
             count,
-        };
+        },
+        _ => Seen::Dead,
     }
-    Seen::Dead
 }
 
 // The innermost bracket closes, and the count of the one around it is taken back.
@@ -130,34 +125,24 @@ fn close_bracket(depth: usize, count: usize, outer: &[usize]) -> Seen
     requires { (1 ≤ depth) × (depth ≤ 62) × (length outer.now ≡ 64) }
     ensures { result ≡ closed depth count outer.now }
 {
-    if depth == 1 {
-        if 3 <= count {
-            return Seen::Ended;
-        }
-        return Seen::Dead;
-    }
-    if 2 <= count {
-        return Seen::Closed {
+    match depth {
+        1 if 3 <= count => Seen::Ended,
+        1 => Seen::Dead,
+        _ if 2 <= count => Seen::Closed {
             depth: depth - 1,
             count: outer[depth - 2],
-        };
+        },
+        _ => Seen::Dead,
     }
-    Seen::Dead
 }
 
 // A digit more of a cost, which 0 does not have, nor a number of eight digits.
-fn grow_cost(x: usize, depth: usize, count: usize, b: usize) -> Seen
+fn grow_cost(x: usize, depth: usize, count: usize, b: u8) -> Seen
     ensures { result ≡ digit_next x depth count b }
 {
-    if !newick_text::is_digit(b) {
-        return Seen::Dead;
-    }
-    if x < 1 {
-        return Seen::Dead;
-    }
-    if x < 10000000 {
+    if b.is_ascii_digit() && 1 <= x && x < 10_000_000 {
         return Seen::Cost {
-            x: 10 * x + (b - 48),
+            x: 10 * x + usize::from(b - b'0'),
             depth,
             count,
         };
@@ -166,32 +151,30 @@ fn grow_cost(x: usize, depth: usize, count: usize, b: usize) -> Seen
 }
 
 // Behind a digit of a cost.
-fn after_cost(x: usize, depth: usize, count: usize, b: usize, outer: &[usize]) -> Seen
+fn after_cost(x: usize, depth: usize, count: usize, b: u8, outer: &[usize]) -> Seen
     requires { (1 ≤ depth) × (depth ≤ 62) × (length outer.now ≡ 64) }
     ensures { result ≡ cost_next x depth count b outer.now }
 {
     let held = newick_allowed::one_more(count);
-    if b == 44 {
-        return Seen::Vertex { depth, count: held };
+    match b {
+        b',' => Seen::Vertex { depth, count: held },
+        b')' => close_bracket(depth, held, outer),
+        _ => grow_cost(x, depth, count, b),
     }
-    if b == 41 {
-        return close_bracket(depth, held, outer);
-    }
-    grow_cost(x, depth, count, b)
 }
 
 // Behind the outermost brackets.
-fn after_ended(b: usize) -> Seen
+fn after_ended(b: u8) -> Seen
     ensures { result ≡ ended_next b }
 {
-    if b == 59 {
-        return Seen::Done;
+    match b {
+        b';' => Seen::Done,
+        _ => Seen::Dead,
     }
-    Seen::Dead
 }
 
 // What the next byte makes of what was read.
-pub fn step(s: Seen, b: usize, outer: &mut [usize]) -> Seen
+pub fn step(s: Seen, b: u8, outer: &mut [usize]) -> Seen
     requires { Bounded s × (length outer.old ≡ 64) }
     ensures { (result ≡ next_seen s b outer.old) × (outer.new ≡ next_outer s b outer.old) }
 {
@@ -203,8 +186,7 @@ pub fn step(s: Seen, b: usize, outer: &mut [usize]) -> Seen
         Seen::Blank { depth, count } => after_blank(depth, count, b),
         Seen::Cost { x, depth, count } => after_cost(x, depth, count, b, outer),
         Seen::Ended => after_ended(b),
-        Seen::Done => Seen::Dead,
-        Seen::Dead => Seen::Dead,
+        Seen::Done | Seen::Dead => Seen::Dead,
     }
 }
 
@@ -212,48 +194,12 @@ pub fn step(s: Seen, b: usize, outer: &mut [usize]) -> Seen
 pub fn is_dead(s: Seen) -> bool
     ensures { result ≡ is_dead_seen s }
 {
-    match s {
-        Seen::Start => false,
-        Seen::Vertex { depth: _, count: _ } => false,
-        Seen::Image {
-            x: _,
-            depth: _,
-            count: _,
-        } => false,
-        Seen::Closed { depth: _, count: _ } => false,
-        Seen::Blank { depth: _, count: _ } => false,
-        Seen::Cost {
-            x: _,
-            depth: _,
-            count: _,
-        } => false,
-        Seen::Ended => false,
-        Seen::Done => false,
-        Seen::Dead => true,
-    }
+    matches!(s, Seen::Dead)
 }
 
 // Whether a text of the profile was read.
 pub fn is_done(s: Seen) -> bool
     ensures { result ≡ is_done_seen s }
 {
-    match s {
-        Seen::Start => false,
-        Seen::Vertex { depth: _, count: _ } => false,
-        Seen::Image {
-            x: _,
-            depth: _,
-            count: _,
-        } => false,
-        Seen::Closed { depth: _, count: _ } => false,
-        Seen::Blank { depth: _, count: _ } => false,
-        Seen::Cost {
-            x: _,
-            depth: _,
-            count: _,
-        } => false,
-        Seen::Ended => false,
-        Seen::Done => true,
-        Seen::Dead => false,
-    }
+    matches!(s, Seen::Done)
 }

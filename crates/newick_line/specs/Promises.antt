@@ -1,12 +1,11 @@
 -- What the promise of the program's line says: which tables have a Newick text and which, what a refusal prints, and that there is no other
 -- line. Assumes nothing.
-use Rattle.std.specs.Prelude.{List, ◌++◌, refl, ◌≡◌, ℕ, ◌*◌, ◌-◌, ◌≤◌, drop, length, replicate, take}
+use Rattle.ground.specs.Refusals.{Check}
+use Rattle.std.specs.Prelude.{List, ◌++◌, refl, ◌≡◌, ℕ, ◌*◌, ◌-◌, ◌≤◌, drop, length, replicate, take, Ok, Err}
 use Rattle.std.proofs.Common.{ap, sym, ◌∙◌, arith, length-append, take_at}
 use Rattle.ground.specs.InOrder.{Decides}
 use Rattle.ground.specs.Laws.InOrder.{decides_last}
 use Rattle.ground.specs.Laws.Refusals.{then_passed}
-use Rattle.ground.specs.declared.Check.{Check}
-use Rattle.ground.specs.declared.Check.TheVariants.{Passed, Refused}
 use Rattle.ground.specs.declared.Refusal.{Refusal}
 use Rattle.theory.specs.LinkTables.{Row}
 use Rattle.theory.specs.Readings.{Exact}
@@ -38,7 +37,7 @@ pub record LineOfTree (s : List ℕ) (T : List Row) : Type 0 where
   pub exact : Exact limit (cost (table_said s) (images_said s)) (images_said s) T
   pub only : (U : List Row) → Exact limit (cost (table_said s) (images_said s)) (images_said s) U → U ≡ T
   pub line : newick_line s ≡ newick T ++ newline
-  pub passes : (places : ℕ) → 2 * images_said s - 3 ≤ places → read_checks limit (newick T) places ≡ Passed
+  pub passes : (places : ℕ) → 2 * images_said s - 3 ≤ places → read_checks limit (newick T) places ≡ Ok tt
   pub again : table_of (tree_in (newick T)) ≡ T
 
 module _ (s : List ℕ) where
@@ -51,10 +50,10 @@ module _ (s : List ℕ) where
   pub line_decides : Decides (λ m. refused_line) (listing_steps s) (line_of (rows_said s)) (newick_line s)
   line_decides = rw line_checks (decides_last (λ m. refused_line) 0 (line_of (rows_said s)) (listing_order s))
 
-  pub line_refused : (q : Refusal) → listing_checks s ≡ Refused q → newick_line s ≡ refused_line q
+  pub line_refused : (q : Refusal) → listing_checks s ≡ Err q → newick_line s ≡ refused_line q
   line_refused q e = line_checks ∙ ap (λ (c : Check). text_if c (line_of (rows_said s))) e
 
-  pub line-accepted : listing_checks s ≡ Passed → LineOfTree s (rows_said s)
+  pub line-accepted : listing_checks s ≡ Ok tt → LineOfTree s (rows_said s)
   line-accepted e =
       let n = images_said s in
       let t = table_said s in

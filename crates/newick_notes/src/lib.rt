@@ -51,14 +51,12 @@ fn image_bit(x: usize) -> u64
 }
 
 // One image more is named.
+#[tactic(auto, using(crate::proofs::Marks::mark_fits))]
 fn mark(m: u64, x: usize) -> u64
     requires { 1 ≤ x }
     ensures { result ≡ mark m x }
 {
-    if 64 < x {
-        return m;
-    }
-    if ground::side(m, x - 1) == 1 {
+    if 64 < x || ground::side(m, x - 1) == 1 {
         return m;
     }
     ground::bit_alone(x - 1) + m
@@ -68,40 +66,31 @@ fn mark(m: u64, x: usize) -> u64
 fn lower_place(p: usize, q: usize) -> usize
     ensures { result ≡ lower_place p q }
 {
-    if p == 0 {
-        return q;
+    match (p, q) {
+        (0, _) => q,
+        (_, 0) => p,
+        _ => p.min(q),
     }
-    if q == 0 {
-        return p;
-    }
-    if q < p {
-        return q;
-    }
-    p
 }
 
 // Behind the digits of an image it is named.
-pub fn name(x: usize, b: usize, w: Noted) -> Noted
+pub fn name(x: usize, b: u8, w: Noted) -> Noted
     requires { (1 ≤ x) × (w.names < 18446744073709551615) }
     ensures { result ≡ named_by b x w }
 {
-    if b != 58 {
+    if b != b':' {
         return w;
     }
-    let marked = mark(w.marked, x);
-    let far = image_bit(x);
     Noted {
         names: w.names + 1,
-        marked,
-        rows: w.rows,
-        fallen: w.fallen,
-        far,
-        place: w.place,
-        last: w.last,
+        marked: mark(w.marked, x),
+        far: image_bit(x),
+        ..w
     }
 }
 
 // One row more, where there is room: of 64 images there are at most 125 rows.
+#[tactic(auto, using(crate::specs::Laws::Storing::stored_full))]
 fn store(rows: usize, far: u64, cost: usize, fars: &mut [u64], costs: &mut [u32]) -> usize
     requires { (cost < 100000000) × Room rows fars.old costs.old }
     ensures { Stored fars.old costs.old rows far cost fars.new costs.new result }
@@ -129,16 +118,11 @@ pub fn complete(cost: usize, w: Noted, fars: &mut [u64], costs: &mut [u32]) -> N
     requires { (cost < 100000000) × Room w.rows fars.old costs.old }
     ensures { Completed cost w fars.old costs.old result fars.new costs.new }
 {
-    let rows = store(w.rows, w.far, cost, fars, costs);
-    let fallen = fall(w);
     Noted {
-        names: w.names,
-        marked: w.marked,
-        rows,
-        fallen,
-        far: w.far,
-        place: w.place,
+        rows: store(w.rows, w.far, cost, fars, costs),
+        fallen: fall(w),
         last: w.far,
+        ..w
     }
 }
 
@@ -150,16 +134,10 @@ pub fn close(depth: usize, w: Noted, masks: &[u64], lasts: &[u64], places: &[usi
     if depth < 2 {
         return w;
     }
-    let far = w.marked - masks[depth - 2];
-    let place = places[depth - 2];
-    let last = lasts[depth - 2];
     Noted {
-        names: w.names,
-        marked: w.marked,
-        rows: w.rows,
-        fallen: w.fallen,
-        far,
-        place,
-        last,
+        far: w.marked - masks[depth - 2],
+        place: places[depth - 2],
+        last: lasts[depth - 2],
+        ..w
     }
 }

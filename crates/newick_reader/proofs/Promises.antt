@@ -1,13 +1,12 @@
 -- What the promise of the reader is worth. A call is seen from outside: the text t, its answer, and the two lent slices before, f and v, and after,
 -- f' and v'. Assumes nothing.
-use Rattle.std.specs.Prelude.{Bool, false, true, List, refl, ◌≡◌, suc, ℕ, ◌*◌, ◌-◌, ◌≤◌, drop, length, take}
+use Rattle.std.specs.Prelude.{Bool, false, true, List, refl, ◌≡◌, suc, ℕ, ◌*◌, ◌-◌, ◌≤◌, drop, length, take, Ok, Err}
 use Rattle.std.proofs.lemmas.Bool.{false≢true}
 use Rattle.std.proofs.Common.{ap, subst, sym, ◌∙◌, arith, take_at}
 use Rattle.std.proofs.lemmas.List.{length-map}
 use Rattle.ground.specs.Buffers.{front}
 use Rattle.ground.specs.Steps.{FirstRefused, Step}
-use Rattle.ground.specs.Refusals.{refusal}
-use Rattle.ground.specs.declared.Check.TheVariants.{Passed, Refused}
+use Rattle.ground.specs.Refusals.{Check, refusal}
 use Rattle.ground.specs.declared.Refusal.{Refusal}
 use Rattle.theory.specs.Laws.Outcomes.{left_rows_once}
 use Rattle.theory.specs.LinkTables.{LinkTable, Row, costs, far, fars}
@@ -29,12 +28,9 @@ use Rattle.newick_text.proofs.Laws.Reading.{read_written, write_read, written}
 use Rattle.newick_text.proofs.Laws.Accepted.{done_is, said}
 use Rattle.newick_text.proofs.Laws.Reads.{tree_read}
 use Rattle.newick_reader.specs.InOrder.{read_order, read_steps}
-use Rattle.newick_reader.specs.Outcomes.{rows_if}
+use Rattle.newick_reader.specs.Outcomes.{rows_if, NewickTree}
 use Rattle.newick_reader.proofs.Laws.Left.{refused-left, table-left}
 use Rattle.newick_reader.specs.Laws.Refusing.{order-first, tree_never}
-use Rattle.newick_reader.specs.declared.NewickTree.{NewickTree}
-use Rattle.newick_reader.specs.declared.NewickTree.TheVariants.{Table}
-use Rattle.newick_reader.specs.declared.NewickTree.TheVariants as answer
 pub use Rattle.newick_reader.specs.Promises.{Answers, room}
 
 -- no second answer, and no second content of the lent places, meets the promise
@@ -46,9 +42,9 @@ read_once t f v p q = left_rows_once p q
 front-taken : (m d e : List ℕ) (k : ℕ) → k ≡ length m → e ≡ front m d → length (take k e) ≡ k
 front-taken m d e k h q = rw q (ap length (take_at m (drop (length m) d) k (sym h)) ∙ sym h)
 
-module _ (t f v : List ℕ) (n N : ℕ) (f' v' : List ℕ) (l : Answers t f v (Table n N) f' v') where
+module _ (t f v : List ℕ) (n N : ℕ) (f' v' : List ℕ) (l : Answers t f v (Ok (record { n = n; count = N })) f' v') where
   -- the checks passed, and the rows stand in front
-  accepted : (read_checks limit t (room f v) ≡ Passed) × (n ≡ length (names (tree_in t))) × RowsWritten (table_of (tree_in t)) N f v f' v'
+  accepted : (read_checks limit t (room f v) ≡ Ok tt) × (n ≡ length (names (tree_in t))) × RowsWritten (table_of (tree_in t)) N f v f' v'
   accepted = table-left (read_checks limit t (room f v)) (length (names (tree_in t))) (table_of (tree_in t)) f v n N f' v' l
 
   -- the rows left are those of the text's tree, and every place behind them is as it was
@@ -74,25 +70,25 @@ module _ (t f v : List ℕ) (n N : ℕ) (f' v' : List ℕ) (l : Answers t f v (T
       }
 
 -- one link table has one text: two texts that leave the same rows are equal
-pub one-text : (t f v : List ℕ) (n N : ℕ) (f' v' : List ℕ) (u g w : List ℕ) (m M : ℕ) (g' w' : List ℕ) → Answers t f v (Table n N) f' v'
-    → Answers u g w (Table m M) g' w' → rows_left N f' v' ≡ rows_left M g' w' → t ≡ u
+pub one-text : (t f v : List ℕ) (n N : ℕ) (f' v' : List ℕ) (u g w : List ℕ) (m M : ℕ) (g' w' : List ℕ) → Answers t f v (Ok (record { n = n; count = N })) f' v'
+    → Answers u g w (Ok (record { n = m; count = M })) g' w' → rows_left N f' v' ≡ rows_left M g' w' → t ≡ u
 one-text t f v n N f' v' u g w m M g' w' p q e =
     sym (writing_undoes_reading t f v n N f' v' p) ∙ ap newick e ∙ writing_undoes_reading u g w m M g' w' q
 
 -- the text of a link table over 3 to 64 images is read as that table, where there is room for it
 pub reading_undoes_writing : (n : ℕ) (T : List Row) (f v : List ℕ) → LinkTable limit n T → 3 ≤ n → n ≤ 64 → 2 * n - 3 ≤ length f → 2 * n - 3 ≤ length v
-    → (r : NewickTree) (f' v' : List ℕ) → Answers (newick T) f v r f' v' → (r ≡ Table n (length T)) × RowsStand T (length T) f v f' v'
+    → (r : NewickTree) (f' v' : List ℕ) → Answers (newick T) f v r f' v' → (r ≡ Ok (record { n = n; count = (length T) })) × RowsStand T (length T) f v f' v'
 reading_undoes_writing n T f v t some few a b r f' v' l =
     let w = read_written limit n T t some few (omega arith) (room f v) (omega arith) in
     let s = written limit n T t some few (omega arith) (room f v) (omega arith) in
     let e : length (names (tree_in (newick T))) ≡ n = ap (λ x. length (names (tree_of x))) (tree_read (link_tree T) s.fine) ∙ s.counted in
-    let q : LeftRows (rows_if Passed n T f v) r f' v' = rw (w.0, w.1, e) at l in
+    let q : LeftRows (rows_if (Ok tt) n T f v) r f' v' = rw (w.0, w.1, e) at l in
     (q.answered, written_stand T (length T) f v f' v' (record { counted = refl; far-front = q.far-sides; cost-front = q.doubled }))
 
 -- ## Refused
 
-module _ (t f v : List ℕ) (q : Refusal) (f' v' : List ℕ) (l : Answers t f v (answer.Refused q) f' v') where
-  refused : (read_checks limit t (room f v) ≡ Refused q) × (f' ≡ f) × (v' ≡ v)
+module _ (t f v : List ℕ) (q : Refusal) (f' v' : List ℕ) (l : Answers t f v (Err q) f' v') where
+  refused : (read_checks limit t (room f v) ≡ Err q) × (f' ≡ f) × (v' ≡ v)
   refused = refused-left (read_checks limit t (room f v)) (length (names (tree_in t))) (table_of (tree_in t)) f v q f' v' l
 
   -- a refusal alters nothing
@@ -108,7 +104,7 @@ module _ (t f v : List ℕ) (q : Refusal) (f' v' : List ℕ) (l : Answers t f v 
 -- outside the profile it is refused by 18 with the one place before which the bytes begin a text of the profile, while with the byte there, where there
 -- is one, they begin none
 pub first_impossible_byte : (t f v : List ℕ) (k : ℕ) → (Profile t → ⊥) → FirstImpossible t k → (r : NewickTree) (f' v' : List ℕ) → Answers t f v r f' v'
-    → r ≡ answer.Refused (refusal 18 (suc k) 0 0 0)
+    → r ≡ Err (refusal 18 (suc k) 0 0 0)
 first_impossible_byte t f v k h p r f' v' l =
     let e : is_done (run start t) ≡ false = not-true (is_done (run start t)) (λ d. h (done_profile t (tree_in t) (done_is (run start t) d))) in
     let z = one_place t (lived start t) k (first_impossible t) p in
@@ -119,14 +115,14 @@ first_impossible_byte t f v k h p r f' v' l =
     not-true false h = refl
 
 -- and where it is refused by 18 it is outside the profile, and the place, from 1, is that one
-pub impossible_byte_first : (t f v : List ℕ) (q : Refusal) (f' v' : List ℕ) → Answers t f v (answer.Refused q) f' v' → q.number ≡ 18
+pub impossible_byte_first : (t f v : List ℕ) (q : Refusal) (f' v' : List ℕ) → Answers t f v (Err q) f' v' → q.number ≡ 18
     → (Profile t → ⊥) × (k : ℕ) × FirstImpossible t k × (q ≡ refusal 18 (suc k) 0 0 0)
 impossible_byte_first t f v q f' v' l e = go (is_done (run start t)) refl (refused t f v q f' v' l).0
   where
-    same : (p : Refusal) → Refused p ≡ Refused q → q ≡ p
+    same : (p : Refusal) → ◌≡◌ {A = Check} (Err p) (Err q) → q ≡ p
     same p h = cc
 
-    go : (b : Bool) → is_done (run start t) ≡ b → read_checks limit t (room f v) ≡ Refused q
+    go : (b : Bool) → is_done (run start t) ≡ b → read_checks limit t (room f v) ≡ Err q
         → (Profile t → ⊥) × (k : ℕ) × FirstImpossible t k × (q ≡ refusal 18 (suc k) 0 0 0)
     go true d h = absurd (tree_never limit (tree_in t) (room f v) q (rw d at h) e)
     go false d h =

@@ -3,8 +3,7 @@
 use Rattle.std.specs.Prelude.{List, min, ℕ, length}
 use Rattle.ground.specs.Refusals.{◌then◌}
 use Rattle.theory.specs.Outcomes.{RowsOutcome}
-use Rattle.newick_reader.specs.Outcomes.{rows_if}
-use Rattle.newick_reader.specs.declared.NewickTree.{NewickTree}
+use Rattle.newick_reader.specs.Outcomes.{rows_if, NewickTree}
 use Rattle.newick_table.specs.Notes.{name_checks, row_checks, noted_table}
 
 -- what is answered and left in the lent far sides l and costs w, first by 12 and 22, then by all checks

@@ -1,20 +1,22 @@
 -- What the reader answers, and what it leaves in the lent slices. Assumes nothing.
-use Rattle.std.specs.Prelude.{List, min, ℕ, length}
+use Rattle.newick_reader.specs.declared.TreeRead.{TreeRead}
+use Rattle.ground.specs.declared.Refusal.{Refusal}
+use Rattle.std.specs.Prelude.{List, min, ℕ, length, Ok, Err, Result}
 use Rattle.ground.specs.Outcomes.{front_if}
-use Rattle.ground.specs.Refusals.{if_passed}
-use Rattle.ground.specs.declared.Check.{Check}
+use Rattle.ground.specs.Refusals.{if_passed, Check}
 use Rattle.theory.specs.LinkTables.{Row, costs, fars}
 use Rattle.theory.specs.Outcomes.{RowsOutcome}
 use Rattle.theory.specs.Tables.{limit}
 use Rattle.newick_text.specs.Reading.{read_checks, tree_in}
 use Rattle.newick_text.specs.Tables.{names, table_of}
-use Rattle.newick_reader.specs.declared.NewickTree.{NewickTree}
-use Rattle.newick_reader.specs.declared.NewickTree.TheVariants.{Table}
-use Rattle.newick_reader.specs.declared.NewickTree.TheVariants as newick
+
+-- what the reader answers: n and the row count, or the refusal
+abbrev pub NewickTree : Type 0
+NewickTree = Result TreeRead Refusal
 
 -- n and the row count where the check passed
 abbrev pub table_if : Check → ℕ → ℕ → NewickTree
-table_if c n N = if_passed newick.Refused c (Table n N)
+table_if c n N = if_passed Err c (Ok (record { n = n; count = N }))
 
 -- and the rows T at the front of the lent places
 abbrev pub rows_if : Check → ℕ → List Row → List ℕ → List ℕ → RowsOutcome NewickTree

@@ -2,8 +2,7 @@
 -- f' and v'. Assumes nothing.
 use Rattle.std.specs.Prelude.{List, min, ℕ, length}
 use Rattle.theory.specs.Outcomes.{LeftRows}
-use Rattle.newick_reader.specs.Outcomes.{read_outcome}
-use Rattle.newick_reader.specs.declared.NewickTree.{NewickTree}
+use Rattle.newick_reader.specs.Outcomes.{read_outcome, NewickTree}
 
 -- the call for the text t answered r and left f' and v'
 abbrev pub Answers : List ℕ → List ℕ → List ℕ → NewickTree → List ℕ → List ℕ → Type 0

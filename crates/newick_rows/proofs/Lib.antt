@@ -1,4 +1,4 @@
 -- The pieces of a row's text.
-mod Pieces
+pub mod Pieces
 -- Laws.
 pub mod Laws

@@ -1,2 +1,3 @@
 -- What the searches find, and what is written below a row.
 pub mod Searches
+pub mod Images

@@ -13,17 +13,10 @@ ghost use Rattle.newick_scan.specs.Says.{Says};
 use newick_bytes::Seen;
 use newick_notes::Noted;
 
-// How many bytes begin a text of the profile, or what a whole one says.
-#[derive(Drop)]
-pub enum Scanned {
-    Stopped(usize),
-    Whole(Noted),
-}
-
 // A vertex begins at this place. Where it is a bracket, what was noted around it is kept for when it closes.
 fn begin(
     depth: usize,
-    b: usize,
+    b: u8,
     place: usize,
     w: Noted,
     masks: &mut [u64],
@@ -34,36 +27,20 @@ fn begin(
     ensures { Begun depth b place w (stacks masks.old lasts.old places.old) result
         (stacks masks.new lasts.new places.new) }
 {
-    if b == 40 {
+    if b == b'(' {
         masks[depth - 1] = w.marked;
         lasts[depth - 1] = w.last;
         places[depth - 1] = place;
-        return Noted {
-            names: w.names,
-            marked: w.marked,
-            rows: w.rows,
-            fallen: w.fallen,
-            far: w.far,
-            place: w.place,
-            last: 0,
-        };
+        return Noted { last: 0, ..w };
     }
-    Noted {
-        names: w.names,
-        marked: w.marked,
-        rows: w.rows,
-        fallen: w.fallen,
-        far: w.far,
-        place,
-        last: w.last,
-    }
+    Noted { place, ..w }
 }
 
 // Behind a digit of a cost: a comma completes the vertex, and a closed bracket then also closes the bracket around it.
 fn end(
     cost: usize,
     depth: usize,
-    b: usize,
+    b: u8,
     w: Noted,
     masks: &[u64],
     lasts: &[u64],
@@ -76,20 +53,20 @@ fn end(
         (kept w (stacks masks.now lasts.now places.now) fars.old costs.old)
         (kept result (stacks masks.now lasts.now places.now) fars.new costs.new) }
 {
-    if b == 44 {
-        return newick_notes::complete(cost, w, fars, costs);
+    match b {
+        b',' => newick_notes::complete(cost, w, fars, costs),
+        b')' => {
+            let inner = newick_notes::complete(cost, w, fars, costs);
+            newick_notes::close(depth, inner, masks, lasts, places)
+        }
+        _ => w,
     }
-    if b == 41 {
-        let inner = newick_notes::complete(cost, w, fars, costs);
-        return newick_notes::close(depth, inner, masks, lasts, places);
-    }
-    w
 }
 
 // What the byte at this place says, behind what was read before it. It is one that a text of the profile can have there.
 fn note(
     s: Seen,
-    b: usize,
+    b: u8,
     place: usize,
     w: Noted,
     masks: &mut [u64],
@@ -104,25 +81,16 @@ fn note(
         (kept result (stacks masks.new lasts.new places.new) fars.new costs.new) }
 {
     match s {
-        Seen::Start => w,
-        Seen::Vertex { depth, count: _ } => begin(depth, b, place, w, masks, lasts, places),
-        Seen::Image {
-            x,
-            depth: _,
-            count: _,
-        } => newick_notes::name(x, b, w),
-        Seen::Closed { depth: _, count: _ } => w,
-        Seen::Blank { depth: _, count: _ } => w,
-        Seen::Cost { x, depth, count: _ } => end(x, depth, b, w, masks, lasts, places, fars, costs),
-        Seen::Ended => w,
-        Seen::Done => w,
-        Seen::Dead => w,
+        Seen::Vertex { depth, .. } => begin(depth, b, place, w, masks, lasts, places),
+        Seen::Image { x, .. } => newick_notes::name(x, b, w),
+        Seen::Cost { x, depth, .. } => end(x, depth, b, w, masks, lasts, places, fars, costs),
+        _ => w,
     }
 }
 
 // One way through the text. The first rows go to the two lent arrays, in the order in which their costs end. Of a text that is not of the
 // profile it says how many bytes begin one: the byte behind them is the first that no text of the profile could have there.
-pub fn scan(text: &[u8], fars: &mut [u64], costs: &mut [u32]) -> Scanned
+pub fn scan(text: &[u8], fars: &mut [u64], costs: &mut [u32]) -> Result<Noted, usize>
     requires { (length fars.old ≡ 128) × (length costs.old ≡ 128) }
     ensures { Says text.now result fars.new costs.new }
 {
@@ -132,19 +100,26 @@ pub fn scan(text: &[u8], fars: &mut [u64], costs: &mut [u32]) -> Scanned
     let mut places = [0usize; 64];
     let mut w = newick_notes::nothing();
     let mut s = Seen::Start;
-    let mut i = 0;
-    while i < text.len() {
-        let b = ground::wide(text[i]);
-        let next = newick_bytes::step(s, b, &mut outer);
+    for (i, byte) in text.iter().enumerate() {
+        let next = newick_bytes::step(s, *byte, &mut outer);
         if newick_bytes::is_dead(next) {
-            return Scanned::Stopped(i);
+            return Err(i);
         }
-        i += 1;
-        w = note(s, b, i, w, &mut masks, &mut lasts, &mut places, fars, costs);
+        w = note(
+            s,
+            *byte,
+            i + 1,
+            w,
+            &mut masks,
+            &mut lasts,
+            &mut places,
+            fars,
+            costs,
+        );
         s = next;
     }
     if newick_bytes::is_done(s) {
-        return Scanned::Whole(w);
+        return Ok(w);
     }
-    Scanned::Stopped(i)
+    Err(text.len())
 }

@@ -1,2 +1,2 @@
--- What is checked of the notes is what is checked of the tree.
 pub mod Checks
+pub mod Unnamed

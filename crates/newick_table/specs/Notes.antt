@@ -1,8 +1,7 @@
 -- What the notes of a whole text say: n image numbers, the images named, `noted` rows in the places of f and v, image 1's first, and the place of the
 -- first sibling out of order, 0 where there is none. Assumes nothing.
 use Rattle.std.specs.Prelude.{Bool, not, List, ◌∷◌, ℕ, ◌*◌, ◌-◌, eqb, get_or}
-use Rattle.ground.specs.Refusals.{refusal, refuse_if, room_check, ◌then◌}
-use Rattle.ground.specs.declared.Check.{Check}
+use Rattle.ground.specs.Refusals.{refusal, refuse_if, room_check, ◌then◌, Check}
 use Rattle.theory.specs.Checks.{images_check}
 use Rattle.theory.specs.FarSides.{holds}
 use Rattle.theory.specs.LinkTables.{Row}

@@ -1,10 +1,8 @@
 -- Settled examples of Newick text, computed. Assumes nothing.
-use Rattle.std.specs.Prelude.{List, [], ◌∷◌, refl, ◌≡◌, ℕ}
+use Rattle.std.specs.Prelude.{[], ◌∷◌, refl, ◌≡◌, Ok, Err}
 use Rattle.std.specs.Int.Count.{ones, ones_in}
 use Rattle.ground.specs.First.{first}
 use Rattle.ground.specs.Refusals.{refusal}
-use Rattle.ground.specs.declared.Check.TheVariants.{Passed, Refused}
-use Rattle.theory.specs.LinkTables.{Row}
 use Rattle.theory.specs.Tables.{limit}
 use Rattle.text.specs.Decimal.{decimal, digits}
 use Rattle.text.specs.Words.{bytes_of}
@@ -18,7 +16,7 @@ use Rattle.newick_text.specs.Reading.{read_checks, tree_in}
 unfoldable pub use Rattle.newick_text.specs.Examples.{rows_g, text_g}
 
 -- it is written as document 02's text, and this is read as it
-pub example_g_lem : (newick rows_g ≡ text_g) × (read_checks limit text_g 5 ≡ Passed) × (table_of (tree_in text_g) ≡ rows_g)
+pub example_g_lem : (newick rows_g ≡ text_g) × (read_checks limit text_g 5 ≡ Ok tt) × (table_of (tree_in text_g) ≡ rows_g)
 unfolding bytes_of rows_g text_g grown part side listed decimal digits run step lived names rows sorted insert fall_from first ones ones_in
 example_g_lem = (refl, refl, refl)
 
@@ -29,9 +27,9 @@ unfolding bytes_of grown part side listed decimal digits first
 example_e_lem = refl
 
 -- 18 at the first impossible byte: the empty text, 2 in the first place, a second digit there, a leading zero
-pub example_places : (read_checks limit [] 5 ≡ Refused (refusal 18 1 0 0 0))
-    × (read_checks limit (bytes_of "(2") 5 ≡ Refused (refusal 18 2 0 0 0))
-    × (read_checks limit (bytes_of "(10:") 5 ≡ Refused (refusal 18 3 0 0 0))
-    × (read_checks limit (bytes_of "(1:00") 5 ≡ Refused (refusal 18 5 0 0 0))
+pub example_places : (read_checks limit [] 5 ≡ Err (refusal 18 1 0 0 0))
+    × (read_checks limit (bytes_of "(2") 5 ≡ Err (refusal 18 2 0 0 0))
+    × (read_checks limit (bytes_of "(10:") 5 ≡ Err (refusal 18 3 0 0 0))
+    × (read_checks limit (bytes_of "(1:00") 5 ≡ Err (refusal 18 5 0 0 0))
 unfolding bytes_of run step lived
 example_places = (refl, refl, refl, refl)

@@ -1,12 +1,10 @@
 -- The checks of the Newick writer by their numbers: N rows, l the far sides, v the doubled costs. Assumes nothing.
-use Rattle.std.specs.Prelude.{List, [], ◌++◌, ◌∷◌, ℕ, length}
+use Rattle.std.specs.Prelude.{List, ℕ, length}
 use Rattle.ground.specs.InOrder.{InOrder}
 use Rattle.ground.specs.Laws.InOrder.{join-order, room-order}
-use Rattle.ground.specs.Refusals.{room_check}
-use Rattle.ground.specs.Steps.{Step, ◌by◌}
 use Rattle.theory.specs.LinkTables.{rows_of}
 use Rattle.theory.specs.Tables.{limit}
-use Rattle.links.specs.InOrder.{row-order, row_steps, size-order, size_steps}
+use Rattle.links.specs.InOrder.{row-order, size-order}
 use Rattle.newick_text.specs.LinkTrees.{newick}
 use Rattle.newick_writer.specs.Writing.{write_checks}
 pub use Rattle.newick_writer.specs.InOrder.{write_steps}

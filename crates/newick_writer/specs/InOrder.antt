@@ -1,14 +1,11 @@
 -- The checks of the Newick writer by their numbers: N rows, l the far sides, v the doubled costs. Assumes nothing.
 use Rattle.std.specs.Prelude.{List, [], ◌++◌, ◌∷◌, ℕ, length}
-use Rattle.ground.specs.InOrder.{InOrder}
-use Rattle.ground.specs.Laws.InOrder.{join-order, room-order}
 use Rattle.ground.specs.Refusals.{room_check}
 use Rattle.ground.specs.Steps.{Step, ◌by◌}
 use Rattle.theory.specs.LinkTables.{rows_of}
 use Rattle.theory.specs.Tables.{limit}
-use Rattle.links.specs.InOrder.{row-order, row_steps, size-order, size_steps}
+use Rattle.links.specs.InOrder.{row_steps, size_steps}
 use Rattle.newick_text.specs.LinkTrees.{newick}
-use Rattle.newick_writer.specs.Writing.{write_checks}
 
 -- 1, 10, 2, 12, 13, 3
 abbrev pub write_steps : ℕ → ℕ → List ℕ → List ℕ → ℕ → List Step

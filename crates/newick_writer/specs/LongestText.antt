@@ -1,5 +1,5 @@
 -- The longest text is reached: by the caterpillar of 64 images whose costs are all the greatest. Assumes nothing.
-use Rattle.std.specs.Prelude.{Bool, false, ◌&&◌, ◌||◌, List, map, ◌++◌, refl, ◌≡◌, ℕ, ◌-◌, ◌<◌, ◌^◌, ltb, get_or, length, replicate}
+use Rattle.std.specs.Prelude.{Bool, false, ◌&&◌, ◌||◌, List, map, ◌++◌, refl, ◌≡◌, ℕ, ◌-◌, ◌<◌, ◌^◌, ltb, get_or, length, replicate, Ok}
 use Rattle.std.proofs.Common.{◌∙◌}
 use Rattle.std.proofs.lemmas.List.{get_or-replicate}
 use borrow.Table.Steps.{cases}
@@ -7,7 +7,6 @@ use Rattle.ground.specs.First.{first}
 use Rattle.ground.specs.Laws.First.{first-all}
 use Rattle.ground.specs.Laws.Tests.{or_false}
 use Rattle.ground.specs.Ranges.{from}
-use Rattle.ground.specs.declared.Check.TheVariants.{Passed}
 use Rattle.theory.specs.FarSides.{inner}
 use Rattle.theory.specs.LinkTables.{rows_of}
 use Rattle.theory.specs.Tables.{limit}
@@ -39,7 +38,7 @@ none_bad : ltb (first bad_here 125) 125 ≡ false
 unfolding first bad_here
 none_bad = refl
 
-none_missing : first_check 13 (missing 64 long_fars) 64 ≡ Passed
+none_missing : first_check 13 (missing 64 long_fars) 64 ≡ Ok tt
 unfolding first missing
 none_missing = refl
 
@@ -55,7 +54,7 @@ good_row k h =
 pub long_links : Links limit 64 125 long_fars long_costs
 long_links =
     let r = passed_first 12 (bad_row limit 64 long_fars long_costs) 125 good_row in
-    let c : table_checks 64 125 long_fars long_costs ≡ Passed = rw (r, none_missing) refl in
+    let c : table_checks 64 125 long_fars long_costs ≡ (Ok tt) = rw (r, none_missing) refl in
     (link_checks_lem limit 64 125 long_fars long_costs).0 c
 
 -- ## Its text has 1,432 bytes

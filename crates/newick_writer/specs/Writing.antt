@@ -2,9 +2,7 @@
 -- Assumes nothing.
 use Rattle.std.specs.Prelude.{List, ◌≡◌, ℕ, ◌≤◌, length}
 use Rattle.ground.specs.Outcomes.{Outcome, written_if}
-use Rattle.ground.specs.Refusals.{room_check, ◌then◌}
-use Rattle.ground.specs.declared.Check.{Check}
-use Rattle.ground.specs.declared.Written.{Written}
+use Rattle.ground.specs.Refusals.{room_check, ◌then◌, Check, Written}
 use Rattle.theory.specs.LinkTables.{rows_of}
 use Rattle.theory.specs.Tables.{limit}
 use Rattle.links.specs.Checks.{row_checks, size_checks}

@@ -1,19 +1,18 @@
 -- The struct of numbers for the answer of a term report: where a table was refused, it has the figures of those before it. Assumes nothing.
-use Rattle.std.specs.Prelude.{ℕ}
-use Rattle.ground.specs.declared.Check.{Check}
-use Rattle.ground.specs.declared.Check.TheVariants.{Passed, Refused}
-use Rattle.report.specs.declared.TermReport.{TermReport}
+use Rattle.report.specs.Outcome.{Report}
+use Rattle.ground.specs.Refusals.{Check}
+use Rattle.std.specs.Prelude.{ℕ, Ok, Err}
 use Rattle.numbers.specs.Heads.{accepted, refused}
 use Rattle.numbers.specs.declared.KemotuikiHead.{KemotuikiHead}
 use Rattle.numbers.specs.declared.KemotuikiReport.{KemotuikiReport}
 
 -- accepted, or the refusal with the number of the table
 abbrev pub of_end : ℕ → Check → KemotuikiHead
-of_end k Passed = accepted
-of_end k (Refused r) = refused k r
+of_end k (Ok tt) = accepted
+of_end k (Err r) = refused k r
 
 -- the figures beside it
-abbrev pub of_report : TermReport → KemotuikiReport
+abbrev pub of_report : Report → KemotuikiReport
 of_report x = record {
   head = of_end x.table x.stop;
   images = x.figures.images;

@@ -8,23 +8,22 @@ ghost use Rattle.numbers.specs.Levels.{of_levels};
 ghost use Rattle.numbers.specs.Numbers.{of_index, of_order, of_rows, of_path, of_comparison, of_shared};
 ghost use Rattle.numbers.specs.Replays.{of_replayed};
 ghost use Rattle.numbers.specs.Reports.{of_end, of_report};
+ghost use Rattle.report.specs.Outcome.{end_in, seen_as, table_in};
 ghost use Rattle.numbers.specs.Stored.{of_bytes, of_batched, of_costs, of_links, of_chosen, of_tree};
 
-use batch::Batched;
-use choice::Chosen;
-use compare::Comparison;
-use consensus::Shared;
-use ground::{Answer, Check, Refusal, SignedAnswer, Written};
+use choice::Choice;
+use counts::Difference;
+use ground::{Refusal, TableRefusal};
 use leaving::Replayed;
-use newick_reader::NewickTree;
+use newick_reader::TreeRead;
 use report::TermReport;
-use stored_costs::StoredCosts;
-use stored_links::StoredLinks;
+use stored_costs::CostsRead;
+use stored_links::LinksRead;
 
 // The refusal's number, 0 where the call was accepted; the table that was refused, where a call takes more than one; the refusal's places.
 // Unused ones are 0.
 #[repr(C)]
-#[derive(Drop)]
+#[derive(Clone, Copy, Default)]
 pub struct KemotuikiHead {
     pub number: usize,
     pub table: usize,
@@ -36,7 +35,7 @@ pub struct KemotuikiHead {
 
 // The index of a division, below 0 where some choice of images speaks against it.
 #[repr(C)]
-#[derive(Drop)]
+#[derive(Clone, Copy)]
 pub struct KemotuikiIndex {
     pub head: KemotuikiHead,
     pub signed_index: i64,
@@ -44,7 +43,7 @@ pub struct KemotuikiIndex {
 
 // How many images were written.
 #[repr(C)]
-#[derive(Drop)]
+#[derive(Clone, Copy)]
 pub struct KemotuikiOrder {
     pub head: KemotuikiHead,
     pub images: usize,
@@ -52,7 +51,7 @@ pub struct KemotuikiOrder {
 
 // How many groups were written.
 #[repr(C)]
-#[derive(Drop)]
+#[derive(Clone, Copy)]
 pub struct KemotuikiLevels {
     pub head: KemotuikiHead,
     pub groups: usize,
@@ -60,7 +59,7 @@ pub struct KemotuikiLevels {
 
 // How many rows were written.
 #[repr(C)]
-#[derive(Drop)]
+#[derive(Clone, Copy)]
 pub struct KemotuikiRows {
     pub head: KemotuikiHead,
     pub rows: usize,
@@ -68,7 +67,7 @@ pub struct KemotuikiRows {
 
 // The path cost of two images.
 #[repr(C)]
-#[derive(Drop)]
+#[derive(Clone, Copy)]
 pub struct KemotuikiPath {
     pub head: KemotuikiHead,
     pub cost: usize,
@@ -76,7 +75,7 @@ pub struct KemotuikiPath {
 
 // Two trees compared: inner rows of each, common far sides, the Robinson-Foulds count and what it stands over.
 #[repr(C)]
-#[derive(Drop)]
+#[derive(Clone, Copy)]
 pub struct KemotuikiComparison {
     pub head: KemotuikiHead,
     pub inner_first: usize,
@@ -88,7 +87,7 @@ pub struct KemotuikiComparison {
 
 // How many bytes were written.
 #[repr(C)]
-#[derive(Drop)]
+#[derive(Clone, Copy)]
 pub struct KemotuikiBytes {
     pub head: KemotuikiHead,
     pub used: usize,
@@ -96,7 +95,7 @@ pub struct KemotuikiBytes {
 
 // A stored cost table: its images, and the bytes that it used.
 #[repr(C)]
-#[derive(Drop)]
+#[derive(Clone, Copy)]
 pub struct KemotuikiCosts {
     pub head: KemotuikiHead,
     pub n: usize,
@@ -105,7 +104,7 @@ pub struct KemotuikiCosts {
 
 // A stored link table: its images, its rows, and the bytes that it used.
 #[repr(C)]
-#[derive(Drop)]
+#[derive(Clone, Copy)]
 pub struct KemotuikiLinks {
     pub head: KemotuikiHead,
     pub n: usize,
@@ -115,7 +114,7 @@ pub struct KemotuikiLinks {
 
 // The table that was chosen, 1 or 2, and the bytes that it used.
 #[repr(C)]
-#[derive(Drop)]
+#[derive(Clone, Copy)]
 pub struct KemotuikiChoice {
     pub head: KemotuikiHead,
     pub chosen: usize,
@@ -124,7 +123,7 @@ pub struct KemotuikiChoice {
 
 // The tree of a Newick text: its images and its rows.
 #[repr(C)]
-#[derive(Drop)]
+#[derive(Clone, Copy)]
 pub struct KemotuikiTree {
     pub head: KemotuikiHead,
     pub n: usize,
@@ -133,7 +132,7 @@ pub struct KemotuikiTree {
 
 // Where a replay ended: the images that are left, the rows written, and the event that was refused, 0 where it is the start or none was.
 #[repr(C)]
-#[derive(Drop)]
+#[derive(Clone, Copy)]
 pub struct KemotuikiReplay {
     pub head: KemotuikiHead,
     pub images: usize,
@@ -143,7 +142,7 @@ pub struct KemotuikiReplay {
 
 // The figures of a term report, as `report::TermReport` has them; where a table was refused, its number stands in the head.
 #[repr(C)]
-#[derive(Drop)]
+#[derive(Clone, Copy)]
 pub struct KemotuikiReport {
     pub head: KemotuikiHead,
     pub images: usize,
@@ -161,303 +160,341 @@ pub struct KemotuikiReport {
 fn accept() -> KemotuikiHead
     ensures { result ≡ accepted }
 {
-    KemotuikiHead {
-        number: 0,
-        table: 0,
-        a: 0,
-        b: 0,
-        c: 0,
-        d: 0,
-    }
+    KemotuikiHead::default()
 }
 
 // The head of a refusal, with the table's number beside the places.
-fn refuse(table: usize, r: Refusal) -> KemotuikiHead
-    ensures { result ≡ refused table r }
-{
-    KemotuikiHead {
-        number: r.number as usize,
-        table,
-        a: r.a,
-        b: r.b,
-        c: r.c,
-        d: r.d,
+impl From<TableRefusal> for KemotuikiHead {
+    ghost from_gives = { λ r h. h ≡ refused r.table r.refusal };
+
+    fn from(r: TableRefusal) -> KemotuikiHead {
+        KemotuikiHead {
+            number: r.refusal.number as usize,
+            table: r.table,
+            a: r.refusal.a,
+            b: r.refusal.b,
+            c: r.refusal.c,
+            d: r.refusal.d,
+        }
+    }
+}
+
+// The head of a refusal that is no table's.
+impl From<Refusal> for KemotuikiHead {
+    ghost from_gives = { λ r h. h ≡ refused 0 r };
+
+    fn from(r: Refusal) -> KemotuikiHead {
+        r.in_table(0).into()
+    }
+}
+
+// The head of what passed, or of its refusal.
+impl From<Result<(), TableRefusal>> for KemotuikiHead {
+    ghost from_gives = { λ x h. h ≡ of_end (table_in x) (end_in x) };
+
+    fn from(x: Result<(), TableRefusal>) -> KemotuikiHead {
+        match x {
+            Ok(()) => accept(),
+            Err(r) => r.into(),
+        }
+    }
+}
+
+// The same where the refusal is no table's.
+impl From<Result<(), Refusal>> for KemotuikiHead {
+    ghost from_gives = { λ x h. h ≡ of_end 0 x };
+
+    fn from(x: Result<(), Refusal>) -> KemotuikiHead {
+        match x {
+            Ok(()) => accept(),
+            Err(r) => r.into(),
+        }
     }
 }
 
 // The numbers of an index.
-pub fn of_index(x: SignedAnswer) -> KemotuikiIndex
-    ensures { result ≡ of_index x }
-{
-    match x {
-        SignedAnswer::Value(v) => KemotuikiIndex {
-            head: accept(),
-            signed_index: v,
-        },
-        SignedAnswer::Refused(r) => KemotuikiIndex {
-            head: refuse(0, r),
-            signed_index: 0,
-        },
+impl From<Result<i64, Refusal>> for KemotuikiIndex {
+    ghost from_gives = { λ x r. r ≡ of_index x };
+
+    fn from(x: Result<i64, Refusal>) -> KemotuikiIndex {
+        match x {
+            Ok(v) => KemotuikiIndex {
+                head: accept(),
+                signed_index: v,
+            },
+            Err(r) => KemotuikiIndex {
+                head: r.into(),
+                signed_index: 0,
+            },
+        }
     }
 }
 
 // The numbers of an order.
-pub fn of_order(x: Written) -> KemotuikiOrder
-    ensures { result ≡ of_order x }
-{
-    match x {
-        Written::Places(images) => KemotuikiOrder {
-            head: accept(),
-            images,
-        },
-        Written::Refused(r) => KemotuikiOrder {
-            head: refuse(0, r),
-            images: 0,
-        },
+impl From<Result<usize, Refusal>> for KemotuikiOrder {
+    ghost from_gives = { λ x r. r ≡ of_order x };
+
+    fn from(x: Result<usize, Refusal>) -> KemotuikiOrder {
+        match x {
+            Ok(images) => KemotuikiOrder {
+                head: accept(),
+                images,
+            },
+            Err(r) => KemotuikiOrder {
+                head: r.into(),
+                images: 0,
+            },
+        }
     }
 }
 
 // The numbers of the reading of levels.
-pub fn of_levels(x: Written) -> KemotuikiLevels
-    ensures { result ≡ of_levels x }
-{
-    match x {
-        Written::Places(groups) => KemotuikiLevels {
-            head: accept(),
-            groups,
-        },
-        Written::Refused(r) => KemotuikiLevels {
-            head: refuse(0, r),
-            groups: 0,
-        },
+impl From<Result<usize, Refusal>> for KemotuikiLevels {
+    ghost from_gives = { λ x r. r ≡ of_levels x };
+
+    fn from(x: Result<usize, Refusal>) -> KemotuikiLevels {
+        match x {
+            Ok(groups) => KemotuikiLevels {
+                head: accept(),
+                groups,
+            },
+            Err(r) => KemotuikiLevels {
+                head: r.into(),
+                groups: 0,
+            },
+        }
     }
 }
 
 // The numbers of a call that wrote rows.
-pub fn of_rows(x: Written) -> KemotuikiRows
-    ensures { result ≡ of_rows x }
-{
-    match x {
-        Written::Places(rows) => KemotuikiRows {
-            head: accept(),
-            rows,
-        },
-        Written::Refused(r) => KemotuikiRows {
-            head: refuse(0, r),
-            rows: 0,
-        },
+impl From<Result<usize, Refusal>> for KemotuikiRows {
+    ghost from_gives = { λ x r. r ≡ of_rows x };
+
+    fn from(x: Result<usize, Refusal>) -> KemotuikiRows {
+        match x {
+            Ok(rows) => KemotuikiRows {
+                head: accept(),
+                rows,
+            },
+            Err(r) => KemotuikiRows {
+                head: r.into(),
+                rows: 0,
+            },
+        }
     }
 }
 
 // The numbers of a path cost.
-pub fn of_path(x: Answer) -> KemotuikiPath
-    ensures { result ≡ of_path x }
-{
-    match x {
-        Answer::Value(v) => KemotuikiPath {
-            head: accept(),
-            cost: v as usize,
-        },
-        Answer::Refused(r) => KemotuikiPath {
-            head: refuse(0, r),
-            cost: 0,
-        },
+impl From<Result<u32, Refusal>> for KemotuikiPath {
+    ghost from_gives = { λ x r. r ≡ of_path x };
+
+    fn from(x: Result<u32, Refusal>) -> KemotuikiPath {
+        match x {
+            Ok(v) => KemotuikiPath {
+                head: accept(),
+                cost: v as usize,
+            },
+            Err(r) => KemotuikiPath {
+                head: r.into(),
+                cost: 0,
+            },
+        }
     }
 }
 
 // The numbers of a comparison.
-pub fn of_comparison(x: Comparison) -> KemotuikiComparison
-    ensures { result ≡ of_comparison x }
-{
-    match x {
-        Comparison::Compared(w) => KemotuikiComparison {
-            head: accept(),
-            inner_first: w.first,
-            inner_second: w.second,
-            common: w.common,
-            count: w.count,
-            over: w.over,
-        },
-        Comparison::Refused(table, r) => KemotuikiComparison {
-            head: refuse(table, r),
-            inner_first: 0,
-            inner_second: 0,
-            common: 0,
-            count: 0,
-            over: 0,
-        },
+impl From<Result<Difference, TableRefusal>> for KemotuikiComparison {
+    ghost from_gives = { λ x r. r ≡ of_comparison x };
+
+    fn from(x: Result<Difference, TableRefusal>) -> KemotuikiComparison {
+        match x {
+            Ok(w) => KemotuikiComparison {
+                head: accept(),
+                inner_first: w.first,
+                inner_second: w.second,
+                common: w.common,
+                count: w.count,
+                over: w.over,
+            },
+            Err(r) => KemotuikiComparison {
+                head: r.into(),
+                inner_first: 0,
+                inner_second: 0,
+                common: 0,
+                count: 0,
+                over: 0,
+            },
+        }
     }
 }
 
 // The numbers of the rows that a team shares.
-pub fn of_shared(x: Shared) -> KemotuikiRows
-    ensures { result ≡ of_shared x }
-{
-    match x {
-        Shared::Rows(rows) => KemotuikiRows {
-            head: accept(),
-            rows,
-        },
-        Shared::Refused(table, r) => KemotuikiRows {
-            head: refuse(table, r),
-            rows: 0,
-        },
+impl From<Result<usize, TableRefusal>> for KemotuikiRows {
+    ghost from_gives = { λ x r. r ≡ of_shared x };
+
+    fn from(x: Result<usize, TableRefusal>) -> KemotuikiRows {
+        match x {
+            Ok(rows) => KemotuikiRows {
+                head: accept(),
+                rows,
+            },
+            Err(r) => KemotuikiRows {
+                head: r.into(),
+                rows: 0,
+            },
+        }
     }
 }
 
 // The numbers of a call that wrote bytes.
-pub fn of_bytes(x: Written) -> KemotuikiBytes
-    ensures { result ≡ of_bytes x }
-{
-    match x {
-        Written::Places(used) => KemotuikiBytes {
-            head: accept(),
-            used,
-        },
-        Written::Refused(r) => KemotuikiBytes {
-            head: refuse(0, r),
-            used: 0,
-        },
+impl From<Result<usize, Refusal>> for KemotuikiBytes {
+    ghost from_gives = { λ x r. r ≡ of_bytes x };
+
+    fn from(x: Result<usize, Refusal>) -> KemotuikiBytes {
+        match x {
+            Ok(used) => KemotuikiBytes {
+                head: accept(),
+                used,
+            },
+            Err(r) => KemotuikiBytes {
+                head: r.into(),
+                used: 0,
+            },
+        }
     }
 }
 
 // The numbers of a batch.
-pub fn of_batched(x: Batched) -> KemotuikiBytes
-    ensures { result ≡ of_batched x }
-{
-    match x {
-        Batched::Bytes(used) => KemotuikiBytes {
-            head: accept(),
-            used,
-        },
-        Batched::Refused(table, r) => KemotuikiBytes {
-            head: refuse(table, r),
-            used: 0,
-        },
+impl From<Result<usize, TableRefusal>> for KemotuikiBytes {
+    ghost from_gives = { λ x r. r ≡ of_batched x };
+
+    fn from(x: Result<usize, TableRefusal>) -> KemotuikiBytes {
+        match x {
+            Ok(used) => KemotuikiBytes {
+                head: accept(),
+                used,
+            },
+            Err(r) => KemotuikiBytes {
+                head: r.into(),
+                used: 0,
+            },
+        }
     }
 }
 
 // The numbers of a stored cost table.
-pub fn of_costs(x: StoredCosts) -> KemotuikiCosts
-    ensures { result ≡ of_costs x }
-{
-    match x {
-        StoredCosts::Table { n, used } => KemotuikiCosts {
-            head: accept(),
-            n,
-            used,
-        },
-        StoredCosts::Refused(r) => KemotuikiCosts {
-            head: refuse(0, r),
-            n: 0,
-            used: 0,
-        },
+impl From<Result<CostsRead, Refusal>> for KemotuikiCosts {
+    ghost from_gives = { λ x r. r ≡ of_costs x };
+
+    fn from(x: Result<CostsRead, Refusal>) -> KemotuikiCosts {
+        match x {
+            Ok(read) => KemotuikiCosts {
+                head: accept(),
+                n: read.n,
+                used: read.used,
+            },
+            Err(r) => KemotuikiCosts {
+                head: r.into(),
+                n: 0,
+                used: 0,
+            },
+        }
     }
 }
 
 // The numbers of a stored link table.
-pub fn of_links(x: StoredLinks) -> KemotuikiLinks
-    ensures { result ≡ of_links x }
-{
-    match x {
-        StoredLinks::Table { n, count, used } => KemotuikiLinks {
-            head: accept(),
-            n,
-            rows: count,
-            used,
-        },
-        StoredLinks::Refused(r) => KemotuikiLinks {
-            head: refuse(0, r),
-            n: 0,
-            rows: 0,
-            used: 0,
-        },
+impl From<Result<LinksRead, Refusal>> for KemotuikiLinks {
+    ghost from_gives = { λ x r. r ≡ of_links x };
+
+    fn from(x: Result<LinksRead, Refusal>) -> KemotuikiLinks {
+        match x {
+            Ok(read) => KemotuikiLinks {
+                head: accept(),
+                n: read.n,
+                rows: read.count,
+                used: read.used,
+            },
+            Err(r) => KemotuikiLinks {
+                head: r.into(),
+                n: 0,
+                rows: 0,
+                used: 0,
+            },
+        }
     }
 }
 
 // The numbers of a choice.
-pub fn of_chosen(x: Chosen) -> KemotuikiChoice
-    ensures { result ≡ of_chosen x }
-{
-    match x {
-        Chosen::Table(chosen, used) => KemotuikiChoice {
-            head: accept(),
-            chosen,
-            used,
-        },
-        Chosen::Refused(table, r) => KemotuikiChoice {
-            head: refuse(table, r),
-            chosen: 0,
-            used: 0,
-        },
+impl From<Result<Choice, TableRefusal>> for KemotuikiChoice {
+    ghost from_gives = { λ x r. r ≡ of_chosen x };
+
+    fn from(x: Result<Choice, TableRefusal>) -> KemotuikiChoice {
+        match x {
+            Ok(choice) => KemotuikiChoice {
+                head: accept(),
+                chosen: choice.table,
+                used: choice.used,
+            },
+            Err(r) => KemotuikiChoice {
+                head: r.into(),
+                chosen: 0,
+                used: 0,
+            },
+        }
     }
 }
 
 // The numbers of the tree of a Newick text.
-pub fn of_tree(x: NewickTree) -> KemotuikiTree
-    ensures { result ≡ of_tree x }
-{
-    match x {
-        NewickTree::Table { n, count: rows } => KemotuikiTree {
-            head: accept(),
-            n,
-            rows,
-        },
-        NewickTree::Refused(r) => KemotuikiTree {
-            head: refuse(0, r),
-            n: 0,
-            rows: 0,
-        },
+impl From<Result<TreeRead, Refusal>> for KemotuikiTree {
+    ghost from_gives = { λ x r. r ≡ of_tree x };
+
+    fn from(x: Result<TreeRead, Refusal>) -> KemotuikiTree {
+        match x {
+            Ok(tree) => KemotuikiTree {
+                head: accept(),
+                n: tree.n,
+                rows: tree.count,
+            },
+            Err(r) => KemotuikiTree {
+                head: r.into(),
+                n: 0,
+                rows: 0,
+            },
+        }
     }
 }
 
 // The numbers of a replay; those of a refused event have the table before it.
-pub fn of_replayed(x: Replayed) -> KemotuikiReplay
-    ensures { result ≡ of_replayed x }
-{
-    let stop = x.stop;
-    match stop {
-        Check::Passed => KemotuikiReplay {
-            head: accept(),
-            images: x.images,
-            rows: x.rows,
-            event: x.event,
-        },
-        Check::Refused(r) => KemotuikiReplay {
-            head: refuse(0, r),
-            images: x.images,
-            rows: x.rows,
-            event: x.event,
-        },
-    }
-}
+impl From<Replayed> for KemotuikiReplay {
+    ghost from_gives = { λ x r. r ≡ of_replayed x };
 
-// The head of how a report ended: accepted, or the refusal with the table's number.
-fn of_end(table: usize, stop: Check) -> KemotuikiHead
-    ensures { result ≡ of_end table stop }
-{
-    match stop {
-        Check::Passed => accept(),
-        Check::Refused(r) => refuse(table, r),
+    fn from(x: Replayed) -> KemotuikiReplay {
+        KemotuikiReplay {
+            head: x.stop.into(),
+            images: x.images,
+            rows: x.rows,
+            event: x.event,
+        }
     }
 }
 
 // The numbers of a term report; those of a refused table are of the tables before it.
-pub fn of_report(x: TermReport) -> KemotuikiReport
-    ensures { result ≡ of_report x }
-{
-    let figures = x.figures;
-    let stop = x.stop;
-    KemotuikiReport {
-        head: of_end(x.table, stop),
-        images: figures.images,
-        tables: figures.tables,
-        accepted: figures.accepted,
-        apart: figures.apart,
-        sides: figures.sides,
-        pairs: figures.pairs,
-        count_sum: figures.count_sum,
-        largest_count: figures.largest_count,
-        used: figures.used,
+impl From<TermReport> for KemotuikiReport {
+    ghost from_gives = { λ x r. r ≡ of_report (seen_as x) };
+
+    fn from(x: TermReport) -> KemotuikiReport {
+        let figures = x.figures;
+        KemotuikiReport {
+            head: x.stop.into(),
+            images: figures.images,
+            tables: figures.tables,
+            accepted: figures.accepted,
+            apart: figures.apart,
+            sides: figures.sides,
+            pairs: figures.pairs,
+            count_sum: figures.count_sum,
+            largest_count: figures.largest_count,
+            used: figures.used,
+        }
     }
 }

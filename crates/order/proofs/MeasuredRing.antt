@@ -1,8 +1,7 @@
 -- What the order call left where its table is a little off. Assumes nothing.
-use Rattle.std.specs.Prelude.{List, ◌≡◌, ℕ, ◌-◌, length}
+use Rattle.ground.specs.Refusals.{Written}
+use Rattle.std.specs.Prelude.{List, ◌≡◌, ℕ, ◌-◌, length, Ok}
 use Rattle.ground.specs.Outcomes.{Left}
-use Rattle.ground.specs.declared.Written.{Written}
-use Rattle.ground.specs.declared.Written.TheVariants.{Places}
 use Rattle.theory.specs.LinkTables.{Row}
 use Rattle.theory.specs.MeasuredRing.{MeasuredRing}
 use Rattle.theory.proofs.MeasuredRing.{measured_ring}
@@ -18,7 +17,7 @@ use Rattle.order.proofs.Promises.{order_wrote}
 -- by more than 4 D for each image but three, by either table; every far side of T with a doubled cost above 4 D is one run on it; and
 -- what it costs by t is the sum of all doubled costs of T, less n D or more by 3 n - 8 times D at most.
 pub order-measured : (L n : ℕ) (t : List ℕ) (first last : ℕ) (e₀ : List ℕ) (r : Written) (e : List ℕ) (count : ℕ)
-    → Left (order_outcome L n t first last e₀) r e → r ≡ Places count
+    → Left (order_outcome L n t first last e₀) r e → r ≡ Ok count
     → (D : ℕ) (d : ℕ → ℕ → ℕ) (T : List Row) → WellFormed L d n → Exact L d n T → Near D d (cost t n) n
     → MeasuredRing D d (cost t n) n (first - 1) (counted n e) T
 order-measured L n t first last e₀ r e count p z D d T c x near =

@@ -1,44 +1,35 @@
 -- What the promise of the order call says: what an accepted call wrote, that a refused one altered nothing, and that no second
 -- answer meets it. Assumes nothing.
-use Rattle.std.specs.Prelude.{List, [], ◌++◌, ◌∷◌, refl, ◌≡◌, suc, zero, ℕ, ◌*◌, ◌+◌, ◌-◌, ◌≤◌, drop, get_or, length, take}
+use Rattle.ground.specs.Refusals.{Check, Written}
+use Rattle.std.specs.Prelude.{List, [], refl, ◌≡◌, suc, zero, ℕ, ◌-◌, ◌≤◌, drop, get_or, length, take, Ok, Err}
 use Rattle.std.proofs.Common.{ap, sym, ◌∙◌, arith, length-append, length-drop, drop_at, get_or-take, take_at}
 use Rattle.std.proofs.lemmas.List.{length-map}
-use Rattle.ground.specs.Bits.{bit}
 use Rattle.ground.specs.Buffers.{front}
-use Rattle.ground.specs.Filters.{Each}
 use Rattle.ground.specs.Members.{occurs}
 use Rattle.ground.specs.Outcomes.{Left}
-use Rattle.ground.specs.declared.Check.{Check}
-use Rattle.ground.specs.declared.Check.TheVariants.{Passed, Refused}
 use Rattle.ground.specs.declared.Refusal.{Refusal}
-use Rattle.ground.specs.declared.Written.{Written}
-use Rattle.ground.specs.declared.Written.TheVariants.{Places}
 use Rattle.theory.specs.Demands.{Ordered}
 use Rattle.theory.proofs.Demands.{ordered}
-use Rattle.theory.specs.FarSides.{FarSide}
-use Rattle.theory.specs.FourPoint.{FourPointWithin}
-use Rattle.theory.specs.Index.{AtLeast}
-use Rattle.theory.specs.LinkTables.{Row, all_costs}
-use Rattle.theory.specs.Order.{AnOrder, closed, grow, order}
-use Rattle.theory.specs.OrderRules.{IsNext, OneRun}
-use Rattle.theory.specs.Readings.{Exact}
+use Rattle.theory.specs.Order.{grow, order}
 use Rattle.theory.specs.Tables.{cost}
 use Rattle.order.proofs.Laws.Asked.{asked_ends, asked_passed, passed_asked}
 use Rattle.order.specs.Laws.Counted.{back-suc, last_suc, occurs-suc}
 use Rattle.order.specs.Outcome.{OrderAsked, counted, images, order_checks, order_outcome}
-use Rattle.ground.specs.declared.Written.TheVariants as written
 pub use Rattle.order.specs.Promises.{OrderLeft}
 
 -- ## The two ways out of the call
 
 module _ (L n : ℕ) (t : List ℕ) (first last : ℕ) (o : List ℕ) where
-  pub left-refused : {c : Check} {r : Refusal} → c ≡ Refused r → c ≡ order_checks L n t first last (length o)
-      → Left (order_outcome L n t first last o) (written.Refused r) o
+  pub left-refused : {c : Check} {r : Refusal} → c ≡ Err r → c ≡ order_checks L n t first last (length o)
+      → Left (order_outcome L n t first last o) (Err r) o
   left-refused e f = rw (← f, e) (record { answered = refl; left = refl })
 
-  pub left_written : {c : Check} (e : List ℕ) → c ≡ Passed → c ≡ order_checks L n t first last (length o)
-      → e ≡ front (images n t first last) o → Left (order_outcome L n t first last o) (Places n) e
+  pub left_written : {c : Check} (e : List ℕ) → c ≡ Ok tt → c ≡ order_checks L n t first last (length o)
+      → e ≡ front (images n t first last) o → Left (order_outcome L n t first last o) (Ok n) e
   left_written e p f q = rw (← f, p) (record { answered = refl; left = q })
+
+-- what the author of the call names
+pub ruleset ways_out = (left-refused, left_written)
 
 -- ## An accepted call
 
@@ -98,25 +89,25 @@ module _ (L n : ℕ) (t : List ℕ) (first last : ℕ) (e₀ : List ℕ) where
   -- ## The laws of the promise
 
   -- asked for what may be asked, it accepts
-  pub order-accepted : (r : Written) (e : List ℕ) → Left (order_outcome L n t first last e₀) r e → OrderAsked L n t first last (length e₀) → r ≡ Places n
+  pub order-accepted : (r : Written) (e : List ℕ) → Left (order_outcome L n t first last e₀) r e → OrderAsked L n t first last (length e₀) → r ≡ Ok n
   order-accepted r e p a = p.answered ∙ rw (asked_passed L n t first last (length e₀) a)
 
   -- accepted, it was asked for that, answers n and wrote the order
-  pub order_wrote : (r : Written) (e : List ℕ) (count : ℕ) → Left (order_outcome L n t first last e₀) r e → r ≡ Places count
+  pub order_wrote : (r : Written) (e : List ℕ) (count : ℕ) → Left (order_outcome L n t first last e₀) r e → r ≡ Ok count
       → (count ≡ n) × OrderLeft L n t first last e₀ e
   order_wrote r e count p z = go (order_checks L n t first last (length e₀)) refl p
     where
       go : (c : Check) → order_checks L n t first last (length e₀) ≡ c → Left (order_outcome L n t first last e₀) r e
           → (count ≡ n) × OrderLeft L n t first last e₀ e
-      go Passed s p = let w = rw s at p.answered in (cc, front_wrote (passed_asked L n t first last (length e₀) s) e (rw s at p.left))
-      go (Refused q) s p = absurd (let w = rw s at p.answered in let y : ◌≡◌ {A = ℕ} 0 1 = cc in omega arith)
+      go (Ok tt) s p = let w = rw s at p.answered in (cc, front_wrote (passed_asked L n t first last (length e₀) s) e (rw s at p.left))
+      go (Err q) s p = absurd (let w = rw s at p.answered in let y : ◌≡◌ {A = ℕ} 0 1 = cc in omega arith)
 
   -- refused, it gives the first refusal of the checks and altered nothing
-  pub order-refused : (r : Written) (e : List ℕ) (q : Refusal) → Left (order_outcome L n t first last e₀) r e → r ≡ written.Refused q
-      → (order_checks L n t first last (length e₀) ≡ Refused q) × (e ≡ e₀)
+  pub order-refused : (r : Written) (e : List ℕ) (q : Refusal) → Left (order_outcome L n t first last e₀) r e → r ≡ Err q
+      → (order_checks L n t first last (length e₀) ≡ Err q) × (e ≡ e₀)
   order-refused r e q p z = go (order_checks L n t first last (length e₀)) refl p
     where
       go : (c : Check) → order_checks L n t first last (length e₀) ≡ c → Left (order_outcome L n t first last e₀) r e
-          → (order_checks L n t first last (length e₀) ≡ Refused q) × (e ≡ e₀)
-      go Passed s p = absurd (let w = rw s at p.answered in let y : ◌≡◌ {A = ℕ} 0 1 = cc in omega arith)
-      go (Refused u) s p = let w = rw s at p.answered in (let v : u ≡ q = cc in s ∙ ap Refused v, rw s at p.left)
+          → (order_checks L n t first last (length e₀) ≡ Err q) × (e ≡ e₀)
+      go (Ok tt) s p = absurd (let w = rw s at p.answered in let y : ◌≡◌ {A = ℕ} 0 1 = cc in omega arith)
+      go (Err u) s p = let w = rw s at p.answered in (let v : u ≡ q = cc in s ∙ ap Err v, rw s at p.left)

@@ -2,9 +2,7 @@
 -- Assumes nothing.
 use Rattle.std.specs.Prelude.{Bool, ◌||◌, List, map, ◌≡◌, suc, ℕ, ◌-◌, ◌≤◌, eqb, length, take}
 use Rattle.ground.specs.Outcomes.{Outcome, front_if}
-use Rattle.ground.specs.Refusals.{outside, places_if, refusal, refuse_if, room_check, ◌then◌}
-use Rattle.ground.specs.declared.Check.{Check}
-use Rattle.ground.specs.declared.Written.{Written}
+use Rattle.ground.specs.Refusals.{outside, places_if, refusal, refuse_if, room_check, ◌then◌, Check, Written}
 use Rattle.theory.specs.Order.{order}
 use Rattle.theory.specs.OrderRules.{counted_from0}
 use Rattle.theory.specs.Tables.{CostTable, cost}

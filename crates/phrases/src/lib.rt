@@ -8,6 +8,7 @@ ghost use Rattle.phrases.specs.Said.{saying_text};
 ghost use Rattle.phrases.specs.ByPlace.{above_old, bad_row};
 
 // Words, and one place behind them.
+#[tactic(auto, using(text::proofs::Laws::Lengths::longest))]
 pub fn put_one(out: &mut [u8], at: usize, words: &[u8], a: usize) -> usize
     requires { at + length words.now + 21 ≤ length out.old }
     ensures { Put (words.now ++ fields (a ∷ [])) at out.old result out.new }
@@ -17,6 +18,7 @@ pub fn put_one(out: &mut [u8], at: usize, words: &[u8], a: usize) -> usize
 }
 
 // Words, and two places behind them.
+#[tactic(auto, using(text::proofs::Laws::Lengths::longest))]
 pub fn put_two(out: &mut [u8], at: usize, words: &[u8], a: usize, b: usize) -> usize
     requires { at + length words.now + 42 ≤ length out.old }
     ensures { Put (words.now ++ fields (a ∷ b ∷ [])) at out.old result out.new }
@@ -27,6 +29,7 @@ pub fn put_two(out: &mut [u8], at: usize, words: &[u8], a: usize, b: usize) -> u
 }
 
 // Words, and three places behind them.
+#[tactic(auto, using(text::proofs::Laws::Lengths::longest))]
 pub fn put_three(out: &mut [u8], at: usize, words: &[u8], a: usize, b: usize, c: usize) -> usize
     requires { at + length words.now + 63 ≤ length out.old }
     ensures { Put (words.now ++ fields (a ∷ b ∷ c ∷ [])) at out.old result out.new }
@@ -38,6 +41,7 @@ pub fn put_three(out: &mut [u8], at: usize, words: &[u8], a: usize, b: usize, c:
 }
 
 // Words, and all four places behind them.
+#[tactic(auto, using(text::proofs::Laws::Lengths::longest))]
 pub fn put_four(
     out: &mut [u8],
     at: usize,
@@ -50,11 +54,15 @@ pub fn put_four(
     requires { at + length words.now + 84 ≤ length out.old }
     ensures { Put (words.now ++ fields (a ∷ b ∷ c ∷ d ∷ [])) at out.old result out.new }
 {
-    let p = put_three(out, at, words, a, b, c);
-    text::put_field(out, p, d as u64)
+    let p = text::put_word(out, at, words);
+    let q = text::put_field(out, p, a as u64);
+    let s = text::put_field(out, q, b as u64);
+    let t = text::put_field(out, s, c as u64);
+    text::put_field(out, t, d as u64)
 }
 
 // Refusal 12, whose row is 0 where the index call gives it.
+#[tactic(auto, using(crate::proofs::ByPlace::without_row, crate::proofs::ByPlace::with_row), unfolding(text::specs::Words::bytes_of))]
 pub fn put_bad_row(out: &mut [u8], at: usize, row: usize) -> usize
     requires { at + 163 ≤ length out.old }
     ensures { Put (saying_text (bad_row row)) at out.old result out.new }

@@ -7,35 +7,28 @@ ghost use Rattle.theory.specs.Outcomes.{LeftRows};
 ghost use Rattle.positions.specs.Fields.{field_at, field_checks, reach};
 ghost use Rattle.positions.specs.Stands.{behind, costs_at, links_at};
 
-use ground::{Check, Refusal};
-use stored_costs::StoredCosts;
-use stored_links::StoredLinks;
+use ground::Refusal;
+use stored_costs::CostsRead;
+use stored_links::LinksRead;
 
 // What reading a cost table answers, and where the reader then stands.
-#[derive(Drop)]
+#[derive(Clone, Copy)]
 pub struct CostsTaken {
-    pub table: StoredCosts,
+    pub table: Result<CostsRead, Refusal>,
     pub position: usize,
 }
 
 // What reading a link table answers, and where the reader then stands.
-#[derive(Drop)]
+#[derive(Clone, Copy)]
 pub struct LinksTaken {
-    pub table: StoredLinks,
+    pub table: Result<LinksRead, Refusal>,
     pub position: usize,
 }
 
-// What reading a field answers: the number in its bits, or the refusal.
-#[derive(Drop)]
-pub enum Field {
-    Value(u64),
-    Refused(Refusal),
-}
-
-// What reading a field answers, and where the reader then stands.
-#[derive(Drop)]
+// What reading a field answers, the number in its bits or the refusal, and where the reader then stands.
+#[derive(Clone, Copy)]
 pub struct FieldTaken {
-    pub field: Field,
+    pub field: Result<u64, Refusal>,
     pub position: usize,
 }
 
@@ -64,10 +57,10 @@ pub fn costs_at<'a, 'b>(bytes: &'a [u8], position: usize, out: &'b mut [u32]) ->
 {
     let table = stored_costs::read_costs(bytes, position, out);
     match table {
-        StoredCosts::Refused(_) => CostsTaken { table, position },
-        StoredCosts::Table { n: _, used } => CostsTaken {
+        Err(_) => CostsTaken { table, position },
+        Ok(read) => CostsTaken {
             table,
-            position: behind(position, used),
+            position: behind(position, read.used),
         },
     }
 }
@@ -83,14 +76,10 @@ pub fn links_at<'a, 'b, 'c>(
 {
     let table = stored_links::read_links(bytes, position, fars, costs);
     match table {
-        StoredLinks::Refused(_) => LinksTaken { table, position },
-        StoredLinks::Table {
-            n: _,
-            count: _,
-            used,
-        } => LinksTaken {
+        Err(_) => LinksTaken { table, position },
+        Ok(read) => LinksTaken {
             table,
-            position: behind(position, used),
+            position: behind(position, read.used),
         },
     }
 }
@@ -100,20 +89,14 @@ fn is_short(bytes: usize, position: usize, width: usize) -> bool
     ensures { result ≡ ltb (reach bytes) (position + width) }
 {
     let end = behind(0, bytes);
-    if end < position {
-        return true;
-    }
-    end - position < width
+    end < position || end - position < width
 }
 
 // Refusals 9 and 3 of a field.
-fn check_field(bytes: usize, position: usize, width: usize) -> Check
+fn check_field(bytes: usize, position: usize, width: usize) -> Result<(), Refusal>
     ensures { result ≡ field_checks bytes position width }
 {
-    let short = ground::refuse_if(is_short(bytes, position, width), 9, 0, 0);
-    let Check::Passed = short else {
-        return short;
-    };
+    ground::refuse_if(is_short(bytes, position, width), 9, 0, 0)?;
     ground::refuse_if(64 < width, 3, 0, 0)
 }
 
@@ -122,12 +105,12 @@ pub fn field_at<'a>(bytes: &'a [u8], position: usize, width: usize) -> FieldTake
     ensures { result ≡ field_at bytes.now position width }
 {
     match check_field(bytes.len(), position, width) {
-        Check::Refused(r) => FieldTaken {
-            field: Field::Refused(r),
+        Err(r) => FieldTaken {
+            field: Err(r),
             position,
         },
-        Check::Passed => FieldTaken {
-            field: Field::Value(bits::get(bytes, position, width)),
+        Ok(()) => FieldTaken {
+            field: Ok(bits::get(bytes, position, width)),
             position: position + width,
         },
     }

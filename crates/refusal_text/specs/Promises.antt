@@ -1,14 +1,11 @@
 -- What the promise of the call says: what an accepted call wrote, that a refused one altered nothing, and that no second answer meets it.
 -- Assumes nothing.
-use Rattle.std.specs.Prelude.{List, [], ◌++◌, ◌∷◌, refl, ◌≡◌, ℕ, ◌+◌, ◌-◌, ◌<◌, ◌≤◌, drop, get_or, length, take}
+use Rattle.std.specs.Prelude.{List, [], ◌++◌, ◌∷◌, refl, ◌≡◌, ℕ, ◌+◌, ◌<◌, ◌≤◌, drop, get_or, length, take, Ok, Err}
 use Rattle.std.proofs.Common.{append_assoc, ap, sym, ◌∙◌, arith, length-append, length-drop, drop_at, get_or-take, take_at, le-ltb, lt-ltb}
 use Rattle.std.proofs.Math.Seq.{get_or-append_seam}
 use Rattle.ground.specs.Laws.Outcomes.{left_once}
 use Rattle.ground.specs.Outcomes.{Left}
-use Rattle.ground.specs.Refusals.{refusal}
-use Rattle.ground.specs.declared.Written.{Written}
-use Rattle.ground.specs.declared.Written.TheVariants.{Places}
-use Rattle.ground.specs.declared.Written.TheVariants as written
+use Rattle.ground.specs.Refusals.{refusal, Written}
 use Rattle.text.proofs.Laws.Zeros.{no_zero_at}
 use Rattle.refusal_text.specs.Laws.Lengths.{text_fits}
 use Rattle.refusal_text.specs.Laws.Zeros.{text_no_zero}
@@ -32,13 +29,13 @@ module _ (number table a b c d : ℕ) (o e : List ℕ) (r : Written) (p : Left (
   bytes = refusal_bytes number table a b c d
 
   -- with room for every text it is accepted, and the answer counts the zero byte
-  pub text_written : room ≤ length o → (r ≡ Places (length text + 1)) × TextLeft text o e
+  pub text_written : room ≤ length o → (r ≡ Ok (length text + 1)) × TextLeft text o e
   text_written h =
       let n : length bytes ≡ length text + 1 = length-append text (0 ∷ []) in
       let l : e ≡ bytes ++ drop (length bytes) o = rw (le-ltb (length o) room h) at p.left in
       let s : e ≡ text ++ (0 ∷ drop (length bytes) o) = l ∙ append_assoc text (0 ∷ []) (drop (length bytes) o) in
       let w : take (length text) e ≡ text = ap (take (length text)) s ∙ take_at text _ (length text) refl in (
-        (rw (le-ltb (length o) room h) at p.answered) ∙ ap Places n,
+        (rw (le-ltb (length o) room h) at p.answered) ∙ ap Ok n,
         record {
           wrote = w;
           inside = λ i k.
@@ -52,7 +49,7 @@ module _ (number table a b c d : ℕ) (o e : List ℕ) (r : Written) (p : Left (
       )
 
   -- with less it is refused, and nothing is altered
-  pub text-refused : length o < room → (r ≡ written.Refused (refusal 3 0 0 0 0)) × (e ≡ o)
+  pub text-refused : length o < room → (r ≡ Err (refusal 3 0 0 0 0)) × (e ≡ o)
   text-refused h = (rw (lt-ltb (length o) room h) at p.answered, rw (lt-ltb (length o) room h) at p.left)
 
 -- no second answer meets the promise

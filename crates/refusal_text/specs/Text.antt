@@ -1,9 +1,7 @@
 -- The text of a refusal, and what the call answers and leaves in the lent bytes. Assumes nothing.
 use Rattle.std.specs.Prelude.{cond, ◌||◌, List, [], ◌++◌, ◌∷◌, ℕ, eqb, length}
 use Rattle.ground.specs.Outcomes.{Outcome, written_if}
-use Rattle.ground.specs.Refusals.{room_check}
-use Rattle.ground.specs.declared.Check.{Check}
-use Rattle.ground.specs.declared.Written.{Written}
+use Rattle.ground.specs.Refusals.{room_check, Check, Written}
 use Rattle.text.specs.Fields.{field}
 use Rattle.text.specs.Words.{bytes_of}
 use Rattle.sayings.specs.Said.{said_of}

@@ -1,21 +1,18 @@
 -- The checks of the report by their numbers, each with the number of the table that it is about: 0 for the room. Assumes nothing.
-use Rattle.std.specs.Prelude.{List, [], ◌++◌, ◌∷◌, refl, ◌≡◌, suc, zero, ℕ, ◌+◌, ltb, drop, length}
+use Rattle.std.specs.Prelude.{List, [], ◌++◌, ◌∷◌, refl, ◌≡◌, suc, zero, ℕ, ◌+◌, ltb, drop, length, Ok, Err}
 use Rattle.std.proofs.Common.{ap, ◌∙◌, arith, length-append}
 use Rattle.ground.specs.InOrder.{Decides, InOrder, Own}
 use Rattle.ground.specs.Laws.Filters.{each_nil}
 use Rattle.ground.specs.Laws.InOrder.{decides_next, join-order, refuse_order}
 use Rattle.ground.specs.Ranges.{from, gather}
-use Rattle.ground.specs.Refusals.{if_passed, refusal}
-use Rattle.ground.specs.Steps.{Step, about, numbers_of, of_table, ◌by◌}
-use Rattle.ground.specs.declared.Check.{Check}
-use Rattle.ground.specs.declared.Check.TheVariants.{Passed, Refused}
+use Rattle.ground.specs.Refusals.{if_passed, refusal, Check}
+use Rattle.ground.specs.Steps.{numbers_of, of_table}
 use Rattle.ground.specs.declared.Refusal.{Refusal}
 use Rattle.cost_forms.specs.Form.{cost_form_at}
-use Rattle.stored_costs.specs.InOrder.{table_steps}
 use Rattle.stored_costs.proofs.InOrder.{table-order}
 use Rattle.figures.specs.Figures.{sides_at}
-use Rattle.report.specs.Outcome.{outcome, refused_table, report_outcome, room_check, short}
-use Rattle.figures.specs.Checks.{differs, many_check, most_sides, most_tables, next_check, same_check}
+use Rattle.report.specs.Outcome.{outcome, report_outcome, room_check, short}
+use Rattle.figures.specs.Checks.{differs, most_sides, most_tables, next_check}
 use Rattle.figures.specs.Reading.{Ended, go_on, read_all, read_on}
 use Rattle.figures.specs.Tables.{Table, table_at}
 pub use Rattle.report.specs.InOrder.{next_steps, report_steps, Stop, stop_at, stop_of, table_numbers}
@@ -30,7 +27,7 @@ next-order L ts s =
 
 -- ## They decide how the report ends
 
-from_decides : (L k : ℕ) (ts : List Table) (s : List ℕ) → Decides stop_at (steps_from L k ts s) (0, Passed) (stop_of (read_on L k ts s))
+from_decides : (L k : ℕ) (ts : List Table) (s : List ℕ) → Decides stop_at (steps_from L k ts s) (0, (Ok tt)) (stop_of (read_on L k ts s))
 unfolding steps_from read_on
 from_decides L zero ts s = record { same = refl; own = each_nil Own }
 from_decides L (suc k) ts [] = record { same = refl; own = each_nil Own }
@@ -41,29 +38,29 @@ from_decides L (suc k) ts (b ∷ s) =
     record { same = go (next_check L ts (b ∷ s)) next ∙ d.same; own = d.own }
   where
     go : (c : Check) (e : Ended) → stop_of (go_on c ts e) ≡ if_passed (stop_at (length ts + 1)) c (stop_of e)
-    go Passed e = refl
-    go (Refused r) e = refl
+    go (Ok tt) e = refl
+    go (Err r) e = refl
 
 pub report_decides : (L : ℕ) (bytes f t s : List ℕ)
-    → let a = (report_outcome L bytes f t s).answer in Decides stop_at (report_steps L bytes (length f) (length t) (length s)) (0, Passed) (a.table, a.stop)
+    → let a = (report_outcome L bytes f t s).answer in Decides stop_at (report_steps L bytes (length f) (length t) (length s)) (0, (Ok tt)) (a.table, a.stop)
 report_decides L bytes f t s =
     let d = decides_next stop_at 0 (refuse_order (short (length f) (length t) (length s)) (refusal 3 0 0 0 0) (omega arith)) (from_decides L most_tables [] bytes) in
     record { same = go (room_check (length f) (length t) (length s)) (read_all L bytes) ∙ d.same; own = d.own }
   where
     go : (c : Check) (e : Ended) → ((outcome L c e f t s).answer.table, (outcome L c e f t s).answer.stop) ≡ if_passed (stop_at 0) c (stop_of e)
-    go Passed e = refl
-    go (Refused r) e = refl
+    go (Ok tt) e = refl
+    go (Err r) e = refl
 
 -- ## Refused with table number 0, as 3 alone is, it leaves the lent slices as they were
 
 pub room_unaltered : (L : ℕ) (bytes f t s : List ℕ) (q : Refusal) → let o = report_outcome L bytes f t s in
-    o.answer.stop ≡ Refused q → o.answer.table ≡ 0 → (o.far_list ≡ f) × (o.tree_list ≡ t) × (o.sum_list ≡ s)
+    o.answer.stop ≡ Err q → o.answer.table ≡ 0 → (o.far_list ≡ f) × (o.tree_list ≡ t) × (o.sum_list ≡ s)
 room_unaltered L bytes f t s q = go (room_check (length f) (length t) (length s)) (read_all L bytes)
   where
     go : (c : Check) (e : Ended) → let o = outcome L c e f t s in
-        o.answer.stop ≡ Refused q → o.answer.table ≡ 0 → (o.far_list ≡ f) × (o.tree_list ≡ t) × (o.sum_list ≡ s)
-    go (Refused r) e a b = (refl, refl, refl)
-    go Passed e a b = absurd (let z = rw a at b in omega (arith, z))
+        o.answer.stop ≡ Err q → o.answer.table ≡ 0 → (o.far_list ≡ f) × (o.tree_list ≡ t) × (o.sum_list ≡ s)
+    go (Err r) e a b = (refl, refl, refl)
+    go (Ok tt) e a b = absurd (let z = rw a at b in omega (arith, z))
 
 -- ## The numbers
 

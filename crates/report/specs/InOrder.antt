@@ -1,22 +1,13 @@
 -- The checks of the report by their numbers, each with the number of the table that it is about: 0 for the room. Assumes nothing.
-use Rattle.std.specs.Prelude.{List, [], ◌++◌, ◌∷◌, refl, ◌≡◌, suc, zero, ℕ, ◌+◌, ltb, drop, length}
-use Rattle.std.proofs.Common.{ap, ◌∙◌, arith, length-append}
-use Rattle.ground.specs.InOrder.{Decides, InOrder, Own}
-use Rattle.ground.specs.Laws.Filters.{each_nil}
-use Rattle.ground.specs.Laws.InOrder.{decides_next, join-order, refuse_order}
-use Rattle.ground.specs.Ranges.{from, gather}
-use Rattle.ground.specs.Refusals.{if_passed, refusal}
-use Rattle.ground.specs.Steps.{Step, about, numbers_of, of_table, ◌by◌}
-use Rattle.ground.specs.declared.Check.{Check}
-use Rattle.ground.specs.declared.Check.TheVariants.{Passed, Refused}
+use Rattle.std.specs.Prelude.{List, [], ◌++◌, ◌∷◌, suc, zero, ℕ, ◌+◌, drop, length, Err}
+use Rattle.ground.specs.Refusals.{Check}
+use Rattle.ground.specs.Steps.{Step, about, of_table, ◌by◌}
 use Rattle.ground.specs.declared.Refusal.{Refusal}
 use Rattle.cost_forms.specs.Form.{cost_form_at}
 use Rattle.stored_costs.specs.InOrder.{table_steps}
-use Rattle.stored_costs.proofs.InOrder.{table-order}
-use Rattle.figures.specs.Figures.{sides_at}
-use Rattle.report.specs.Outcome.{outcome, refused_table, report_outcome, room_check, short}
-use Rattle.figures.specs.Checks.{differs, many_check, most_sides, most_tables, next_check, same_check}
-use Rattle.figures.specs.Reading.{Ended, go_on, read_all, read_on}
+use Rattle.report.specs.Outcome.{refused_table, room_check}
+use Rattle.figures.specs.Checks.{many_check, most_tables, same_check}
+use Rattle.figures.specs.Reading.{Ended}
 use Rattle.figures.specs.Tables.{Table, table_at}
 
 -- 9, 1, 9, 11, 4, 20, 15, 19 of the table at the front of s, once ts were read
@@ -39,7 +30,7 @@ abbrev pub Stop : Type 0
 Stop = ℕ × Check
 
 abbrev pub stop_at : ℕ → Refusal → Stop
-stop_at k r = (k, Refused r)
+stop_at k r = (k, Err r)
 
 abbrev pub stop_of : Ended → Stop
 stop_of e = (refused_table e.stop (length e.read), e.stop)

@@ -1,14 +1,13 @@
 -- What the promise of the report is worth: every answer is 3 with nothing altered, or the figures of the tables read, each equal to its
 -- definition over them, whether the bytes ended, 500 tables were read, or a table was refused. Assumes nothing.
+use Rattle.ground.specs.Refusals.{Check}
 use Rattle.std.proofs.lemmas.Bool.{false≢true}
-use Rattle.std.specs.Prelude.{not, true, List, ◌⊎◌, refl, ◌≡◌, ℕ, length}
+use Rattle.std.specs.Prelude.{not, true, List, ◌⊎◌, refl, ◌≡◌, ℕ, length, Ok, Err}
 use Rattle.std.proofs.Common.{inl, inr, ap}
 use borrow.Table.Steps.{cases}
 use Rattle.ground.specs.Filters.{Each}
 use Rattle.ground.specs.Laws.Filters.{filter-mem}
 use Rattle.ground.specs.Laws.Outcomes.{answer_once}
-use Rattle.ground.specs.declared.Check.{Check}
-use Rattle.ground.specs.declared.Check.TheVariants.{Passed, Refused}
 use Rattle.theory.specs.FourPoint.{FourPoint}
 use Rattle.theory.specs.LinkTables.{Row}
 use Rattle.theory.specs.Readings.{Exact}
@@ -20,14 +19,13 @@ use Rattle.tree.proofs.Laws.Exact.{exact_rows_lem}
 use Rattle.report.specs.Laws.Call.{room-passed}
 use Rattle.report.specs.Laws.Follows.{reading}
 use Rattle.report.specs.Laws.Reported.{reported}
-use Rattle.report.specs.Outcome.{LeftReport, ReportOutcome, report_outcome, short}
+use Rattle.report.specs.Outcome.{LeftReport, ReportOutcome, report_outcome, short, Report}
 use Rattle.figures.specs.Reading.{read_all}
 use Rattle.report.specs.Reported.{Reported, TooShort}
 use Rattle.counting.specs.Standing.{Sound}
 use Rattle.figures.specs.Tables.{Table, accepted, apart, is_accepted, passes, tree_of}
-use Rattle.report.specs.declared.TermReport.{TermReport}
 
-pub report_left : (bytes f t s : List ℕ) (r : TermReport) (f' t' s' : List ℕ) → LeftReport (report_outcome limit bytes f t s) r f' t' s'
+pub report_left : (bytes f t s : List ℕ) (r : Report) (f' t' s' : List ℕ) → LeftReport (report_outcome limit bytes f t s) r f' t' s'
     → TooShort f t s r f' t' s' ⊎ Reported bytes f t s r f' t' s'
 report_left bytes f t s r f' t' s' l =
     cases (short (length f) (length t) (length s))
@@ -35,8 +33,8 @@ report_left bytes f t s r f' t' s' l =
     let m = rw e at l in
     inl (record {
       refused = rw e;
-      stop = ap (λ (x : TermReport). x.stop) m.answered;
-      number = ap (λ (x : TermReport). x.table) m.answered;
+      stop = ap (λ (x : Report). x.stop) m.answered;
+      number = ap (λ (x : Report). x.table) m.answered;
       far_same = m.far-sides;
       tree_same = m.tree_numbers;
       sum_same = m.cost_sums;
@@ -61,9 +59,9 @@ accepted_exact ts s t m =
     record { table = c; condition = (wiring_passed limit d t.images c.formed).0 (passed (wiring_check d t.images) q.0) } in
     ((exact_rows_lem limit t.images t.costs w (tree_of limit t)).1 refl, λ T e. (exact_rows_lem limit t.images t.costs w T).0 e)
   where
-    passed : (c : Check) → passes c ≡ true → c ≡ Passed
-    passed Passed e = refl
-    passed (Refused r) e = absurd (false≢true e)
+    passed : (c : Check) → passes c ≡ true → c ≡ Ok tt
+    passed (Ok tt) e = refl
+    passed (Err r) e = absurd (false≢true e)
 
 -- one that gets 7 has no wiring
 pub apart_seven : (ts : List Table) → Sound limit ts → Each (apart ts) (λ t. FourPoint (cost t.costs t.images) t.images → ⊥)

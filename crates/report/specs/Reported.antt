@@ -1,36 +1,33 @@
 -- What a report says, seen from outside: the bytes, the three lent slices before, f, t, s, and after, f', t', s', and the answer r.
 -- Assumes nothing.
-use Rattle.std.specs.Prelude.{true, ◌↔◌, ◌≡◌, ℕ, ◌+◌, ◌-◌, ◌^◌, ◌≤◌, drop, length, take}
+use Rattle.std.specs.Prelude.{true, ◌↔◌, ◌≡◌, ℕ, ◌+◌, ◌-◌, ◌^◌, ◌≤◌, drop, length, take, Err}
 use mathlib.Core.List.{List, Memᴰ, map}
 use Rattle.ground.specs.Ascending.{Between}
-use Rattle.ground.specs.Buffers.{front}
 use Rattle.ground.specs.Refusals.{refusal}
 use Rattle.ground.specs.Sums.{sum}
-use Rattle.ground.specs.declared.Check.TheVariants.{Refused}
 use Rattle.theory.specs.FarSides.{inner}
 use Rattle.theory.specs.LinkTables.{fars}
 use Rattle.theory.specs.Tables.{limit}
 use Rattle.seen.specs.Columns.{Room}
 use Rattle.seen.specs.Seen.{cost_sum, in_trees}
 use Rattle.figures.specs.Figures.{counts, largest}
-use Rattle.report.specs.Outcome.{refused_table, room_check}
+use Rattle.report.specs.Outcome.{refused_table, room_check, Report}
 use Rattle.figures.specs.Checks.{most_sides}
 use Rattle.counting.specs.Standing.{Sound}
 use Rattle.figures.specs.Tables.{Table, accepted, apart, images_in, tree_of, trees}
-use Rattle.report.specs.declared.TermReport.{TermReport}
-use Rattle.report.specs.Follows.{ReadSo, refused, used_by}
+use Rattle.report.specs.Follows.{ReadSo, used_by}
 
 -- refused with 3: table number 0, and nothing altered
-pub record TooShort (f t s : List ℕ) (r : TermReport) (f' t' s' : List ℕ) : Type 0 where
-  pub refused : room_check (length f) (length t) (length s) ≡ Refused (refusal 3 0 0 0 0)
-  pub stop : r.stop ≡ Refused (refusal 3 0 0 0 0)
+pub record TooShort (f t s : List ℕ) (r : Report) (f' t' s' : List ℕ) : Type 0 where
+  pub refused : room_check (length f) (length t) (length s) ≡ Err (refusal 3 0 0 0 0)
+  pub stop : r.stop ≡ Err (refusal 3 0 0 0 0)
   pub number : r.table ≡ 0
   pub far_same : f' ≡ f
   pub tree_same : t' ≡ t
   pub sum_same : s' ≡ s
 
 -- else: the tables read, and each figure over them
-pub record Reported (bytes f t s : List ℕ) (r : TermReport) (f' t' s' : List ℕ) : Type 0 where
+pub record Reported (bytes f t s : List ℕ) (r : Report) (f' t' s' : List ℕ) : Type 0 where
   pub room : Room most_sides f t s
   pub ts : List Table
   pub read : ReadSo bytes ts r.stop

@@ -7,9 +7,8 @@ use Rattle.figures.specs.Checks.{many_check, most_tables, next_check, same_check
 use Rattle.counting.specs.Ready.{ReadReady}
 use Rattle.counting.specs.Standing.{Holds, Stands}
 use Rattle.figures.specs.Tables.{Table, table_at}
-use Rattle.counting.specs.Taking.{Moved}
+use Rattle.counting.specs.Taking.{Moved, Turn}
 use Rattle.counting.specs.declared.Standing.{Standing}
-use Rattle.counting.specs.declared.Turn.{Turn}
 
 -- it stands between two tables, with bytes left
 pub record Paused (ts : List Table) (bytes : List ℕ) (here : Standing) (f t s : List ℕ) : Type 0 where

@@ -1,8 +1,7 @@
 -- The orders of the checks of path, upper rows and routes, in document 01's words: N rows, l the far sides, v the doubled costs.
 -- Images are 1 to n here, as in the calls. Assumes nothing.
 use Rattle.std.specs.Prelude.{List, ℕ, ◌*◌, ◌-◌}
-use Rattle.ground.specs.Refusals.{room_check, ◌then◌}
-use Rattle.ground.specs.declared.Check.{Check}
+use Rattle.ground.specs.Refusals.{room_check, ◌then◌, Check}
 use Rattle.theory.specs.Checks.{image_check}
 use Rattle.links.specs.Checks.{row_checks, size_checks}
 

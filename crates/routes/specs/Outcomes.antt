@@ -2,9 +2,7 @@
 -- Images are 1 to n here, as in the calls. Assumes nothing.
 use Rattle.std.specs.Prelude.{List, ℕ, ◌-◌, length}
 use Rattle.ground.specs.Outcomes.{Outcome, written_if}
-use Rattle.ground.specs.Refusals.{value_if}
-use Rattle.ground.specs.declared.Answer.{Answer}
-use Rattle.ground.specs.declared.Written.{Written}
+use Rattle.ground.specs.Refusals.{value_if, Answer, Written}
 use Rattle.theory.specs.LinkTables.{path, rows_of}
 use Rattle.theory.specs.Routes.{route, uppers}
 use Rattle.routes.specs.Orders.{path_checks, route_checks, upper_checks}

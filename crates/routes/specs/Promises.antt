@@ -1,14 +1,11 @@
 -- What path, upper rows and routes promise, on one page: which calls are accepted, what the answers are worth, and that there is no other.
 -- l are the far sides and v the doubled costs of N rows; images are counted from 0 but in the calls. Assumes nothing.
-use Rattle.std.specs.Prelude.{true, List, [], ◌∷◌, ◌↔◌, ◌≡◌, suc, ℕ, ◌+◌, ◌-◌, ◌<◌, ◌≤◌, get_or, length}
+use Rattle.std.specs.Prelude.{true, List, [], ◌∷◌, ◌↔◌, ◌≡◌, suc, ℕ, ◌+◌, ◌-◌, ◌<◌, ◌≤◌, get_or, length, Ok}
 use Rattle.std.proofs.Common.{◌∙◌, arith}
 use Rattle.ground.specs.Ascending.{Between}
 use Rattle.ground.specs.Buffers.{front}
 use Rattle.ground.specs.Filters.{filter}
 use Rattle.ground.specs.Ranges.{from}
-use Rattle.ground.specs.declared.Answer.TheVariants.{Value}
-use Rattle.ground.specs.declared.Check.TheVariants.{Passed}
-use Rattle.ground.specs.declared.Written.TheVariants.{Places}
 use Rattle.theory.specs.FarSides.{own}
 use Rattle.theory.specs.FourPoint.{FourPoint}
 use Rattle.theory.proofs.Laws.Paths.{path_four_point, path_none_above, path_same, path_self}
@@ -26,26 +23,26 @@ use Rattle.climbing.specs.Climbs.{held_by}
 
 -- ## Which calls are accepted: exactly those with a link table, room and images in range
 
-pub path-accepted : (L n N : ℕ) (l v : List ℕ) (i j : ℕ) → (path_checks L n N l v i j ≡ Passed) ↔ PathAsked L n N l v i j
+pub path-accepted : (L n N : ℕ) (l v : List ℕ) (i j : ℕ) → (path_checks L n N l v i j ≡ Ok tt) ↔ PathAsked L n N l v i j
 path-accepted L n N l v i j = (path-passed L n N l v i j, passed-path L n N l v i j)
 
-pub upper-accepted : (L n N : ℕ) (l v : List ℕ) (room : ℕ) → (upper_checks L n N l v room ≡ Passed) ↔ UppersAsked L n N l v room
+pub upper-accepted : (L n N : ℕ) (l v : List ℕ) (room : ℕ) → (upper_checks L n N l v room ≡ Ok tt) ↔ UppersAsked L n N l v room
 upper-accepted L n N l v room = (upper-passed L n N l v room, passed-upper L n N l v room)
 
-pub route-accepted : (L n N : ℕ) (l v : List ℕ) (i room : ℕ) → (route_checks L n N l v i room ≡ Passed) ↔ RouteAsked L n N l v i room
+pub route-accepted : (L n N : ℕ) (l v : List ℕ) (i room : ℕ) → (route_checks L n N l v i room ≡ Ok tt) ↔ RouteAsked L n N l v i room
 route-accepted L n N l v i room = (route-passed L n N l v i room, passed-route L n N l v i room)
 
 -- ## What an accepted call answers and leaves behind
 
-pub path-answer : (L n N : ℕ) (l v : List ℕ) (i j : ℕ) → PathAsked L n N l v i j → path_outcome L n N l v i j ≡ Value (path (rows_of l v) (i - 1) (j - 1))
+pub path-answer : (L n N : ℕ) (l v : List ℕ) (i j : ℕ) → PathAsked L n N l v i j → path_outcome L n N l v i j ≡ Ok (path (rows_of l v) (i - 1) (j - 1))
 path-answer L n N l v i j t = rw (passed-path L n N l v i j t)
 
 pub upper-answer : (L n N : ℕ) (l v o : List ℕ) → UppersAsked L n N l v (length o)
-    → upper_outcome L n N l v o ≡ record { answer = Places N; places = front (uppers l) o }
+    → upper_outcome L n N l v o ≡ record { answer = Ok N; places = front (uppers l) o }
 upper-answer L n N l v o t = rw (passed-upper L n N l v (length o) t, ← (uppers-length 1 l ∙ t.table.counted))
 
 pub route-answer : (L n N : ℕ) (l v : List ℕ) (i : ℕ) (o : List ℕ) → RouteAsked L n N l v i (length o)
-    → route_outcome L n N l v i o ≡ record { answer = Places (length (route n l (i - 1))); places = front (route n l (i - 1)) o }
+    → route_outcome L n N l v i o ≡ record { answer = Ok (length (route n l (i - 1))); places = front (route n l (i - 1)) o }
 route-answer L n N l v i o t = rw (passed-route L n N l v i (length o) t)
 
 -- ## Path costs: symmetric, 0 from an image to itself, with the triangle inequality and the four-point condition

@@ -23,6 +23,7 @@ fn put_from_20(out: &mut [u8], at: usize, number: usize, a: usize, b: usize, c: 
 }
 
 // What is said of a refusal from 16 on, and of a number that no refusal has.
+#[tactic(auto, using(crate::proofs::Turns::this_one, crate::proofs::Turns::one_behind), unfolding(crate::specs::Sayings::sayings_from16))]
 fn put_from_16(out: &mut [u8], at: usize, number: usize, a: usize, b: usize, c: usize) -> usize
     requires { at + 163 ≤ length out.old }
     ensures { Put (saying_text (saying_in number (sayings_from16 a b c))) at out.old result out.new }
@@ -37,6 +38,7 @@ fn put_from_16(out: &mut [u8], at: usize, number: usize, a: usize, b: usize, c: 
 }
 
 // What is said of a refusal from 12 on, and of a number that no refusal has.
+#[tactic(auto, using(crate::proofs::Turns::this_one, crate::proofs::Turns::one_behind), unfolding(crate::specs::Sayings::sayings_from12))]
 fn put_from_12(out: &mut [u8], at: usize, number: usize, a: usize, b: usize, c: usize) -> usize
     requires { at + 163 ≤ length out.old }
     ensures { Put (saying_text (saying_in number (sayings_from12 a b c))) at out.old result out.new }
@@ -51,6 +53,7 @@ fn put_from_12(out: &mut [u8], at: usize, number: usize, a: usize, b: usize, c: 
 }
 
 // What is said of a refusal from 8 on, and of a number that no refusal has.
+#[tactic(auto, using(crate::proofs::Turns::this_one, crate::proofs::Turns::one_behind), unfolding(crate::specs::Sayings::sayings_from8))]
 fn put_from_8(out: &mut [u8], at: usize, number: usize, a: usize, b: usize, c: usize) -> usize
     requires { at + 163 ≤ length out.old }
     ensures { Put (saying_text (saying_in number (sayings_from8 a b c))) at out.old result out.new }
@@ -65,6 +68,7 @@ fn put_from_8(out: &mut [u8], at: usize, number: usize, a: usize, b: usize, c: u
 }
 
 // What is said of a refusal from 4 on, and of a number that no refusal has.
+#[tactic(auto, using(crate::proofs::Turns::this_one, crate::proofs::Turns::one_behind), unfolding(crate::specs::Sayings::sayings_from4))]
 fn put_from_4(
     out: &mut [u8],
     at: usize,
@@ -87,6 +91,7 @@ fn put_from_4(
 }
 
 // What is said of a refusal, whatever its number.
+#[tactic(auto, using(crate::proofs::Turns::this_one, crate::proofs::Turns::one_behind), unfolding(crate::specs::Sayings::sayings, crate::specs::Said::said_of))]
 pub fn put_said(
     out: &mut [u8],
     at: usize,

@@ -1,6 +1,6 @@
 -- The one claim: what each settled example says is so. Everything is computed from the definitions; that the rows are the exact
 -- reading follows by the law that no other table is. Assumes nothing.
-use Rattle.std.specs.Prelude.{not, List, [], map, refl, ◌≡◌, suc, ℕ, ◌≤◌, eqb, leb}
+use Rattle.std.specs.Prelude.{not, List, [], map, refl, ◌≡◌, suc, ℕ, ◌≤◌, eqb, leb, Ok}
 use Rattle.std.proofs.Common.{sym, arith, eqb-true, leb-false}
 use Rattle.std.specs.Int.Count.{ones, ones_in}
 use Rattle.std.proofs.lemmas.Bool.{not-false}
@@ -12,7 +12,6 @@ use Rattle.ground.specs.Lowest.{check_all}
 use Rattle.ground.specs.Members.{occurs}
 use Rattle.ground.specs.Ranges.{from}
 use Rattle.ground.specs.Refusals.{refusal}
-use Rattle.ground.specs.declared.Check.TheVariants.{Passed, Refused}
 use Rattle.theory.proofs.Demands.{exact_reading}
 use Rattle.theory.proofs.Demands as demands
 use Rattle.theory.specs.FourPoint.{failing}
@@ -30,11 +29,11 @@ use Rattle.settled.specs.Triangles.{square, table}
 use Rattle.wiring.specs.Check.{wiring_check}
 pub use Rattle.settled.specs.Claim.{Accepted, Computed}
 
-is_table : (n : ℕ) (t : List ℕ) → table_checks n t ≡ Passed → CostTable limit n (square n t)
+is_table : (n : ℕ) (t : List ℕ) → table_checks n t ≡ Ok tt → CostTable limit n (square n t)
 is_table n t e = (cost-table limit n (square n t)).0 e
 
 -- rows of a table in which no four images fail are its exact reading
-is_exact : (n : ℕ) (t : List ℕ) (T : List Row) → table_checks n t ≡ Passed → failing (table n t) n ≡ [] → rows_read n t ≡ T → Exact limit (table n t) n T
+is_exact : (n : ℕ) (t : List ℕ) (T : List Row) → table_checks n t ≡ Ok tt → failing (table n t) n ≡ [] → rows_read n t ≡ T → Exact limit (table n t) n T
 is_exact n t T e f m =
     let c = is_table n t e in
     let x = exact_reading limit (table n t) n (omega (arith, c.some)) c.formed in
@@ -48,7 +47,7 @@ is_order n l e f = record {
 }
 
 -- of a table in which no four images fail, no ring is shorter than the order's, from image 1 with image 2 at the end
-none_shorter : (n : ℕ) (t : List ℕ) → table_checks n t ≡ Passed → failing (table n t) n ≡ [] → (l : List ℕ) → AnOrder n l
+none_shorter : (n : ℕ) (t : List ℕ) → table_checks n t ≡ Ok tt → failing (table n t) n ≡ [] → (l : List ℕ) → AnOrder n l
     → closed (table n t) (around n t 1 2) ≤ closed (table n t) l
 none_shorter n t e f =
     let c = is_table n t e in

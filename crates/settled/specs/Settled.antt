@@ -1,8 +1,6 @@
 -- What a settled example of document 01 says of the definitions. Images are 1 to n here, as in document 01.
-use Rattle.std.specs.Prelude.{List, map, ◌≡◌, suc, ℕ, ◌-◌, ◌≤◌}
-use Rattle.ground.specs.Refusals.{refusal, ◌then◌}
-use Rattle.ground.specs.declared.Check.{Check}
-use Rattle.ground.specs.declared.Check.TheVariants.{Refused}
+use Rattle.std.specs.Prelude.{List, map, ◌≡◌, suc, ℕ, ◌-◌, ◌≤◌, Err}
+use Rattle.ground.specs.Refusals.{refusal, ◌then◌, Check}
 use Rattle.theory.specs.LinkTables.{Row, fars}
 use Rattle.theory.specs.Order.{AnOrder, closed, order}
 use Rattle.theory.specs.OrderRules.{counted_from0}
@@ -46,8 +44,8 @@ abbrev pub Holds : Settled → Type 0
 Holds (reads n t T) =
     CostTable limit n (square n t) × Exact limit (table n t) n T × (rows_read n t ≡ T)
 Holds (refused n t i j k l T) =
-    CostTable limit n (square n t) × (wiring_check (table n t) n ≡ Refused (refusal 7 i j k l)) × (rows_read n t ≡ T)
-Holds (untimed n t i j) = table_checks n t ≡ Refused (refusal 20 i j 0 0)
+    CostTable limit n (square n t) × (wiring_check (table n t) n ≡ Err (refusal 7 i j k l)) × (rows_read n t ≡ T)
+Holds (untimed n t i j) = table_checks n t ≡ Err (refusal 20 i j 0 0)
 Holds (ordered n t first last l s) =
     CostTable limit n (square n t) × (map suc (around n t first last) ≡ l) × (closed (table n t) (around n t first last) ≡ s)
 Holds (shortest n t l s) =

@@ -16,7 +16,7 @@ fn one_same(x: u64, y: u64) -> usize
 fn met_cost(x: u64, y: u64, c: u32, e: u32) -> u32
     ensures { result ≡ met_cost x y c e }
 {
-    if x == y { ground::lower(c, e) } else { c }
+    if x == y { c.min(e) } else { c }
 }
 
 // Row i stored at the place `at`, with the smaller cost where the other tree has its far side, y, at the cost e; the number of rows kept
@@ -42,6 +42,7 @@ pub fn meet(count: usize, fars: &mut [u64], costs: &mut [u32], f: &[u64], v: &[u
     let mut at = 0;
     let mut i = 0;
     let mut j = 0;
+    // A `while`: each list goes on by itself.
     while i < count && j < f.len() {
         let x = fars[i];
         let y = f[j];

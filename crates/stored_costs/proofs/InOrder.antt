@@ -3,15 +3,12 @@ use Rattle.std.specs.Prelude.{List, [], ◌∷◌, ℕ, ◌*◌, ◌+◌, ◌/�
 use Rattle.std.proofs.Common.{arith}
 use Rattle.ground.specs.InOrder.{InOrder}
 use Rattle.ground.specs.Laws.InOrder.{join-order, room-order, step-order}
-use Rattle.ground.specs.Refusals.{room_check}
-use Rattle.ground.specs.Steps.{Step, ◌by◌}
-use Rattle.theory.specs.Checks.{images_check}
+use Rattle.ground.specs.Steps.{◌by◌}
 use Rattle.theory.specs.Laws.InOrder.{images-order}
-use Rattle.tables.specs.Checks.{entry_check, off_diagonal_check}
+use Rattle.tables.specs.Checks.{entry_check}
 use Rattle.tables.proofs.InOrder.{entry_only, off_diagonal_order}
 use Rattle.tables.proofs.Laws.Pairs.{pairs_only}
 use Rattle.bits.specs.Forms.{bytes_for}
-use Rattle.bits.specs.Kinds.{end_check, fill_check, position_check}
 use Rattle.bits.specs.Laws.InOrder.{end_order, fill_order, position_order}
 use Rattle.bits.specs.declared.Form.{Form}
 use Rattle.cost_forms.specs.Entries.{entry_cost}

@@ -1,18 +1,5 @@
 -- Settled examples of stored cost tables, computed. Assumes nothing.
-use Rattle.std.specs.Prelude.{List, [], ◌∷◌, refl, ◌≡◌, ℕ, ◌*◌, ◌+◌, ◌-◌}
-use Rattle.ground.specs.Lowest.{check_all}
-use Rattle.ground.specs.Refusals.{refusal}
-use Rattle.theory.specs.Tables.{cost}
-use Rattle.bits.specs.Bits.{bits, bits_of, part, value_of}
-use Rattle.bits.specs.Editions.{edition_of}
-use Rattle.bits.specs.Forms.{bytes_of, field_value, filled, field_bits, field_bytes, packed}
-use Rattle.bits.specs.Listed.{listed}
-use Rattle.cost_forms.specs.Entries.{entry_cost, entries_to, row_entries, row_start, table_of}
-use Rattle.cost_forms.specs.Form.{cost_bytes, cost_fields, new_costs, old_costs}
-use Rattle.cost_forms.specs.Said.{stored_table, entry_of, fill_of, images_of}
-use Rattle.stored_costs.specs.Outcomes.{judged, judged_either}
-use Rattle.stored_costs.specs.declared.StoredCosts.TheVariants.{Table}
-use Rattle.stored_costs.specs.declared.StoredCosts.TheVariants as stored
+use Rattle.std.specs.Prelude.{List, [], ◌∷◌, ℕ}
 
 -- example A: three images, every cost 1
 unfoldable pub table_a : List ℕ

@@ -1,23 +1,16 @@
 -- The checks of a stored cost table by their numbers. Assumes nothing.
 use Rattle.std.specs.Prelude.{List, [], ◌∷◌, ℕ, ◌*◌, ◌+◌, ◌/◌, drop}
-use Rattle.std.proofs.Common.{arith}
-use Rattle.ground.specs.InOrder.{InOrder}
-use Rattle.ground.specs.Laws.InOrder.{join-order, room-order, step-order}
 use Rattle.ground.specs.Refusals.{room_check}
 use Rattle.ground.specs.Steps.{Step, ◌by◌}
 use Rattle.theory.specs.Checks.{images_check}
-use Rattle.theory.specs.Laws.InOrder.{images-order}
-use Rattle.tables.specs.Checks.{entry_check, off_diagonal_check}
-use Rattle.tables.proofs.InOrder.{entry_only, off_diagonal_order}
-use Rattle.tables.proofs.Laws.Pairs.{pairs_only}
+use Rattle.tables.specs.Checks.{off_diagonal_check}
 use Rattle.bits.specs.Forms.{bytes_for}
 use Rattle.bits.specs.Kinds.{end_check, fill_check, position_check}
-use Rattle.bits.specs.Laws.InOrder.{end_order, fill_order, position_order}
 use Rattle.bits.specs.declared.Form.{Form}
 use Rattle.cost_forms.specs.Entries.{entry_cost}
 use Rattle.cost_forms.specs.Form.{cost_used}
 use Rattle.cost_forms.specs.Said.{entry_of, fill_of, images_of}
-use Rattle.stored_costs.specs.Reading.{read_at_checks, read_checks, stored_check, table_checks, values_check}
+use Rattle.stored_costs.specs.Reading.{stored_check}
 
 -- 4, 20
 abbrev pub values_steps : ℕ → (ℕ → ℕ → ℕ) → ℕ → List Step

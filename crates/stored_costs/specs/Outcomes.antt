@@ -1,19 +1,21 @@
 -- What the reader answers, and what it leaves in the lent slice. Assumes nothing.
-use Rattle.std.specs.Prelude.{List, ℕ, ◌/◌, drop, length}
+use Rattle.stored_costs.specs.declared.CostsRead.{CostsRead}
+use Rattle.ground.specs.declared.Refusal.{Refusal}
+use Rattle.std.specs.Prelude.{List, ℕ, ◌/◌, drop, length, Ok, Err, Result}
 use Rattle.ground.specs.Outcomes.{Outcome, front_if}
-use Rattle.ground.specs.declared.Check.{Check}
 use Rattle.cost_forms.specs.Form.{cost_form_at, cost_used}
 use Rattle.cost_forms.specs.Said.{stored_table, images_of}
 use Rattle.stored_costs.specs.Reading.{read_at_checks}
-use Rattle.stored_costs.specs.declared.StoredCosts.{StoredCosts}
-use Rattle.stored_costs.specs.declared.StoredCosts.TheVariants.{Table}
-use Rattle.ground.specs.Refusals.{if_passed}
+use Rattle.ground.specs.Refusals.{if_passed, Check}
 use Rattle.bits.specs.declared.Form.{Form}
-use Rattle.stored_costs.specs.declared.StoredCosts.TheVariants as stored
+
+-- what the reader answers: n and the bytes used by this table alone, or the refusal
+abbrev pub StoredCosts : Type 0
+StoredCosts = Result CostsRead Refusal
 
 -- n and the bytes used where the check passed
 abbrev pub table_if : Check → ℕ → ℕ → StoredCosts
-table_if c n used = if_passed stored.Refused c (Table n used)
+table_if c n used = if_passed Err c (Ok (record { n = n; used = used }))
 
 -- what reading at the position answers, where so many places are lent: n and the bytes used by this table alone, or the first refusal
 abbrev pub judged : Form → List ℕ → ℕ → ℕ → StoredCosts

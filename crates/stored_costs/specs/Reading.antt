@@ -1,7 +1,6 @@
 -- Reading a stored cost table: the checks in document 01's order. Assumes nothing.
 use Rattle.std.specs.Prelude.{List, ℕ, ◌*◌, ◌+◌, ◌/◌, drop}
-use Rattle.ground.specs.Refusals.{room_check, ◌then◌}
-use Rattle.ground.specs.declared.Check.{Check}
+use Rattle.ground.specs.Refusals.{room_check, ◌then◌, Check}
 use Rattle.theory.specs.Checks.{images_check}
 use Rattle.tables.specs.Checks.{entry_check, least_check, off_diagonal_check}
 use Rattle.tables.specs.Pairs.{pairs_check}

@@ -1,17 +1,15 @@
 -- A stored cost table, said without checks: what it means that bytes begin with one, that one stands at a position, and that it was read into
 -- the lent places. Assumes nothing.
-use Rattle.std.specs.Prelude.{List, ◌≡◌, ℕ, ◌%◌, ◌*◌, ◌+◌, ◌/◌, ◌<◌, ◌≤◌, drop, length}
-use Rattle.ground.specs.declared.Check.TheVariants.{Passed}
+use Rattle.stored_costs.specs.Outcomes.{StoredCosts}
+use Rattle.std.specs.Prelude.{List, ◌≡◌, ℕ, ◌%◌, ◌*◌, ◌+◌, ◌/◌, ◌<◌, ◌≤◌, drop, length, Ok}
 use Rattle.bits.specs.Forms.{bytes_for}
 use Rattle.cost_forms.specs.Entries.{entry_number}
 use Rattle.cost_forms.specs.Form.{cost_used}
 use Rattle.cost_forms.specs.Said.{entry_of, fill_of, images_of}
 use Rattle.stored_costs.specs.Reading.{read_at_checks}
-use Rattle.stored_costs.specs.declared.StoredCosts.TheVariants.{Table}
 use Rattle.bits.specs.declared.Form.{Form}
 use Rattle.ground.specs.Buffers.{front}
 use Rattle.ground.specs.Outcomes.{Outcome}
-use Rattle.stored_costs.specs.declared.StoredCosts.{StoredCosts}
 
 -- the bytes s begin with a stored table, and there is room for it
 pub record Readable (form : Form) (s : List ℕ) (room : ℕ) : Type 0 where
@@ -26,7 +24,7 @@ pub record Readable (form : Form) (s : List ℕ) (room : ℕ) : Type 0 where
 
 -- the answer is this table: what it says of the bytes
 pub record TableAt (form : Form) (bytes : List ℕ) (position room n used : ℕ) : Type 0 where
-  pub passed : read_at_checks form bytes position room ≡ Passed
+  pub passed : read_at_checks form bytes position room ≡ Ok tt
   pub inside : position / 8 ≤ length bytes
   pub aligned : position % 8 ≡ 0
   pub number : images_of form (drop (position / 8) bytes) ≡ n
@@ -35,4 +33,4 @@ pub record TableAt (form : Form) (bytes : List ℕ) (position room n used : ℕ)
 
 -- an accepted reading into the lent places
 abbrev pub read_into : ℕ → ℕ → List ℕ → List ℕ → Outcome StoredCosts
-read_into n used t out = record { answer = Table n used; places = front t out }
+read_into n used t out = record { answer = Ok (record { n = n; used = used }); places = front t out }

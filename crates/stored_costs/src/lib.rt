@@ -12,179 +12,136 @@ ghost use Rattle.stored_costs.specs.Reading.{body_checks, read_at_checks, read_c
 ghost use Rattle.cost_forms.specs.Sizes.{Held, Small};
 
 use bits::Form;
-use ground::{Check, Refusal};
+use ground::Refusal;
 
-// What the reader answers: n and the bytes used by this table alone, or the refusal.
-#[derive(Drop)]
-pub enum StoredCosts {
-    Table { n: usize, used: usize },
-    Refused(Refusal),
+// What the reader answers of a table that it accepts: n, and the bytes used by this table alone.
+#[derive(Clone, Copy, PartialEq, Eq)]
+pub struct CostsRead {
+    pub n: usize,
+    pub used: usize,
 }
 
 // Refusals 9, 1 and 3.
-fn check_start(form: Form, bytes: &[u8], room: usize) -> Check
+fn check_start(form: Form, bytes: &[u8], room: usize) -> Result<(), Refusal>
     requires { form.head ≤ 7 }
     ensures { result ≡ start_checks form bytes.now room }
 {
-    let short = ground::refuse_if(bytes.len() < (form.head + 7 + 7) / 8, 9, 0, 0);
-    let Check::Passed = short else {
-        return short;
-    };
+    ground::refuse_if(bytes.len() < (form.head + 7 + 7) / 8, 9, 0, 0)?;
     let n = cost_forms::images(form, bytes);
-    let outside = theory::check_images(n);
-    let Check::Passed = outside else {
-        return outside;
-    };
+    theory::check_images(n)?;
     ground::refuse_if(room < n * n, 3, 0, 0)
 }
 
 // Refusals 9 and 11 of the bytes behind n.
-fn check_body(form: Form, n: usize, bytes: &[u8]) -> Check
+fn check_body(form: Form, n: usize, bytes: &[u8]) -> Result<(), Refusal>
     requires { Small form n }
     ensures { result ≡ body_checks form n bytes.now }
 {
     let end = cost_forms::row_at(form, n, n);
     let used = (end + 7) / 8;
-    let short = ground::refuse_if(bytes.len() < used, 9, 0, 0);
-    let Check::Passed = short else {
-        return short;
-    };
+    ground::refuse_if(bytes.len() < used, 9, 0, 0)?;
     ground::refuse_if(0 < bits::get(bytes, end, 8 * used - end), 11, 0, 0)
 }
 
 // Refusal 4 of the entry of i and j, and 20 where it is below the least.
-fn check_value(least: u32, most: u32, value: u32, i: usize, j: usize) -> Check
+fn check_value(least: u32, most: u32, value: u32, i: usize, j: usize) -> Result<(), Refusal>
     requires { (i < 64) × (j < 64) }
     ensures { result ≡ value_check least most (λ i j. value) i j }
 {
-    let c = ground::refuse_if(most < value, 4, i + 1, j + 1);
-    match c {
-        Check::Refused(_) => c,
-        Check::Passed => ground::refuse_if(value < least, 20, i + 1, j + 1),
-    }
+    ground::refuse_if(most < value, 4, i + 1, j + 1)?;
+    ground::refuse_if(value < least, 20, i + 1, j + 1)
 }
 
 // The same in row i, right of the diagonal.
-fn check_row(form: Form, least: u32, n: usize, bytes: &[u8], i: usize) -> Check
+#[tactic(auto, using(ground::specs::Laws::Lowest::in_turn))]
+fn check_row(form: Form, least: u32, n: usize, bytes: &[u8], i: usize) -> Result<(), Refusal>
     requires { Held form n (length bytes.now) × (i < n) }
     ensures { result ≡ check_all (value_check least form.limit (entry_cost (entry_of form bytes.now) n) i) (i + 1) (n - (i + 1)) }
 {
     let mut p = cost_forms::row_at(form, n, i);
-    let mut j = i + 1;
-    while j < n {
-        let c = check_value(
+    for j in i + 1..n {
+        check_value(
             least,
             form.limit,
             cost_forms::entry_at(bytes, p, form.width),
             i,
             j,
-        );
-        match c {
-            Check::Refused(_) => return c,
-            Check::Passed => {
-                p += form.width;
-                j += 1;
-            }
-        }
+        )?;
+        p += form.width;
     }
-    Check::Passed
+    Ok(())
 }
 
 // The same row by row.
-fn check_entries(form: Form, least: u32, n: usize, bytes: &[u8]) -> Check
+#[tactic(auto, using(ground::specs::Laws::Lowest::in_turn))]
+fn check_entries(form: Form, least: u32, n: usize, bytes: &[u8]) -> Result<(), Refusal>
     requires { Held form n (length bytes.now) }
     ensures { result ≡ pairs_check (value_check least form.limit (entry_cost (entry_of form bytes.now) n)) n }
 {
-    let mut i = 0;
-    while i < n {
-        let c = check_row(form, least, n, bytes, i);
-        match c {
-            Check::Refused(_) => return c,
-            Check::Passed => i += 1,
-        }
+    for i in 0..n {
+        check_row(form, least, n, bytes, i)?;
     }
-    Check::Passed
+    Ok(())
 }
 
 // Refusals 4 and 20. One pass finds the first entry that has either; only where there is one, a second pass asks for 4 alone, which comes first.
-fn check_values(form: Form, n: usize, bytes: &[u8]) -> Check
+fn check_values(form: Form, n: usize, bytes: &[u8]) -> Result<(), Refusal>
     requires { Held form n (length bytes.now) }
     ensures { result ≡ values_check form.limit (entry_cost (entry_of form bytes.now) n) n }
 {
     let either = check_entries(form, 1, n, bytes);
-    let Check::Refused(_) = either else {
-        return either;
-    };
-    let four = check_entries(form, 0, n, bytes);
-    match four {
-        Check::Refused(_) => four,
-        Check::Passed => either,
+    if either.is_err() {
+        check_entries(form, 0, n, bytes)?;
     }
+    either
 }
 
 // All checks of the table at the front of the bytes, where so many places are lent.
-pub fn check_stored(form: Form, bytes: &[u8], room: usize) -> Check
+pub fn check_stored(form: Form, bytes: &[u8], room: usize) -> Result<(), Refusal>
     requires { (form.head ≤ 7) × (form.width ≤ 32) }
     ensures { result ≡ read_checks form bytes.now room }
 {
-    let start = check_start(form, bytes, room);
-    let Check::Passed = start else {
-        return start;
-    };
+    check_start(form, bytes, room)?;
     let n = cost_forms::images(form, bytes);
-    let body = check_body(form, n, bytes);
-    let Check::Passed = body else {
-        return body;
-    };
+    check_body(form, n, bytes)?;
     check_values(form, n, bytes)
 }
 
 // All checks at a position: the rest of the bytes from there on is looked at as one begins.
-fn check_at(form: Form, bytes: &[u8], position: usize, room: usize) -> Check
+fn check_at(form: Form, bytes: &[u8], position: usize, room: usize) -> Result<(), Refusal>
     requires { (form.head ≤ 7) × (form.width ≤ 32) }
     ensures { result ≡ read_at_checks form bytes.now position room }
 {
-    let c = ground::refuse_if(bits::is_misplaced(bytes.len(), position), 9, 0, 0);
-    let Check::Passed = c else {
-        return c;
-    };
+    ground::refuse_if(bits::is_misplaced(bytes.len(), position), 9, 0, 0)?;
     check_stored(form, &bytes[position / 8..], room)
 }
 
 // What reading at the position answers: n and the bytes used once all checks passed.
-fn judge(form: Form, bytes: &[u8], position: usize, room: usize) -> StoredCosts
+fn judge(form: Form, bytes: &[u8], position: usize, room: usize) -> Result<CostsRead, Refusal>
     requires { (form.head ≤ 7) × (form.width ≤ 32) }
     ensures { result ≡ judged form bytes.now position room }
 {
-    match check_at(form, bytes, position, room) {
-        Check::Refused(r) => StoredCosts::Refused(r),
-        Check::Passed => {
-            let n = cost_forms::images(form, &bytes[position / 8..]);
-            StoredCosts::Table {
-                n,
-                used: (cost_forms::row_at(form, n, n) + 7) / 8,
-            }
-        }
-    }
+    check_at(form, bytes, position, room)?;
+    let n = cost_forms::images(form, &bytes[position / 8..]);
+    Ok(CostsRead {
+        n,
+        used: (cost_forms::row_at(form, n, n) + 7) / 8,
+    })
 }
 
 // What reading the cost table at the position answers, in either form, where so many places are lent. Nothing is written.
-pub fn judge_costs(bytes: &[u8], position: usize, room: usize) -> StoredCosts
+pub fn judge_costs(bytes: &[u8], position: usize, room: usize) -> Result<CostsRead, Refusal>
     ensures { result ≡ judged_either bytes.now position room }
 {
     judge(cost_forms::form_at(bytes, position), bytes, position, room)
 }
 
 // The cost table at the position, in either form, into the lent places: everything is judged before the first store.
-pub fn read_costs(bytes: &[u8], position: usize, out: &mut [u32]) -> StoredCosts
+pub fn read_costs(bytes: &[u8], position: usize, out: &mut [u32]) -> Result<CostsRead, Refusal>
     ensures { Left (read_either bytes.now position out.old) result out.new }
 {
     let form = cost_forms::form_at(bytes, position);
-    match judge(form, bytes, position, out.len()) {
-        StoredCosts::Refused(r) => StoredCosts::Refused(r),
-        StoredCosts::Table { n, used } => {
-            filled_costs::fill(form, n, &bytes[position / 8..], out);
-            StoredCosts::Table { n, used }
-        }
-    }
+    let read = judge(form, bytes, position, out.len())?;
+    filled_costs::fill(form, read.n, &bytes[position / 8..], out);
+    Ok(read)
 }

@@ -1,16 +1,12 @@
 -- The checks of a stored link table by their numbers. Assumes nothing.
 use Rattle.std.specs.Prelude.{List, ◌++◌, ◌∷◌, ℕ, ◌*◌, ◌+◌, ◌-◌, ◌/◌, drop}
-use Rattle.ground.specs.InOrder.{InOrder}
-use Rattle.ground.specs.Laws.InOrder.{join-order, room-order}
 use Rattle.ground.specs.Refusals.{room_check}
 use Rattle.ground.specs.Steps.{Step, ◌by◌}
 use Rattle.bits.specs.Forms.{bytes_for}
 use Rattle.bits.specs.Kinds.{end_check, fill_check, position_check}
-use Rattle.bits.specs.Laws.InOrder.{end_order, fill_order, position_order}
 use Rattle.bits.specs.declared.Form.{Form}
-use Rattle.links.specs.InOrder.{count-order, count_steps, row-order, row_steps}
+use Rattle.links.specs.InOrder.{count_steps, row_steps}
 use Rattle.link_forms.specs.Form.{link_used}
-use Rattle.stored_links.specs.Reading.{body_checks, head_checks, read_at_checks, read_checks, table_checks}
 use Rattle.link_forms.specs.Said.{costs_of, count_of, fars_of, fill_of, images_of}
 
 -- 9, 1, 10

@@ -1,20 +1,22 @@
 -- What the readers answer, and what they leave in the lent slices. Assumes nothing.
-use Rattle.std.specs.Prelude.{List, min, ℕ, ◌/◌, drop, length}
+use Rattle.stored_links.specs.declared.LinksRead.{LinksRead}
+use Rattle.ground.specs.declared.Refusal.{Refusal}
+use Rattle.std.specs.Prelude.{List, min, ℕ, ◌/◌, drop, length, Ok, Err, Result}
 use Rattle.ground.specs.Outcomes.{front_if}
-use Rattle.ground.specs.declared.Check.{Check}
 use Rattle.theory.specs.Outcomes.{RowsOutcome}
 use Rattle.link_forms.specs.Form.{link_form_at}
 use Rattle.stored_links.specs.Reading.{read_at_checks}
 use Rattle.link_forms.specs.Said.{costs_of, count_of, fars_of, images_of, used_of}
-use Rattle.stored_links.specs.declared.StoredLinks.{StoredLinks}
-use Rattle.stored_links.specs.declared.StoredLinks.TheVariants.{Table}
-use Rattle.ground.specs.Refusals.{if_passed}
+use Rattle.ground.specs.Refusals.{if_passed, Check}
 use Rattle.bits.specs.declared.Form.{Form}
-use Rattle.stored_links.specs.declared.StoredLinks.TheVariants as stored
+
+-- what the reader answers: n, the row count and the bytes used by this table alone, or the refusal
+abbrev pub StoredLinks : Type 0
+StoredLinks = Result LinksRead Refusal
 
 -- n, the row count and the bytes used where the check passed
 abbrev pub table_if : Check → ℕ → ℕ → ℕ → StoredLinks
-table_if c n N used = if_passed stored.Refused c (Table n N used)
+table_if c n N used = if_passed Err c (Ok (record { n = n; count = N; used = used }))
 
 -- the answer for the bytes s, by the check
 abbrev pub said_if : Check → Form → List ℕ → StoredLinks

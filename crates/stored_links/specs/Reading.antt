@@ -1,7 +1,6 @@
 -- Reading a stored link table: the checks in document 01's order. Assumes nothing.
 use Rattle.std.specs.Prelude.{List, ℕ, ◌*◌, ◌+◌, ◌-◌, ◌/◌, drop}
-use Rattle.ground.specs.Refusals.{room_check, ◌then◌}
-use Rattle.ground.specs.declared.Check.{Check}
+use Rattle.ground.specs.Refusals.{room_check, ◌then◌, Check}
 use Rattle.bits.specs.Kinds.{end_check, fill_check, position_check}
 use Rattle.bits.specs.Forms.{bytes_for}
 use Rattle.links.specs.Checks.{count_checks, row_checks}

@@ -1,15 +1,14 @@
 -- A stored link table, said without checks: what it means that bytes begin with one, that one stands at a position, and that it was read into
 -- the lent places. Assumes nothing.
-use Rattle.std.specs.Prelude.{List, ◌≡◌, ℕ, ◌%◌, ◌*◌, ◌+◌, ◌-◌, ◌/◌, ◌≤◌, drop, length}
+use Rattle.stored_links.specs.Outcomes.{StoredLinks}
+use Rattle.std.specs.Prelude.{List, ◌≡◌, ℕ, ◌%◌, ◌*◌, ◌+◌, ◌-◌, ◌/◌, ◌≤◌, drop, length, Ok}
 use Rattle.theory.specs.LinkTables.{LinkTable, rows_of}
 use Rattle.bits.specs.Forms.{bytes_for}
 use Rattle.link_forms.specs.Form.{link_used}
 use Rattle.link_forms.specs.Said.{costs_of, count_of, fars_of, fill_of, images_of}
 use Rattle.bits.specs.declared.Form.{Form}
-use Rattle.stored_links.specs.declared.StoredLinks.TheVariants.{Table}
 use Rattle.ground.specs.Buffers.{front}
 use Rattle.theory.specs.Outcomes.{RowsOutcome}
-use Rattle.stored_links.specs.declared.StoredLinks.{StoredLinks}
 
 -- the bytes s begin with a stored link table of N rows over n images
 pub record Stored (form : Form) (n N : ℕ) (s : List ℕ) : Type 0 where
@@ -33,4 +32,4 @@ pub record TableAt (form : Form) (bytes : List ℕ) (position n N used : ℕ) : 
 
 -- an accepted reading of the rows l and v into the lent slices f and u
 abbrev pub read_into : ℕ → ℕ → ℕ → List ℕ → List ℕ → List ℕ → List ℕ → RowsOutcome StoredLinks
-read_into n N used l v f u = record { answer = Table n N used; far_list = front l f; cost_list = front v u }
+read_into n N used l v f u = record { answer = Ok (record { n = n; count = N; used = used }); far_list = front l f; cost_list = front v u }

@@ -1,7 +1,6 @@
 -- The text of one table: its exact reading, or the line of its refusal. Assumes nothing.
 use Rattle.std.specs.Prelude.{List, ℕ}
-use Rattle.ground.specs.Refusals.{if_passed}
-use Rattle.ground.specs.declared.Check.{Check}
+use Rattle.ground.specs.Refusals.{if_passed, Check}
 use Rattle.theory.specs.LinkTables.{Row, costs, fars}
 use Rattle.theory.specs.Routes.{uppers}
 use Rattle.theory.specs.Tables.{limit}

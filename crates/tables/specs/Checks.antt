@@ -1,8 +1,7 @@
 -- The checks of a cost table, by the documents' numbers. Images are counted from 0 inside and from 1 in a refusal.
 use Rattle.std.specs.Prelude.{not, List, ℕ, ◌*◌, ◌+◌, eqb, ltb, length}
 use Rattle.ground.specs.Lowest.{check_all}
-use Rattle.ground.specs.Refusals.{refusal, refuse_if, ◌then◌}
-use Rattle.ground.specs.declared.Check.{Check}
+use Rattle.ground.specs.Refusals.{refusal, refuse_if, ◌then◌, Check}
 use Rattle.theory.specs.Checks.{images_check}
 use Rattle.tables.specs.Pairs.{pairs_check}
 

@@ -1,9 +1,7 @@
 -- Which fault of a cost table is named where it has two, computed. Assumes nothing.
 use Rattle.std.specs.Prelude.{List, [], ◌∷◌, refl, ◌≡◌, ℕ}
 use Rattle.ground.specs.Lowest.{check_all}
-use Rattle.ground.specs.Refusals.{refusal}
-use Rattle.ground.specs.declared.Check.{Check}
-use Rattle.ground.specs.declared.Check.TheVariants.{Passed, Refused}
+use Rattle.ground.specs.Refusals.{refusal, Check}
 use Rattle.theory.specs.Tables.{cost, limit}
 use Rattle.tables.specs.Checks.{costs_check}
 

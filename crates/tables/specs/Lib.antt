@@ -2,6 +2,8 @@
 pub mod Pairs
 pub mod Checks
 pub mod Formed
+-- The entries of a table that was checked.
+pub mod Entries
 -- What 20 says.
 pub mod Zeros
 -- Its checks by their numbers, in order.

@@ -1,8 +1,7 @@
 -- One check of each pair of images, row below column. Assumes nothing.
-use Rattle.std.specs.Prelude.{◌≡◌, ℕ, ◌+◌, ◌-◌, ◌<◌}
+use Rattle.ground.specs.Refusals.{Check}
+use Rattle.std.specs.Prelude.{◌≡◌, ℕ, ◌+◌, ◌-◌, ◌<◌, Ok, Err}
 use Rattle.ground.specs.Lowest.{check_all}
-use Rattle.ground.specs.declared.Check.{Check}
-use Rattle.ground.specs.declared.Check.TheVariants.{Passed, Refused}
 use Rattle.ground.specs.declared.Refusal.{Refusal}
 
 -- row by row: the lowest row that has a refusal, and in it the lowest column
@@ -15,6 +14,6 @@ pub record LowestPair (c : ℕ → ℕ → Check) (n : ℕ) (r : Refusal) : Type
   pub column : ℕ
   pub above : row < column
   pub within : column < n
-  pub refused : c row column ≡ Refused r
-  pub rows_before : (i j : ℕ) → i < row → i < j → j < n → c i j ≡ Passed
-  pub columns_before : (j : ℕ) → row < j → j < column → c row j ≡ Passed
+  pub refused : c row column ≡ Err r
+  pub rows_before : (i j : ℕ) → i < row → i < j → j < n → c i j ≡ Ok tt
+  pub columns_before : (j : ℕ) → row < j → j < column → c row j ≡ Ok tt

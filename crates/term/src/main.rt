@@ -11,9 +11,7 @@ use term_text::LONGEST_INPUT;
 fn print_report(rt: &(impl Input + Print), input: &mut [u8]) -> io::Result<()> {
     let count = read_full(&mut rt.reader(), input);
     let text = term_text::term_report(&input[..count]);
-    let length = text.length;
-    let bytes = text.bytes;
-    rt.write_all(&bytes[..length])
+    rt.write_all(text.as_bytes())
 }
 
 fn main(rt: HostRuntime) -> io::Result<()> {

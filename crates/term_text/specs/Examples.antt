@@ -1,8 +1,7 @@
 -- The text of small reports, computed: no bytes; E, F, G and E again; and A behind F. Assumes nothing.
-use Rattle.std.specs.Prelude.{[], ◌++◌, ◌∷◌, refl, ◌≡◌}
+use Rattle.std.specs.Prelude.{[], ◌++◌, ◌∷◌, refl, ◌≡◌, Ok, Err}
 use Rattle.std.proofs.Common.{ap₂, ◌∙◌}
 use Rattle.ground.specs.Refusals.{refusal}
-use Rattle.ground.specs.declared.Check.TheVariants.{Passed, Refused}
 use Rattle.text.specs.Decimal.{decimal, digits}
 use Rattle.text.specs.Fields.{field}
 use Rattle.text.specs.Words.{bytes_of}
@@ -25,7 +24,7 @@ four-text : report_text
     (record {
       figures = record { images = 4; tables = 4; accepted = 3; apart = 1; sides = 1; pairs = 2; count_sum = 2; largest_count = 1; used = 64 };
       table = 0;
-      stop = Passed;
+      stop = Ok tt;
     }) ((12, 2, 8) ∷ [])
     ≡ bytes_of "images 4 tables 4 accepted 3 apart 1 bytes 64" ++ newline ++ bytes_of "pairs 2 counts 2 largest 1" ++ newline ++ bytes_of "sides 1" ++ newline
     ++ bytes_of "12 2 8" ++ newline
@@ -44,7 +43,7 @@ pub other-images : report_text
     (record {
       figures = record { images = 4; tables = 1; accepted = 0; apart = 1; sides = 0; pairs = 0; count_sum = 0; largest_count = 0; used = 16 };
       table = 2;
-      stop = Refused (refusal 15 0 0 0 0);
+      stop = Err (refusal 15 0 0 0 0);
     }) []
     ≡ bytes_of "images 4 tables 1 accepted 0 apart 1 bytes 16" ++ newline ++ bytes_of "pairs 0 counts 0 largest 0" ++ newline ++ bytes_of "sides 0" ++ newline
     ++ bytes_of "table 2 refused 15 0 0 0 0" ++ newline

@@ -1,8 +1,7 @@
 -- The lines of a term report, as bytes: fields stand one blank apart, and every line ends in a newline. Assumes nothing.
-use Rattle.std.specs.Prelude.{List, [], ◌++◌, ◌∷◌, ℕ}
+use Rattle.ground.specs.Refusals.{Check}
+use Rattle.std.specs.Prelude.{List, [], ◌++◌, ◌∷◌, ℕ, Ok, Err}
 use Prim.Native.String.{String}
-use Rattle.ground.specs.declared.Check.{Check}
-use Rattle.ground.specs.declared.Check.TheVariants.{Passed, Refused}
 use Rattle.text.specs.Decimal.{decimal}
 use Rattle.text.specs.Fields.{field}
 use Rattle.text.specs.Words.{bytes_of}
@@ -39,5 +38,5 @@ entry_lines (e ∷ E) = entry_line e ++ entry_lines E
 
 -- table, its number, and the line of its refusal; nothing where none was refused
 unfoldable pub end_line : ℕ → Check → List ℕ
-end_line k Passed = []
-end_line k (Refused q) = named "table" k ++ ((32 ∷ []) ++ refused_line q)
+end_line k (Ok tt) = []
+end_line k (Err q) = named "table" k ++ ((32 ∷ []) ++ refused_line q)

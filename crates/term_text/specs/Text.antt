@@ -5,16 +5,15 @@ use Rattle.theory.specs.Tables.{limit}
 use Rattle.seen.specs.Seen.{Entry}
 use Rattle.figures.specs.Figures.{entries_at}
 use Rattle.figures.specs.Reading.{Ended, read_all}
-use Rattle.report.specs.Outcome.{report_of}
-use Rattle.report.specs.declared.TermReport.{TermReport}
+use Rattle.report.specs.Outcome.{report_of, Report}
 use Rattle.term_text.specs.Lines.{end_line, entry_lines, figures_line, pairs_line, sides_line}
 
 -- the report r, with the lines m of the far sides
-unfoldable pub report_with : TermReport → List ℕ → List ℕ
+unfoldable pub report_with : Report → List ℕ → List ℕ
 report_with r m = figures_line r.figures ++ (pairs_line r.figures ++ (sides_line r.figures.sides ++ (m ++ end_line r.table r.stop)))
 
 -- the report r, with the entries E
-abbrev pub report_text : TermReport → List Entry → List ℕ
+abbrev pub report_text : Report → List Entry → List ℕ
 report_text r E = report_with r (entry_lines E)
 
 -- that of the tables read

@@ -2,16 +2,18 @@
 // place where its text begins and answers the place behind it.
 #![tactic(auto)]
 
-ghost use Rattle.std.specs.Prelude.{◌++◌, ◌≤◌, length};
+ghost use Rattle.std.specs.Prelude.{Err, ◌++◌, ◌≤◌, length};
 ghost use Rattle.listing_lines.specs.Lines.{row_line, row_lines};
+ghost use Rattle.report.specs.Outcome.{end_in, seen_as, table_in};
 ghost use Rattle.term_text.specs.Lines.{end_line, figures_line, pairs_line, sides_line};
 ghost use Rattle.term_text.specs.Text.{Printed, Within, report_with, room, term_text};
 ghost use Rattle.text.specs.Fields.{field};
 ghost use Rattle.text.specs.Putting.{Fits, Put};
 
 use figures::Figures;
-use ground::Check;
+use ground::TableRefusal;
 use report::TermReport;
+use text::Text;
 
 // A number behind its word.
 fn put_named(out: &mut [u8], at: usize, word: &[u8], x: usize) -> usize
@@ -23,6 +25,7 @@ fn put_named(out: &mut [u8], at: usize, word: &[u8], x: usize) -> usize
 }
 
 // The first line: images, tables read, tables accepted, tables that got 7, bytes used.
+#[tactic(auto, unfolding(crate::specs::Lines::figures_line, text::specs::Words::bytes_of))]
 fn put_figures(out: &mut [u8], at: usize, figures: Figures) -> usize
     requires { Fits (figures_line figures) at out.old }
     ensures { Put (figures_line figures) at out.old result out.new }
@@ -36,6 +39,7 @@ fn put_figures(out: &mut [u8], at: usize, figures: Figures) -> usize
 }
 
 // The second line: the pairs, and the sum and the largest of their counts.
+#[tactic(auto, unfolding(crate::specs::Lines::pairs_line, text::specs::Words::bytes_of))]
 fn put_pairs(out: &mut [u8], at: usize, figures: Figures) -> usize
     requires { Fits (pairs_line figures) at out.old }
     ensures { Put (pairs_line figures) at out.old result out.new }
@@ -47,6 +51,7 @@ fn put_pairs(out: &mut [u8], at: usize, figures: Figures) -> usize
 }
 
 // The third line: how many far sides were seen.
+#[tactic(auto, unfolding(crate::specs::Lines::sides_line, text::specs::Words::bytes_of))]
 fn put_count(out: &mut [u8], at: usize, sides: usize) -> usize
     requires { Fits (sides_line sides) at out.old }
     ensures { Put (sides_line sides) at out.old result out.new }
@@ -56,6 +61,7 @@ fn put_count(out: &mut [u8], at: usize, sides: usize) -> usize
 }
 
 // The line of a far side: its name, in how many trees it is, and the sum of its doubled costs.
+#[tactic(auto, unfolding(listing_lines::specs::Lines::row_line))]
 fn put_side(out: &mut [u8], at: usize, far: u64, trees: u32, sum: u64) -> usize
     requires { Fits (row_line far trees sum) at out.old }
     ensures { Put (row_line far trees sum) at out.old result out.new }
@@ -67,36 +73,44 @@ fn put_side(out: &mut [u8], at: usize, far: u64, trees: u32, sum: u64) -> usize
 }
 
 // The lines of all far sides.
+#[tactic(auto, using(listing_lines::proofs::Laws::Turns::row_fits, listing_lines::proofs::Laws::Turns::all_rows))]
 fn put_sides(out: &mut [u8], at: usize, fars: &[u64], trees: &[u32], sums: &[u64]) -> usize
     requires { (length fars.now ≤ length trees.now) × (length fars.now ≤ length sums.now) × Fits
         (row_lines fars.now trees.now sums.now) at out.old }
     ensures { Put (row_lines fars.now trees.now sums.now) at out.old result out.new }
 {
     let mut place = at;
-    let mut i = 0;
-    while i < fars.len() {
+    for i in 0..fars.len() {
         place = put_side(out, place, fars[i], trees[i], sums[i]);
-        i += 1;
     }
     place
 }
 
-// The last line, where a table was refused: its number and its refusal.
-fn put_end(out: &mut [u8], at: usize, table: usize, stop: Check) -> usize
-    requires { Fits (end_line table stop) at out.old }
-    ensures { Put (end_line table stop) at out.old result out.new }
+// The line of a refused table: its number and its refusal.
+#[tactic(auto, unfolding(crate::specs::Lines::end_line, text::specs::Words::bytes_of))]
+fn put_refused(out: &mut [u8], at: usize, r: TableRefusal) -> usize
+    requires { Fits (end_line r.table (Err r.refusal)) at out.old }
+    ensures { Put (end_line r.table (Err r.refusal)) at out.old result out.new }
+{
+    let p = put_named(out, at, b"table", r.table);
+    let w = text::put_byte(out, p, 32);
+    listing_lines::put_refusal(out, w, r.refusal)
+}
+
+// The last line, where a table was refused.
+#[tactic(auto, using(crate::specs::Laws::Left::end_passed, text::specs::Laws::Putting::over_nothing))]
+fn put_end(out: &mut [u8], at: usize, stop: Result<(), TableRefusal>) -> usize
+    requires { Fits (end_line (table_in stop) (end_in stop)) at out.old }
+    ensures { Put (end_line (table_in stop) (end_in stop)) at out.old result out.new }
 {
     match stop {
-        Check::Passed => at,
-        Check::Refused(q) => {
-            let p = put_named(out, at, b"table", table);
-            let w = text::put_byte(out, p, 32);
-            listing_lines::put_refusal(out, w, q)
-        }
+        Ok(()) => at,
+        Err(r) => put_refused(out, at, r),
     }
 }
 
 // All lines of a report, whose entries stand in three slices.
+#[tactic(auto, unfolding(crate::specs::Text::report_with))]
 fn put_report(
     out: &mut [u8],
     answer: TermReport,
@@ -105,20 +119,19 @@ fn put_report(
     sums: &[u64],
 ) -> usize
     requires { (length fars.now ≤ length trees.now) × (length fars.now ≤ length sums.now) × Fits
-        (report_with answer (row_lines fars.now trees.now sums.now)) 0 out.old }
-    ensures { Put (report_with answer (row_lines fars.now trees.now sums.now)) 0 out.old result
+        (report_with (seen_as answer) (row_lines fars.now trees.now sums.now)) 0 out.old }
+    ensures { Put (report_with (seen_as answer) (row_lines fars.now trees.now sums.now)) 0 out.old result
         out.new }
 {
-    let figures = answer.figures;
-    let stop = answer.stop;
-    let p = put_figures(out, 0, figures);
-    let q = put_pairs(out, p, figures);
-    let w = put_count(out, q, figures.sides);
+    let p = put_figures(out, 0, answer.figures);
+    let q = put_pairs(out, p, answer.figures);
+    let w = put_count(out, q, answer.figures.sides);
     let e = put_sides(out, w, fars, trees, sums);
-    put_end(out, e, answer.table, stop)
+    put_end(out, e, answer.stop)
 }
 
 // The report over the stored cost tables in the bytes. The three arrays have the places that it asks for, so it is never refused for room.
+#[tactic(auto, using(crate::specs::Laws::Left::in_arrays))]
 fn write_report(out: &mut [u8], bytes: &[u8]) -> usize
     requires { room ≤ length out.old }
     ensures { Put (term_text bytes.now) 0 out.old result out.new }
@@ -127,23 +140,16 @@ fn write_report(out: &mut [u8], bytes: &[u8]) -> usize
     let mut trees = [0u32; 1024];
     let mut sums = [0u64; 1024];
     let answer = report::report(bytes, &mut fars, &mut trees, &mut sums);
-    let figures = answer.figures;
-    let sides = figures.sides;
+    let sides = answer.figures.sides;
     put_report(out, answer, &fars[..sides], &trees[..sides], &sums[..sides])
 }
 
 // How many bytes 500 stored cost tables have at the most. Nothing behind them can matter to a report: `term_ignores` in specs/Ignored.antt.
 pub const LONGEST_INPUT: usize = 2899000;
 
-// A text: how long it is, and its bytes in front of an array with room for every report.
-#[derive(Drop)]
-pub struct Text {
-    pub length: usize,
-    pub bytes: [u8; 66560],
-}
-
 // What the program prints: the report over the stored cost tables in the bytes, up to 500, and what ended it where a table was refused.
-pub fn term_report(bytes: &[u8]) -> Text
+#[tactic(auto, using(crate::specs::Promises::put_within))]
+pub fn term_report(bytes: &[u8]) -> Text<66560>
     ensures printed { Printed bytes.now result.length result.bytes }
     ensures within { Within result.length result.bytes }
 {

@@ -2,12 +2,17 @@
 // where its text begins and answers the place behind it.
 #![tactic(auto)]
 
+pub mod whole;
+
 ghost use Rattle.std.specs.Prelude.{◌∷◌, [], ◌≡◌, ◌<◌, length};
 ghost use Rattle.text.specs.Decimal.{decimal};
 ghost use Rattle.text.specs.Fields.{field, fields};
 ghost use Rattle.text.specs.Putting.{Fits, Put};
 
+pub use whole::Text;
+
 // One byte.
+#[tactic(auto, using(crate::specs::Laws::Putting::put_one))]
 pub fn put_byte(out: &mut [u8], at: usize, b: u8) -> usize
     requires { at < length out.old }
     ensures { Put (b ∷ []) at out.old result out.new }
@@ -17,20 +22,20 @@ pub fn put_byte(out: &mut [u8], at: usize, b: u8) -> usize
 }
 
 // The bytes of a word.
+#[tactic(auto, using(crate::proofs::Laws::Turns::word_step, crate::proofs::Laws::Turns::word_end))]
 pub fn put_word(out: &mut [u8], at: usize, word: &[u8]) -> usize
     requires { Fits word.now at out.old }
     ensures { Put word.now at out.old result out.new }
 {
     let mut place = at;
-    let mut i = 0;
-    while i < word.len() {
-        place = put_byte(out, place, word[i]);
-        i += 1;
+    for byte in word {
+        place = put_byte(out, place, *byte);
     }
     place
 }
 
 // The digits of x: those of a tenth of it, then the last.
+#[tactic(auto, using(crate::proofs::Laws::Numbers::decimal_small, crate::proofs::Laws::Numbers::decimal_longer))]
 pub fn put_number(out: &mut [u8], at: usize, x: u64) -> usize
     requires { Fits (decimal x) at out.old }
     ensures { Put (decimal x) at out.old result out.new }
@@ -43,6 +48,7 @@ pub fn put_number(out: &mut [u8], at: usize, x: u64) -> usize
 }
 
 // One blank, and the digits of x.
+#[tactic(auto, unfolding(crate::specs::Fields::field))]
 pub fn put_field(out: &mut [u8], at: usize, x: u64) -> usize
     requires { Fits (field x) at out.old }
     ensures { Put (field x) at out.old result out.new }
@@ -51,23 +57,15 @@ pub fn put_field(out: &mut [u8], at: usize, x: u64) -> usize
     put_number(out, p, x)
 }
 
-// The same number in 64 bits.
-fn wide(x: u32) -> u64
-    ensures { result ≡ x }
-{
-    x as u64
-}
-
 // Each number behind one blank.
+#[tactic(auto, using(crate::proofs::Laws::Turns::field_fits, crate::proofs::Laws::Turns::field_step, crate::proofs::Laws::Turns::all_fields))]
 pub fn put_fields(out: &mut [u8], at: usize, l: &[u32]) -> usize
     requires { Fits (fields l.now) at out.old }
     ensures { Put (fields l.now) at out.old result out.new }
 {
     let mut place = at;
-    let mut i = 0;
-    while i < l.len() {
-        place = put_field(out, place, wide(l[i]));
-        i += 1;
+    for x in l {
+        place = put_field(out, place, u64::from(*x));
     }
     place
 }

@@ -1,7 +1,6 @@
 -- Checks that several calls share, by document 01's numbers. Assumes nothing.
 use Rattle.std.specs.Prelude.{ℕ}
-use Rattle.ground.specs.Refusals.{outside, refusal, refuse_if}
-use Rattle.ground.specs.declared.Check.{Check}
+use Rattle.ground.specs.Refusals.{outside, refusal, refuse_if, Check}
 
 -- 1: n outside 3..64
 abbrev pub images_check : ℕ → Check

@@ -6,7 +6,7 @@ ghost use Rattle.std.specs.Prelude.{◌≡◌};
 ghost use Rattle.theory.specs.Checks.{images_check};
 ghost use Rattle.theory.specs.FarSides.{inner};
 
-use ground::Check;
+use ground::Refusal;
 
 // The limit on an entry, `limit` of specs/Tables.antt; a doubled cost is at most twice as much.
 pub const LIMIT: u32 = 8000000;
@@ -18,7 +18,7 @@ pub const OLD_LIMIT: u32 = 1000000;
 pub const CAP: u32 = 4 * LIMIT;
 
 // Refusal 1.
-pub fn check_images(n: usize) -> Check
+pub fn check_images(n: usize) -> Result<(), Refusal>
     ensures { result ≡ images_check n }
 {
     ground::refuse_if(ground::is_outside(3, 64, n), 1, n, 0)

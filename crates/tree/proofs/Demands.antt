@@ -1,9 +1,8 @@
 -- Demands 2 and 3 over what the calls answered and left in the lent slices, f' and v' after f and v. Demand 1, of every call, is in
 -- kemotuiki/proofs/Demand1.antt. Assumes nothing.
-use Rattle.std.specs.Prelude.{List, refl, ◌≡◌, ℕ, ◌<◌, length}
+use Rattle.ground.specs.Refusals.{Written}
+use Rattle.std.specs.Prelude.{List, refl, ◌≡◌, ℕ, ◌<◌, length, Ok}
 use Rattle.std.proofs.Common.{subst, ◌∙◌, arith}
-use Rattle.ground.specs.declared.Written.{Written}
-use Rattle.ground.specs.declared.Written.TheVariants.{Places}
 use Rattle.theory.proofs.Demands.{stable}
 use Rattle.theory.specs.FourPoint.{FourPoint}
 use Rattle.theory.specs.LinkTables.{path}
@@ -31,17 +30,17 @@ exactly_when L n t f v r f' v' y l = record {
   answer = found;
 }
   where
-    found : (k : ℕ) → r ≡ Places k → ExactAnswer L n t f v k f' v'
+    found : (k : ℕ) → r ≡ Ok k → ExactAnswer L n t f v k f' v'
     found k e = exact_answer L n t f v k f' v' (subst (λ (q : Written). LeftRows (exact_outcome L n t f v) q f' v') e l)
 
-    reads : FourPoint (cost t n) n → (k : ℕ) × (r ≡ Places k)
+    reads : FourPoint (cost t n) n → (k : ℕ) × (r ≡ Ok k)
     reads fp = (
       length (exact_rows L n t),
       l.answered ∙ rw ((measured-passed L n t (length f) (length v)).1 y, (wiring_passed L (cost t n) n y.table.formed).1 fp) refl,
     )
 
 -- In the tree that was left no two images stand at one place, since they cost something: of the own links at a switch one at most costs 0.
-pub images-apart : (L n : ℕ) (t f v : List ℕ) (k : ℕ) (f' v' : List ℕ) → LeftRows (exact_outcome L n t f v) (Places k) f' v'
+pub images-apart : (L n : ℕ) (t f v : List ℕ) (k : ℕ) (f' v' : List ℕ) → LeftRows (exact_outcome L n t f v) (Ok k) f' v'
     → {i j : ℕ} → i < n → j < n → (i ≡ j → ⊥) → 0 < path (rows_left k f' v') i j
 images-apart L n t f v k f' v' l {i} {j} hi hj h =
     let x = exact_answer L n t f v k f' v' l in
@@ -51,7 +50,7 @@ images-apart L n t f v k f' v' l {i} {j} hi hj h =
 
 -- of the rows that the two calls left
 pub demand_3 : (L D n : ℕ) (t u f v g w : List ℕ) (r s : ℕ) (f' v' g' w' : List ℕ)
-    → LeftRows (exact_outcome L n t f v) (Places r) f' v' → LeftRows (measured_outcome L n u g w) (Places s) g' w' → Near D (cost t n) (cost u n) n
+    → LeftRows (exact_outcome L n t f v) (Ok r) f' v' → LeftRows (measured_outcome L n u g w) (Ok s) g' w' → Near D (cost t n) (cost u n) n
     → Demand3 L D n u (rows_left r f' v') (rows_left s g' w')
 demand_3 L D n t u f v g w r s f' v' g' w' l m p =
     let x = exact_answer L n t f v r f' v' l in

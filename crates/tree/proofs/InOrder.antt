@@ -1,21 +1,16 @@
 -- The checks of the two readings, and of one table where room is no question, by their numbers. Assumes nothing.
-use Rattle.std.specs.Prelude.{List, ◌++◌, ◌∷◌, refl, ◌≡◌, ℕ, ◌*◌, ◌-◌, length}
+use Rattle.std.specs.Prelude.{List, refl, ◌≡◌, ℕ, ◌*◌, ◌-◌, length, Ok, Err}
 use Rattle.std.proofs.Common.{arith}
 use Rattle.ground.specs.InOrder.{InOrder}
 use Rattle.ground.specs.Laws.InOrder.{join-order, refuse_order}
-use Rattle.ground.specs.Refusals.{places_if, refusal}
-use Rattle.ground.specs.Steps.{Step, ◌by◌}
-use Rattle.ground.specs.declared.Check.{Check}
-use Rattle.ground.specs.declared.Check.TheVariants.{Passed, Refused}
+use Rattle.ground.specs.Refusals.{places_if, refusal, Check}
 use Rattle.ground.specs.declared.Refusal.{Refusal}
 use Rattle.theory.specs.LinkTables.{Row}
 use Rattle.theory.specs.Tables.{cost}
-use Rattle.tables.specs.Checks.{length_check}
-use Rattle.tables.specs.InOrder.{costs_steps, size_steps}
 use Rattle.tables.proofs.InOrder.{costs-order, length-order, size-order}
-use Rattle.wiring.specs.InOrder.{wiring_order, wiring_steps}
+use Rattle.wiring.specs.InOrder.{wiring_order}
 use Rattle.tree.specs.Exact.{table_check, tree_check}
-use Rattle.tree.specs.Readings.{exact_check, measured_check, outcome, outputs_room_check, short}
+use Rattle.tree.specs.Readings.{exact_check, measured_check, outcome, short}
 pub use Rattle.tree.specs.InOrder.{measured_steps, exact_steps, tree_steps, table_steps}
 
 pub measured-order : (L n : ℕ) (t : List ℕ) (f v : ℕ) → InOrder (measured_steps L n t f v) (measured_check L n t f v)
@@ -36,9 +31,9 @@ table-order L n t = join-order (length-order n t) (tree_order L n t)
 -- ## What a reading answers and leaves, by its check
 
 pub outcome_places : (c : Check) (T : List Row) (f v : List ℕ) → (outcome c T f v).answer ≡ places_if c (length T)
-outcome_places Passed T f v = refl
-outcome_places (Refused q) T f v = refl
+outcome_places (Ok tt) T f v = refl
+outcome_places (Err q) T f v = refl
 
-pub outcome_unaltered : (c : Check) (T : List Row) (f v : List ℕ) (q : Refusal) → c ≡ Refused q
+pub outcome_unaltered : (c : Check) (T : List Row) (f v : List ℕ) (q : Refusal) → c ≡ Err q
     → ((outcome c T f v).far_list ≡ f) × ((outcome c T f v).cost_list ≡ v)
 outcome_unaltered c T f v q e = rw e (refl, refl)

@@ -1,11 +1,10 @@
 -- What a reading says that answers 20: it names the first two images that cost nothing. Assumes nothing.
-use Rattle.std.specs.Prelude.{List, [], ◌∷◌, refl, ◌≡◌, ℕ, ◌*◌, ◌-◌}
+use Rattle.ground.specs.Refusals.{Check}
+use Rattle.std.specs.Prelude.{List, [], ◌∷◌, refl, ◌≡◌, ℕ, ◌*◌, ◌-◌, Err}
 use Rattle.std.proofs.Common.{arith}
 use Rattle.ground.specs.Filters.{Each}
 use Rattle.ground.specs.Laws.Filters.{each_append, each_cons, each_nil}
 use Rattle.ground.specs.Steps.{Step, ◌by◌}
-use Rattle.ground.specs.declared.Check.{Check}
-use Rattle.ground.specs.declared.Check.TheVariants.{Refused}
 use Rattle.ground.specs.declared.Refusal.{Refusal}
 use Rattle.theory.specs.Checks.{images_check}
 use Rattle.theory.specs.Tables.{cost}
@@ -37,8 +36,8 @@ module _ (L n : ℕ) (t : List ℕ) (f v : ℕ) where
       each_append Zeros (measured_steps L n t f v) (7 by wiring_check (cost t n) n ∷ []) measured_zeros
       (other 7 (wiring_check (cost t n) n) [] (λ e. omega arith) (each_nil Zeros))
 
-  pub twenty-measured : (r : Refusal) → measured_check L n t f v ≡ Refused r → r.number ≡ 20 → FirstZero (cost t n) n r
+  pub twenty-measured : (r : Refusal) → measured_check L n t f v ≡ Err r → r.number ≡ 20 → FirstZero (cost t n) n r
   twenty-measured r = zero_named_by (cost t n) n (measured-order L n t f v) measured_zeros
 
-  pub twenty_exact : (r : Refusal) → exact_check L n t f v ≡ Refused r → r.number ≡ 20 → FirstZero (cost t n) n r
+  pub twenty_exact : (r : Refusal) → exact_check L n t f v ≡ Err r → r.number ≡ 20 → FirstZero (cost t n) n r
   twenty_exact r = zero_named_by (cost t n) n (exact_order L n t f v) exact_zeros

@@ -1,8 +1,7 @@
 -- Demands 2 and 3 over what the calls answered and left in the lent slices, f' and v' after f and v. Demand 1, of every call, is in
 -- kemotuiki/proofs/Demand1.antt. Assumes nothing.
-use Rattle.std.specs.Prelude.{List, ◌↔◌, ◌≡◌, ℕ, ◌*◌, ◌+◌, ◌≤◌}
-use Rattle.ground.specs.declared.Written.{Written}
-use Rattle.ground.specs.declared.Written.TheVariants.{Places}
+use Rattle.ground.specs.Refusals.{Written}
+use Rattle.std.specs.Prelude.{List, ◌↔◌, ◌≡◌, ℕ, ◌*◌, ◌+◌, ◌≤◌, Ok}
 use Rattle.theory.specs.FarSides.{FarSide}
 use Rattle.theory.specs.FourPoint.{FourPoint}
 use Rattle.theory.specs.LinkTables.{Row, cost_of}
@@ -13,9 +12,9 @@ use Rattle.tree.specs.Promises.{Drawn, ExactAnswer}
 -- the call accepts exactly when the condition holds, and exactly when some link table has path costs equal to twice the entries:
 -- the rows left are that table
 pub record ExactlyWhen (L n : ℕ) (t f v : List ℕ) (r : Written) (f' v' : List ℕ) : Type 0 where
-  pub by_condition : ((k : ℕ) × (r ≡ Places k)) ↔ FourPoint (cost t n) n
-  pub by_tree : ((k : ℕ) × (r ≡ Places k)) ↔ ((T : List Row) × Exact L (cost t n) n T)
-  pub answer : (k : ℕ) → r ≡ Places k → ExactAnswer L n t f v k f' v'
+  pub by_condition : ((k : ℕ) × (r ≡ Ok k)) ↔ FourPoint (cost t n) n
+  pub by_tree : ((k : ℕ) × (r ≡ Ok k)) ↔ ((T : List Row) × Exact L (cost t n) n T)
+  pub answer : (k : ℕ) → r ≡ Ok k → ExactAnswer L n t f v k f' v'
 
 -- T are the rows of an accepted table, U those drawn from a second table u, no entry differing by more than D
 pub record Demand3 (L D n : ℕ) (u : List ℕ) (T U : List Row) : Type 0 where

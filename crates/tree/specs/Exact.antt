@@ -1,11 +1,8 @@
 -- The exact reading of one table where room is no question: its checks, its rows, and what a call leaves. Crates that stand on the
 -- promise of this one speak of tables and trees by these names. Assumes nothing.
-use Rattle.std.specs.Prelude.{List, ◌≡◌, ℕ, ◌*◌, ◌+◌, ◌^◌, ◌≤◌, length, take}
+use Rattle.std.specs.Prelude.{List, ◌≡◌, ℕ, ◌*◌, ◌+◌, ◌^◌, ◌≤◌, length, take, Ok}
 use Rattle.ground.specs.Ascending.{Between}
-use Rattle.ground.specs.Refusals.{places_if, ◌then◌}
-use Rattle.ground.specs.declared.Check.{Check}
-use Rattle.ground.specs.declared.Check.TheVariants.{Passed}
-use Rattle.ground.specs.declared.Written.{Written}
+use Rattle.ground.specs.Refusals.{places_if, ◌then◌, Check, Written}
 use Rattle.theory.specs.FourPoint.{FourPoint}
 use Rattle.theory.specs.LinkTables.{Row, fars}
 use Rattle.theory.specs.Readings.{measured}
@@ -38,11 +35,11 @@ exact_sides L n t = fars (exact_rows L n t)
 -- it answered r and left the far sides f: refused as the table's check says, or so many far sides in front
 pub record SidesRead (L n : ℕ) (t : List ℕ) (r : Written) (f : List ℕ) : Type 0 where
   pub answered : r ≡ places_if (table_check L n t) (length (exact_sides L n t))
-  pub stand : table_check L n t ≡ Passed → take (length (exact_sides L n t)) f ≡ exact_sides L n t
+  pub stand : table_check L n t ≡ Ok tt → take (length (exact_sides L n t)) f ≡ exact_sides L n t
 
 -- it accepted the table: the first k places of f are the far sides of its tree
 pub record SidesStand (L n : ℕ) (t : List ℕ) (k : ℕ) (f : List ℕ) : Type 0 where
-  pub passed : table_check L n t ≡ Passed
+  pub passed : table_check L n t ≡ Ok tt
   pub sides : take k f ≡ exact_sides L n t
   pub counted : length (take k f) ≡ k
   pub few : k + 3 ≤ 2 * n

@@ -1,21 +1,11 @@
 -- The checks of the two readings, and of one table where room is no question, by their numbers. Assumes nothing.
-use Rattle.std.specs.Prelude.{List, ◌++◌, ◌∷◌, refl, ◌≡◌, ℕ, ◌*◌, ◌-◌, length}
-use Rattle.std.proofs.Common.{arith}
-use Rattle.ground.specs.InOrder.{InOrder}
-use Rattle.ground.specs.Laws.InOrder.{join-order, refuse_order}
-use Rattle.ground.specs.Refusals.{places_if, refusal}
+use Rattle.std.specs.Prelude.{List, ◌++◌, ◌∷◌, ℕ, ◌*◌, ◌-◌}
 use Rattle.ground.specs.Steps.{Step, ◌by◌}
-use Rattle.ground.specs.declared.Check.{Check}
-use Rattle.ground.specs.declared.Check.TheVariants.{Passed, Refused}
-use Rattle.ground.specs.declared.Refusal.{Refusal}
-use Rattle.theory.specs.LinkTables.{Row}
 use Rattle.theory.specs.Tables.{cost}
 use Rattle.tables.specs.Checks.{length_check}
 use Rattle.tables.specs.InOrder.{costs_steps, size_steps}
-use Rattle.tables.proofs.InOrder.{costs-order, length-order, size-order}
-use Rattle.wiring.specs.InOrder.{wiring_order, wiring_steps}
-use Rattle.tree.specs.Exact.{table_check, tree_check}
-use Rattle.tree.specs.Readings.{exact_check, measured_check, outcome, outputs_room_check, short}
+use Rattle.wiring.specs.InOrder.{wiring_steps}
+use Rattle.tree.specs.Readings.{outputs_room_check}
 
 -- 1, 2, 3, 4, 5, 6, 20, where f and v are the lengths of the outputs
 abbrev pub measured_steps : ℕ → ℕ → List ℕ → ℕ → ℕ → List Step

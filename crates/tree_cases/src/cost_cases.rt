@@ -1,168 +1,146 @@
-// Cases that begin with n and a cost table. Each function reads the other arguments, makes its call, prints what the call answers
-// and leaves, and gives the place behind the case.
-use case_text::calls::{EXACT, EXACT_GRAFTED, INDEX, MEASURED, ORDER};
-use case_text::{
-    number_at, same_written, same32, same64, show_first, show_line, show_next, show_signed_answer,
-    show_table_refusal, show_written, show32, show64, take32, take64,
-};
-use compare::Comparison;
+// Cases that begin with n and a cost table. Each function reads the arguments, makes its call, and prints what the call answers and leaves.
+use case_text::{Arguments, show, show_answer, show_table_refusal};
 use counts::Difference;
-use ground::Written;
+use ground::Refusal;
 use std::io;
 
-fn index_case(rt: &impl Print, n: usize, t: &[u32], text: &[u8], at: usize) -> io::Result<usize> {
-    let s = number_at(text, at);
-    show_signed_answer(rt, index::index(n, t, s.value))?;
-    Ok(s.next)
+pub fn index_case(rt: &impl Print, arguments: &mut Arguments<'_>) -> io::Result<()> {
+    let n = arguments.size();
+    let mut entries = [0u32; 4200];
+    let t = arguments.take(&mut entries);
+    let s = arguments.number();
+    show_answer(rt, index::index(n, t, s))
 }
 
-fn order_case(rt: &impl Print, n: usize, t: &[u32], text: &[u8], at: usize) -> io::Result<usize> {
-    let first = number_at(text, at);
-    let last = number_at(text, first.next);
+pub fn order_case(rt: &impl Print, arguments: &mut Arguments<'_>) -> io::Result<()> {
+    let n = arguments.size();
+    let mut entries = [0u32; 4200];
+    let t = arguments.take(&mut entries);
+    let first = arguments.size();
+    let last = arguments.size();
     let mut places = [0u32; 4200];
-    let room = take32(text, last.next, &mut places);
-    let count = room.count;
-    let out = &mut places[..count];
-    show_written(
-        rt,
-        order::order(n, t, first.value as usize, last.value as usize, out),
-    )?;
-    show32(rt, out)?;
-    Ok(room.next)
+    let out = arguments.take(&mut places);
+    show_answer(rt, order::order(n, t, first, last, out))?;
+    show(rt, out)
 }
 
-// What this reading answers.
-fn read(call: u32, n: usize, t: &[u32], fars: &mut [u64], costs: &mut [u32]) -> Written {
-    if call == MEASURED {
-        return tree::measured(n, t, fars, costs);
-    }
-    if call == EXACT {
-        return tree::exact(n, t, fars, costs);
-    }
-    graft::exact(n, t, fars, costs)
+// The calls that read a cost table: the measured reading, and the exact one by each engine.
+#[derive(Clone, Copy, PartialEq, Eq, Debug)]
+enum Reading {
+    Measured,
+    Exact,
+    ExactGrafted,
 }
 
-// The other engine of the exact reading.
-fn other_engine(call: u32) -> u32 {
-    if call == EXACT {
-        return EXACT_GRAFTED;
-    }
-    EXACT
+// What a reading answers, and what it leaves.
+#[derive(PartialEq, Drop)]
+struct Outcome<'a> {
+    answer: Result<usize, Refusal>,
+    fars: &'a [u64],
+    costs: &'a [u32],
 }
 
-// The other engine reads the same table, with places of its own that are filled from the text once more. Where it answers or leaves
+impl Reading {
+    // The same reading by the other engine. The measured one has no other.
+    fn by_the_other_engine(self) -> Option<Reading> {
+        match self {
+            Reading::Measured => None,
+            Reading::Exact => Some(Reading::ExactGrafted),
+            Reading::ExactGrafted => Some(Reading::Exact),
+        }
+    }
+
+    // Reads the table, and leaves the rows in the lent places, as far as the arguments say, which fill them before.
+    fn outcome<'a>(
+        self,
+        n: usize,
+        t: &[u32],
+        arguments: &mut Arguments<'_>,
+        sides: &'a mut [u64],
+        doubled: &'a mut [u32],
+    ) -> Outcome<'a> {
+        let fars = arguments.take(sides);
+        let costs = arguments.take(doubled);
+        let answer = match self {
+            Reading::Measured => tree::measured(n, t, fars, costs),
+            Reading::Exact => tree::exact(n, t, fars, costs),
+            Reading::ExactGrafted => graft::exact(n, t, fars, costs),
+        };
+        Outcome {
+            answer,
+            fars,
+            costs,
+        }
+    }
+}
+
+// The other engine reads the same table, with places of its own that are filled from the arguments once more. Where it answers or leaves
 // something else, a line is printed that no expected text has.
 fn hold_engines(
     rt: &impl Print,
-    call: u32,
+    other: Reading,
     n: usize,
     t: &[u32],
-    text: &[u8],
-    at: usize,
-    answer: &Written,
-    fars: &[u64],
-    costs: &[u32],
+    arguments: &mut Arguments<'_>,
+    outcome: &Outcome<'_>,
 ) -> io::Result<()> {
     let mut sides = [0u64; 4200];
-    let side_room = take64(text, at, &mut sides);
-    let side_count = side_room.count;
-    let other_fars = &mut sides[..side_count];
     let mut doubled = [0u32; 4200];
-    let cost_room = take32(text, side_room.next, &mut doubled);
-    let cost_count = cost_room.count;
-    let other_costs = &mut doubled[..cost_count];
-    let other = read(other_engine(call), n, t, other_fars, other_costs);
-    if same_written(answer, &other) && same64(fars, other_fars) && same32(costs, other_costs) {
-        return Ok(());
+    if other.outcome(n, t, arguments, &mut sides, &mut doubled) != *outcome {
+        println!(rt; "the two engines differ")?;
     }
-    show_line(rt, b"the two engines differ")
+    Ok(())
 }
 
 // A case of the exact reading is read by both engines; what is printed is of the one that is asked.
 fn reading_case(
     rt: &impl Print,
-    call: u32,
-    n: usize,
-    t: &[u32],
-    text: &[u8],
-    at: usize,
-) -> io::Result<usize> {
+    reading: Reading,
+    arguments: &mut Arguments<'_>,
+) -> io::Result<()> {
+    let n = arguments.size();
+    let mut entries = [0u32; 4200];
+    let t = arguments.take(&mut entries);
+    let mut again = *arguments;
     let mut sides = [0u64; 4200];
-    let side_room = take64(text, at, &mut sides);
-    let side_count = side_room.count;
-    let fars = &mut sides[..side_count];
     let mut doubled = [0u32; 4200];
-    let cost_room = take32(text, side_room.next, &mut doubled);
-    let cost_count = cost_room.count;
-    let costs = &mut doubled[..cost_count];
-    let answer = read(call, n, t, fars, costs);
-    if call != MEASURED {
-        hold_engines(rt, call, n, t, text, at, &answer, fars, costs)?;
+    let outcome = reading.outcome(n, t, arguments, &mut sides, &mut doubled);
+    if let Some(other) = reading.by_the_other_engine() {
+        hold_engines(rt, other, n, t, &mut again, &outcome)?;
     }
-    show_written(rt, answer)?;
-    show64(rt, fars)?;
-    show32(rt, costs)?;
-    Ok(cost_room.next)
+    show_answer(rt, outcome.answer)?;
+    show(rt, outcome.fars)?;
+    show(rt, outcome.costs)
 }
 
-// Prints what the comparison counts.
-fn show_difference(rt: &impl Print, d: Difference) -> io::Result<()> {
-    show_first(rt, 0)?;
-    show_next(rt, d.first as u64)?;
-    show_next(rt, d.second as u64)?;
-    show_next(rt, d.common as u64)?;
-    show_next(rt, d.count as u64)?;
-    show_next(rt, d.over as u64)
+pub fn measured_case(rt: &impl Print, arguments: &mut Arguments<'_>) -> io::Result<()> {
+    reading_case(rt, Reading::Measured, arguments)
 }
 
-// Prints the answer of the comparison.
-fn show_comparison(rt: &impl Print, answer: Comparison) -> io::Result<()> {
-    match answer {
-        Comparison::Compared(d) => show_difference(rt, d),
-        Comparison::Refused(table, r) => show_table_refusal(rt, table, r),
-    }
+pub fn exact_case(rt: &impl Print, arguments: &mut Arguments<'_>) -> io::Result<()> {
+    reading_case(rt, Reading::Exact, arguments)
 }
 
-fn compare_case(rt: &impl Print, n: usize, t: &[u32], text: &[u8], at: usize) -> io::Result<usize> {
+pub fn exact_grafted_case(rt: &impl Print, arguments: &mut Arguments<'_>) -> io::Result<()> {
+    reading_case(rt, Reading::ExactGrafted, arguments)
+}
+
+pub fn compare_case(rt: &impl Print, arguments: &mut Arguments<'_>) -> io::Result<()> {
+    let n = arguments.size();
     let mut entries = [0u32; 4200];
-    let second = take32(text, at, &mut entries);
-    let count = second.count;
-    show_comparison(rt, compare::compare(n, t, &entries[..count]))?;
-    Ok(second.next)
-}
-
-// A case of this call, behind its n and its cost table.
-fn case_of(
-    rt: &impl Print,
-    call: u32,
-    n: usize,
-    t: &[u32],
-    text: &[u8],
-    at: usize,
-) -> io::Result<usize> {
-    if call == INDEX {
-        return index_case(rt, n, t, text, at);
+    let one = arguments.take(&mut entries);
+    let mut other_entries = [0u32; 4200];
+    let other = arguments.take(&mut other_entries);
+    match compare::compare(n, one, other) {
+        Ok(
+            Difference {
+                first,
+                second,
+                common,
+                count,
+                over,
+            },
+        ) => print!(rt; "0 {first} {second} {common} {count} {over}"),
+        Err(r) => show_table_refusal(rt, r),
     }
-    if call == ORDER {
-        return order_case(rt, n, t, text, at);
-    }
-    if call <= EXACT_GRAFTED {
-        return reading_case(rt, call, n, t, text, at);
-    }
-    compare_case(rt, n, t, text, at)
-}
-
-pub fn cost_case(rt: &impl Print, call: u32, text: &[u8], at: usize) -> io::Result<usize> {
-    let n = number_at(text, at);
-    let mut entries = [0u32; 4200];
-    let table = take32(text, n.next, &mut entries);
-    let count = table.count;
-    case_of(
-        rt,
-        call,
-        n.value as usize,
-        &entries[..count],
-        text,
-        table.next,
-    )
 }

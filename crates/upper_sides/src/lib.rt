@@ -34,14 +34,12 @@ fn next(sides: &[u64], count: usize, s: u64, from: usize) -> usize
     requires { (count ≤ length sides.now) × (from ≤ count) }
     ensures { FirstContaining sides.now count s from result }
 {
-    let mut j = from;
-    while j < count {
+    for j in from..count {
         if contains(sides[j], s) {
             return j;
         }
-        j += 1;
     }
-    j
+    count
 }
 
 // Every image of m has its first side at place j.
@@ -50,8 +48,9 @@ fn mark(m: u64, j: usize, links: &mut [u8])
     ensures { PlacesMarked m j 0 links.old links.new }
 {
     let mut rest = m;
+    // A `while`: it goes from one image of m to the next.
     while rest != 0 {
-        links[128 + lowest(rest)] = ground::byte(j);
+        links[128 + lowest(rest)] = j as u8;
         rest = without_lowest(rest);
     }
 }
@@ -62,7 +61,7 @@ fn turn_link(sides: &[u64], count: usize, i: usize, seen: u64, links: &mut [u8])
     ensures { Linking sides.now count (i + 1) result links.new }
 {
     let s = sides[i];
-    links[i] = ground::byte(next(sides, count, s, i + 1));
+    links[i] = next(sides, count, s, i + 1) as u8;
     let both = seen | s;
     mark(both - seen, i, links);
     both
@@ -74,9 +73,7 @@ pub fn link(sides: &[u64], count: usize, links: &mut [u8])
     ensures { Linked sides.now count links.new }
 {
     let mut seen = 0;
-    let mut i = 0;
-    while i < count {
+    for i in 0..count {
         seen = turn_link(sides, count, i, seen, links);
-        i += 1;
     }
 }

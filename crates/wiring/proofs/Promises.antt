@@ -1,14 +1,13 @@
 -- What refusal 7 is worth: it is given exactly where the four-point condition does not hold, and shows the first four images, in
 -- ascending order, that fail it. Assumes nothing.
-use Rattle.std.specs.Prelude.{Bool, true, ◌↔◌, ◌⊎◌, refl, ◌≡◌, ℕ, ◌+◌, ◌-◌, ◌<◌, ◌≤◌}
+use Rattle.std.specs.Prelude.{Bool, true, ◌↔◌, refl, ◌≡◌, ℕ, ◌-◌, ◌<◌, ◌≤◌, Ok, Err}
 use Rattle.std.proofs.Math.Bool.{false}
 use Rattle.std.proofs.Math.Logic.{inl, inr}
 use Rattle.std.proofs.Common.{ap, ap₂, sym, ◌∙◌, arith}
 use Rattle.ground.specs.Lowest.{LowestRefused}
 use Rattle.ground.specs.Laws.Lowest.{all-passed, all-refused}
-use Rattle.ground.specs.Refusals.{refusal, refuse_if}
+use Rattle.ground.specs.Refusals.{refuse_if}
 use Rattle.ground.specs.Laws.Refusals.{refuse_if-passed}
-use Rattle.ground.specs.declared.Check.TheVariants.{Passed, Refused}
 use Rattle.ground.specs.declared.Refusal.{Refusal}
 use Rattle.theory.specs.FourPoint.{FourPoint, failing, fails, four}
 use Rattle.theory.proofs.Laws.Sorted.{none_failing}
@@ -19,28 +18,28 @@ use Rattle.wiring.proofs.Laws.Scan.{first-passed, wiring_scan}
 pub use Rattle.wiring.specs.Promises.{Before, FirstFailing}
 
 -- passed exactly when the condition holds
-pub wiring_passed : (L : ℕ) (d : ℕ → ℕ → ℕ) (n : ℕ) → WellFormed L d n → (wiring_check d n ≡ Passed) ↔ FourPoint d n
+pub wiring_passed : (L : ℕ) (d : ℕ → ℕ → ℕ) (n : ℕ) → WellFormed L d n → (wiring_check d n ≡ Ok tt) ↔ FourPoint d n
 wiring_passed L d n c = (λ e. (none_failing L d n c).0 (first-passed (failing d n) e), λ fp. ap first_four ((none_failing L d n c).1 fp))
 
-refused_is : (b : Bool) (r q : Refusal) → refuse_if b r ≡ Refused q → (b ≡ true) × (q ≡ r)
+refused_is : (b : Bool) (r q : Refusal) → refuse_if b r ≡ Err q → (b ≡ true) × (q ≡ r)
 refused_is true r q e = (refl, cc)
 refused_is false r q e = absurd (let z : ◌≡◌ {A = ℕ} 0 1 = cc in omega arith)
 
 module _ (d : ℕ → ℕ → ℕ) (n : ℕ) where
-  last_passed : (i j k l : ℕ) → last_scan d n i j k ≡ Passed → k ≤ l → l < n → fails d (four i j k l) ≡ false
+  last_passed : (i j k l : ℕ) → last_scan d n i j k ≡ Ok tt → k ≤ l → l < n → fails d (four i j k l) ≡ false
   unfolding last_scan
   last_passed i j k l e h m = refuse_if-passed (fails d (four i j k l)) _ (all-passed (four_check d i j k) k (n - k) e l h (omega arith))
 
-  third_passed : (i j k l : ℕ) → third_scan d n i j ≡ Passed → j ≤ k → k ≤ l → l < n → fails d (four i j k l) ≡ false
+  third_passed : (i j k l : ℕ) → third_scan d n i j ≡ Ok tt → j ≤ k → k ≤ l → l < n → fails d (four i j k l) ≡ false
   unfolding third_scan
   third_passed i j k l e g h m = last_passed i j k l (all-passed (last_scan d n i j) j (n - j) e k g (omega arith)) h m
 
-  second-passed : (i j k l : ℕ) → second_scan d n i ≡ Passed → i ≤ j → j ≤ k → k ≤ l → l < n → fails d (four i j k l) ≡ false
+  second-passed : (i j k l : ℕ) → second_scan d n i ≡ Ok tt → i ≤ j → j ≤ k → k ≤ l → l < n → fails d (four i j k l) ≡ false
   unfolding second_scan
   second-passed i j k l e f g h m = third_passed i j k l (all-passed (third_scan d n i) i (n - i) e j f (omega arith)) g h m
 
   -- refused with the first of all
-  pub wiring_refused : (r : Refusal) → wiring_check d n ≡ Refused r → FirstFailing d n r
+  pub wiring_refused : (r : Refusal) → wiring_check d n ≡ Err r → FirstFailing d n r
   unfolding second_scan third_scan last_scan
   wiring_refused r e =
       let x = all-refused (second_scan d n) 0 n r (sym (wiring_scan d n) ∙ e) in

@@ -1,8 +1,7 @@
 -- The scan for refusal 7, level by level. Assumes nothing.
 use Rattle.std.specs.Prelude.{ℕ, ◌+◌, ◌-◌}
 use Rattle.ground.specs.Lowest.{check_all}
-use Rattle.ground.specs.Refusals.{refusal, refuse_if}
-use Rattle.ground.specs.declared.Check.{Check}
+use Rattle.ground.specs.Refusals.{refusal, refuse_if, Check}
 use Rattle.theory.specs.FourPoint.{fails, four}
 
 -- the check of one four

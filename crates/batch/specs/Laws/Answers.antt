@@ -1,6 +1,6 @@
 -- A batch is accepted exactly when every table passes and nothing is left over; refused, nothing is altered; and no second answer meets the promise.
 -- Assumes nothing.
-use Rattle.std.specs.Prelude.{not, ◌↔◌, ◌≡◌, ℕ, ◌+◌, ◌-◌, ◌≤◌, eqb, drop, length, take}
+use Rattle.std.specs.Prelude.{not, ◌↔◌, ◌≡◌, ℕ, ◌+◌, ◌-◌, ◌≤◌, eqb, drop, length, take, Ok}
 use mathlib.Core.List.{List, [], ◌∷◌}
 use Rattle.std.proofs.Math.Path.{ap}
 use Rattle.std.proofs.Common.{◌∙◌, arith, eq-eqb, eqb-true}
@@ -9,48 +9,43 @@ use Rattle.std.proofs.lemmas.Bool.{not-false}
 use Rattle.ground.specs.Buffers.{front}
 use Rattle.ground.specs.Outcomes.{Left}
 use Rattle.ground.specs.Laws.Outcomes.{left_once}
-use Rattle.ground.specs.Refusals.{refusal, refuse_if}
+use Rattle.ground.specs.Refusals.{refusal, refuse_if, Check, refused_in}
 use Rattle.ground.specs.Laws.Refusals.{refuse_if-passed}
-use Rattle.ground.specs.declared.Check.{Check}
-use Rattle.ground.specs.declared.Check.TheVariants.{Passed}
 use Rattle.ground.specs.declared.Refusal.{Refusal}
 use Rattle.ground.specs.Laws.Refusals.{if_accepted}
 use Rattle.theory.specs.Tables.{limit}
 use Rattle.link_forms.specs.Form.{link_bytes, link_used}
-use Rattle.batch.specs.Batch.{batch_answer, batch_from, batch_outcome, front_by, numbered}
+use Rattle.batch.specs.Batch.{batch_answer, batch_from, batch_outcome, front_by, numbered, Batched}
 use Rattle.joined_tables.specs.Bytes.{batch_bytes}
 use Rattle.joined_tables.specs.Fitting.{BatchFits}
 use Rattle.joined_tables.specs.Laws.Next.{left_over_passed, length-next, next-passed, passed-next}
 use Rattle.joined_tables.specs.Tables.{Table, left_over_checks, next_checks, tables}
-use Rattle.batch.specs.declared.Batched.{Batched}
-use Rattle.batch.specs.declared.Batched.TheVariants.{Bytes}
 use Rattle.bits.specs.declared.Form.{Form}
-use Rattle.batch.specs.declared.Batched.TheVariants as batched
 
 -- ## A check with a table's number
 
-pub numbered-bytes : (k : ℕ) (y : Check) (b : Batched) (u : ℕ) → numbered k y b ≡ Bytes u → (y ≡ Passed) × (b ≡ Bytes u)
-numbered-bytes k y b u = if_accepted (batched.Refused k) y b (λ r q. absurd (let z : ◌≡◌ {A = ℕ} 0 1 = cc in omega arith))
+pub numbered-bytes : (k : ℕ) (y : Check) (b : Batched) (u : ℕ) → numbered k y b ≡ Ok u → (y ≡ Ok tt) × (b ≡ Ok u)
+numbered-bytes k y b u = if_accepted (refused_in k) y b (λ r q. absurd (let z : ◌≡◌ {A = ℕ} 0 1 = cc in omega arith))
 
-bytes_same : (x y : ℕ) → Bytes x ≡ Bytes y → x ≡ y
+bytes_same : (x y : ℕ) → ◌≡◌ {A = Batched} (Ok x) (Ok y) → x ≡ y
 bytes_same x y e = cc
 
 -- ## What is left of the lent bytes
 
-pub by_stops : {a : Batched} {k : ℕ} {r : Refusal} (b : Batched) (m d : List ℕ) → a ≡ batched.Refused k r → a ≡ b → d ≡ front_by b m d
+pub by_stops : {a : Batched} {k : ℕ} {r : Refusal} (b : Batched) (m d : List ℕ) → a ≡ refused_in k r → a ≡ b → d ≡ front_by b m d
 by_stops b m d e f = rw (← f, e)
 
-pub by_goes : {a : Batched} {u : ℕ} (b : Batched) (m d e : List ℕ) → a ≡ Bytes u → a ≡ b → e ≡ front m d → e ≡ front_by b m d
+pub by_goes : {a : Batched} {u : ℕ} (b : Batched) (m d e : List ℕ) → a ≡ Ok u → a ≡ b → e ≡ front m d → e ≡ front_by b m d
 by_goes b m d e p q h = rw (← q, p) h
 
 -- ## The whole batch
 
 module _ (form : Form) where
-  pub from_fits : (k used : ℕ) (ts : List Table) (l v : List ℕ) (room u : ℕ) → batch_from form k used ts l v room ≡ Bytes u
+  pub from_fits : (k used : ℕ) (ts : List Table) (l v : List ℕ) (room u : ℕ) → batch_from form k used ts l v room ≡ Ok u
       → BatchFits form ts l v room × (u ≡ used + length (batch_bytes form ts l v))
   unfolding batch_from batch_bytes BatchFits
   from_fits k used [] l v room u e =
-      let p = numbered-bytes k (left_over_checks l v) (Bytes used) u e in
+      let p = numbered-bytes k (left_over_checks l v) (Ok used) u e in
       (left_over_passed l v p.0, omega (arith, bytes_same used u p.1))
   from_fits k used (t ∷ ts) l v room u e =
       let x = link_used form t.0 t.1 in
@@ -62,23 +57,23 @@ module _ (form : Form) where
       ((s, r.0), omega (arith, r.1, length-next form t.0 t.1 l v room s, length-append m (batch_bytes form ts (drop t.1 l) (drop t.1 v))))
 
   pub fits_from : form.limit ≤ limit → (k used : ℕ) (ts : List Table) (l v : List ℕ) (room : ℕ) → BatchFits form ts l v room
-      → batch_from form k used ts l v room ≡ Bytes (used + length (batch_bytes form ts l v))
+      → batch_from form k used ts l v room ≡ Ok (used + length (batch_bytes form ts l v))
   unfolding batch_from batch_bytes BatchFits
-  fits_from w k used [] l v room f = rw (f.0, f.1) (ap Bytes (omega arith))
+  fits_from w k used [] l v room f = rw (f.0, f.1) (ap Ok (omega arith))
   fits_from w k used (t ∷ ts) l v room f =
       let x = link_used form t.0 t.1 in
       let m = link_bytes form t.0 (take t.1 l) (take t.1 v) in
       let ih = fits_from w (k + 1) (used + x) ts (drop t.1 l) (drop t.1 v) (room - x) f.1 in
       rw (passed-next form t.0 t.1 l v room w f.0)
-      (ih ∙ ap Bytes (omega (arith, length-next form t.0 t.1 l v room f.0, length-append m (batch_bytes form ts (drop t.1 l) (drop t.1 v)))))
+      (ih ∙ ap Ok (omega (arith, length-next form t.0 t.1 l v room f.0, length-append m (batch_bytes form ts (drop t.1 l) (drop t.1 v)))))
 
   module _ (ns counts l v : List ℕ) where
     -- accepted, with these bytes: two lists of one length, every table a link table that has its rows and room, and nothing left over
-    pub batch_accepted : form.limit ≤ limit → (room u : ℕ) → (batch_answer form ns counts l v room ≡ Bytes u)
+    pub batch_accepted : form.limit ≤ limit → (room u : ℕ) → (batch_answer form ns counts l v room ≡ Ok u)
         ↔ ((length ns ≡ length counts) × BatchFits form (tables ns counts) l v room × (u ≡ length (batch_bytes form (tables ns counts) l v)))
     batch_accepted w room u = (into, out)
       where
-        into : batch_answer form ns counts l v room ≡ Bytes u
+        into : batch_answer form ns counts l v room ≡ Ok u
             → (length ns ≡ length counts) × BatchFits form (tables ns counts) l v room × (u ≡ length (batch_bytes form (tables ns counts) l v))
         into e =
             let p = numbered-bytes 0 (refuse_if (not (eqb (length ns) (length counts))) (refusal 2 0 0 0 0))
@@ -87,17 +82,17 @@ module _ (form : Form) where
             (eqb-true (length ns) (length counts) (not-false _ (refuse_if-passed (not (eqb (length ns) (length counts))) _ p.0)), q.0, omega (arith, q.1))
 
         out : (length ns ≡ length counts) × BatchFits form (tables ns counts) l v room × (u ≡ length (batch_bytes form (tables ns counts) l v))
-            → batch_answer form ns counts l v room ≡ Bytes u
-        out t = rw (eq-eqb (length ns) (length counts) t.0) (fits_from w 0 0 (tables ns counts) l v room t.1 ∙ ap Bytes (omega (arith, t.2)))
+            → batch_answer form ns counts l v room ≡ Ok u
+        out t = rw (eq-eqb (length ns) (length counts) t.0) (fits_from w 0 0 (tables ns counts) l v room t.1 ∙ ap Ok (omega (arith, t.2)))
 
     -- accepted, the tables' stored forms stand joined at the front, and no other byte is written
-    pub accepted_writes : (out : List ℕ) (u : ℕ) → batch_answer form ns counts l v (length out) ≡ Bytes u
-        → batch_outcome form ns counts l v out ≡ record { answer = Bytes u; places = front (batch_bytes form (tables ns counts) l v) out }
+    pub accepted_writes : (out : List ℕ) (u : ℕ) → batch_answer form ns counts l v (length out) ≡ Ok u
+        → batch_outcome form ns counts l v out ≡ record { answer = Ok u; places = front (batch_bytes form (tables ns counts) l v) out }
     accepted_writes out u e = rw e
 
     -- refused, nothing is altered
-    pub refused_alters_nothing : (out : List ℕ) (k : ℕ) (r : Refusal) → batch_answer form ns counts l v (length out) ≡ batched.Refused k r
-        → batch_outcome form ns counts l v out ≡ record { answer = batched.Refused k r; places = out }
+    pub refused_alters_nothing : (out : List ℕ) (k : ℕ) (r : Refusal) → batch_answer form ns counts l v (length out) ≡ refused_in k r
+        → batch_outcome form ns counts l v out ≡ record { answer = refused_in k r; places = out }
     refused_alters_nothing out k r e = rw e
 
     -- no second answer, and no second content of the lent bytes, meets the promise

@@ -1,7 +1,7 @@
 -- What a batch wrote reads back as its tables in order, each from the byte where the one before ended. Assumes nothing.
 use mathlib.Core.List.{List, [], append_assoc, ◌++◌, ◌∷◌}
 use Rattle.std.proofs.Math.Path.{ap, ap₂, sym}
-use Rattle.std.specs.Prelude.{refl, ◌≡◌, ℕ, ◌*◌, ◌+◌, ◌-◌, drop, length, take}
+use Rattle.std.specs.Prelude.{refl, ◌≡◌, ℕ, ◌*◌, ◌+◌, ◌-◌, drop, length, take, Ok}
 use Rattle.std.proofs.Common.{subst, ◌∙◌}
 use native.Mathlib.Omega.{arith}
 use Rattle.std.proofs.Math.ListN.{length-append}
@@ -10,14 +10,12 @@ use Rattle.ground.specs.Outcomes.{Outcome}
 use Rattle.link_forms.specs.Form.{link_bytes, link_form, link_used}
 use Rattle.stored_links.proofs.Laws.Told.{either_written, form_limit}
 use Rattle.stored_links.specs.Outcomes.{read_either}
-use Rattle.batch.specs.Batch.{batch_answer, batch_outcome}
+use Rattle.batch.specs.Batch.{batch_answer, batch_outcome, Batched}
 use Rattle.joined_tables.specs.Bytes.{batch_bytes}
 use Rattle.joined_tables.specs.Fitting.{BatchFits}
 use Rattle.batch.specs.Laws.Answers.{accepted_writes, batch_accepted}
 use Rattle.joined_tables.specs.Laws.Next.{length-next}
 use Rattle.joined_tables.specs.Tables.{Table, tables}
-use Rattle.batch.specs.declared.Batched.{Batched}
-use Rattle.batch.specs.declared.Batched.TheVariants.{Bytes}
 use Rattle.bits.specs.declared.Edition.{Edition}
 use Rattle.bits.specs.declared.Form.{Form}
 use Rattle.batch.specs.ReadBack.{ReadsBack}
@@ -45,7 +43,7 @@ module _ (e : Edition) (bytes behind : List ℕ) (end : ℕ) where
       )
 
 -- the lent bytes, as an accepted batch leaves them, are read as its tables, whichever form it was told, and the last ends where the used bytes end
-pub batch_reads_back : (e : Edition) (ns counts l v out : List ℕ) (used : ℕ) → batch_answer (link_form e) ns counts l v (length out) ≡ Bytes used
+pub batch_reads_back : (e : Edition) (ns counts l v out : List ℕ) (used : ℕ) → batch_answer (link_form e) ns counts l v (length out) ≡ Ok used
     → ReadsBack (link_form e) (batch_outcome (link_form e) ns counts l v out).places used 0 (tables ns counts) l v
 unfolding form
 batch_reads_back e ns counts l v out used h =

@@ -1,10 +1,10 @@
 -- `bits::edition_told` meets its contract: each return by what the tests before it say of the first seven bits. Assumes nothing.
-use Rattle.std.proofs.Common.{arith, sym}
+use Rattle.std.proofs.Common.{arith, eqb-true, sym}
 use Rattle.bits.specs.Laws.Editions.{edition_new, edition_none, edition_old}
 use Rattle.bits.proofs.edition_told.Goals as goal
 
-pub returns-then-bytes-eq0 : goal.returns-then-bytes-eq0
-returns-then-bytes-eq0 c = sym (edition_none c.args.bytes.now (omega (arith, c.if-bytes-eq0.true)))
+pub returns-then-is_empty : goal.returns-then-is_empty
+returns-then-is_empty c = sym (edition_none c.args.bytes.now (eqb-true _ _ (sym c.if-is_empty.ensures)))
 
 pub returns-then-get-eq-NEW_MARK : goal.returns-then-get-eq-NEW_MARK
 returns-then-get-eq-NEW_MARK c =

@@ -44,9 +44,3 @@ loop-done-preserved c =
           ∙ get_turn c.args.position c.args.width l.done c.turn_width-s.result c.args.bytes.now c.requires c.turn_width-s.ensures l.value
           l.invariant.1,
     )
-
-pub returns : goal.returns
-returns c =
-    let l = c.loop-done in
-    let q : c.args.width ≡ l.done = omega arith in
-    rw q l.invariant.1

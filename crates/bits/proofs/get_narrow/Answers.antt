@@ -4,15 +4,6 @@ use Rattle.bits.specs.Bits.{number_at}
 use Rattle.bits.specs.Laws.Words.{number-inside}
 use Rattle.bits.proofs.get_narrow.Goals as goal
 
-pub eight_bytes-requires : goal.eight_bytes-requires
-eight_bytes-requires c = omega (arith, leb-true)
-
-pub overflow_sub-position-then-bytes-q-ge8 : goal.overflow_sub-position-then-bytes-q-ge8
-overflow_sub-position-then-bytes-q-ge8 c = omega (arith, leb-true)
-
-pub bits_above-requires : goal.bits_above-requires
-bits_above-requires c = omega (arith, leb-true)
-
 pub returns-then-bytes-q-ge8 : goal.returns-then-bytes-q-ge8
 returns-then-bytes-q-ge8 c =
     let a = c.args in

@@ -3,9 +3,6 @@ use Rattle.std.proofs.Common.{arith, ◌+◌}
 use Rattle.bits.specs.Laws.Words.{number_byte, number_bytes_more}
 use Rattle.bits.proofs.with_two.Goals as goal
 
-pub with_byte-requires-2 : goal.with_byte-requires-2
-with_byte-requires-2 c = omega (arith, (c.shared_slice_known-3-1.given c.args.q).fits)
-
 pub returns : goal.returns
 returns c =
     let a = c.args in

@@ -2,7 +2,7 @@
 use mathlib.Core.List.{List, [], append_assoc, ◌++◌, ◌∷◌}
 use Rattle.std.proofs.Math.Path.{ap, ap₂, refl}
 use Rattle.std.proofs.Common.{◌∙◌, arith, eq-eqb, eqb-true, ne_eqb}
-use Rattle.std.specs.Prelude.{◌≡◌, ℕ, ◌*◌, ◌<◌, ◌≤◌, eqb, length}
+use Rattle.std.specs.Prelude.{◌≡◌, ℕ, ◌<◌, ◌≤◌, eqb, length}
 use borrow.Table.Steps.{cases}
 use Rattle.bits.specs.Bits.{bits, bits_of, number_at, part, value_of}
 use Rattle.bits.specs.Editions.{Marked, ToldApart, edition_of, new_mark}

@@ -1,5 +1,5 @@
 -- The walk down a chain: at the top, one side further down, and what a turn asks. Assumes nothing.
-use Rattle.std.specs.Prelude.{List, refl, ◌≡◌, min, suc, zero, ℕ, ◌*◌, ◌+◌, ◌-◌, ◌<◌, ◌≤◌, eqb, ltb, get_or, length, set}
+use Rattle.std.specs.Prelude.{List, refl, ◌≡◌, min, suc, zero, ℕ, ◌*◌, ◌+◌, ◌<◌, ◌≤◌, eqb, ltb, get_or, length, set}
 use Rattle.std.proofs.Common.{ap, sym, ◌∙◌, arith, length-set, get_or-set_other, get_or-set_same, eq-eqb, eqb-true, ltb-false, ltb-true, ne_eqb}
 use Rattle.std.proofs.lemmas.Bool.{eqb-false}
 use borrow.Table.Steps.{cases}

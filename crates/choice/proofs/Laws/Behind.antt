@@ -1,9 +1,8 @@
 -- The choice looks at no byte behind either stored link table, and so at none behind the longest. Assumes nothing.
-use Rattle.std.specs.Prelude.{List, ◌++◌, refl, ◌≡◌, ℕ, ◌≤◌, length, take}
+use Rattle.ground.specs.Refusals.{Check}
+use Rattle.std.specs.Prelude.{List, ◌++◌, refl, ◌≡◌, ℕ, ◌≤◌, length, take, Ok, Err}
 use Rattle.std.proofs.Common.{ap, ◌∙◌, arith}
 use Rattle.ground.specs.Laws.Refusals.{then_passed}
-use Rattle.ground.specs.declared.Check.{Check}
-use Rattle.ground.specs.declared.Check.TheVariants.{Passed, Refused}
 use Rattle.theory.specs.Comparison.{inners}
 use Rattle.bits.specs.Editions.{edition_of}
 use Rattle.bits.specs.Laws.Behind.{first-bytes}
@@ -15,17 +14,16 @@ use Rattle.link_forms.specs.Form.{link_form, link_form_at, link_used}
 use Rattle.stored_links.proofs.Laws.Behind.{Reaching, checks_behind, fars-behind, images-behind, longest_reaches, used_behind, whole-reaches}
 use Rattle.stored_links.specs.Reading.{body_checks, head_checks, table_checks}
 use Rattle.link_forms.specs.Said.{count_of, images_of, used_of}
-use Rattle.choice.specs.Call.{against_second, choice_either, choice_of, images_agree, numbered, sides_of, taken}
-use Rattle.choice.specs.declared.Chosen.{Chosen}
+use Rattle.choice.specs.Call.{against_second, choice_either, choice_of, images_agree, numbered, sides_of, taken, Chosen}
 
 -- two answers by the same checks, the same where these pass
-numbered_same : (m : ℕ) {c : Check} (c' : Check) {y y' : Chosen} → c ≡ c' → (c' ≡ Passed → y ≡ y') → numbered m c y ≡ numbered m c' y'
-numbered_same m Passed e h = rw e (h refl)
-numbered_same m (Refused r) e h = rw e refl
+numbered_same : (m : ℕ) {c : Check} (c' : Check) {y y' : Chosen} → c ≡ c' → (c' ≡ Ok tt → y ≡ y') → numbered m c y ≡ numbered m c' y'
+numbered_same m (Ok tt) e h = rw e (h refl)
+numbered_same m (Err r) e h = rw e refl
 
 module _ (form : Form) (s b : List ℕ) (reach : Reaching form s) where
   -- what follows a table that passes depends on its images, its far sides and its used bytes, which are the same
-  passed-behind : (f : ℕ → List ℕ → ℕ → Chosen) → table_checks form s ≡ Passed
+  passed-behind : (f : ℕ → List ℕ → ℕ → Chosen) → table_checks form s ≡ Ok tt
       → f (images_of form (s ++ b)) (sides_of form (s ++ b)) (used_of form (s ++ b)) ≡ f (images_of form s) (sides_of form s) (used_of form s)
   passed-behind f e =
       let h = (then_passed (head_checks form s) (body_checks form (images_of form s) (count_of form s) s) e).0 in

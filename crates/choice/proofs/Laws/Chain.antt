@@ -3,17 +3,14 @@ use Rattle.std.specs.Prelude.{List, ◌≡◌, ℕ, eqb}
 use Rattle.std.proofs.Common.{◌∙◌, eq-eqb, ne_eqb}
 use Rattle.ground.specs.Ascending.{Between}
 use Rattle.ground.specs.Laws.Ascending.{between_filter}
-use Rattle.ground.specs.Refusals.{refusal}
+use Rattle.ground.specs.Refusals.{refusal, refused_in}
 use Rattle.theory.specs.Comparison.{inners}
 use Rattle.theory.specs.FarSides.{inner}
-use Rattle.choice.specs.Call.{images_agree, numbered, taken}
+use Rattle.choice.specs.Call.{Chosen, images_agree, numbered, taken, takes}
 use Rattle.choice.specs.Inclusion.{includes}
 use Rattle.choice.specs.Laws.Inclusion.{first-includes, second-includes}
-use Rattle.choice.specs.declared.Chosen.{Chosen}
-use Rattle.choice.specs.declared.Chosen.TheVariants.{Table}
 use Rattle.counts.specs.Differ.{differ}
 use Rattle.counts.specs.declared.Difference.{Difference}
-use Rattle.choice.specs.declared.Chosen.TheVariants as answer
 
 -- ## Of two tables over the same images, where their difference was counted
 
@@ -24,22 +21,22 @@ module _ (n k : ℕ) (l r : List ℕ) (a : Between 1 l k) (b : Between 1 r k) (i
   second_holds : includes (inners n r) (inners n l) ≡ eqb d.common d.first
   second_holds = rw e (second-includes k (inners n l) (inners n r) (between_filter (inner n) 1 k l a) (between_filter (inner n) 1 k r b))
 
-  pub takes_first : d.common ≡ d.second → Table 1 i ≡ taken (inners n l) i (inners n r) j
+  pub takes_first : d.common ≡ d.second → takes 1 i ≡ taken (inners n l) i (inners n r) j
   takes_first p = let x = first_holds ∙ eq-eqb d.common d.second p in rw x
 
-  pub takes_second : (d.common ≡ d.second → ⊥) → d.common ≡ d.first → Table 2 j ≡ taken (inners n l) i (inners n r) j
+  pub takes_second : (d.common ≡ d.second → ⊥) → d.common ≡ d.first → takes 2 j ≡ taken (inners n l) i (inners n r) j
   takes_second p q =
       let x = first_holds ∙ ne_eqb d.common d.second p in
       let y = second_holds ∙ eq-eqb d.common d.first q in
       rw (x, y)
 
-  pub takes_none : (d.common ≡ d.second → ⊥) → (d.common ≡ d.first → ⊥) → answer.Refused 0 (refusal 14 0 0 0 0) ≡ taken (inners n l) i (inners n r) j
+  pub takes_none : (d.common ≡ d.second → ⊥) → (d.common ≡ d.first → ⊥) → refused_in 0 (refusal 14 0 0 0 0) ≡ taken (inners n l) i (inners n r) j
   takes_none p q =
       let x = first_holds ∙ ne_eqb d.common d.second p in
       let y = second_holds ∙ ne_eqb d.common d.first q in
       rw (x, y)
 
-pub images-differ : (n m : ℕ) (y : Chosen) → (n ≡ m → ⊥) → answer.Refused 0 (refusal 15 0 0 0 0) ≡ numbered 0 (images_agree n m) y
+pub images-differ : (n m : ℕ) (y : Chosen) → (n ≡ m → ⊥) → refused_in 0 (refusal 15 0 0 0 0) ≡ numbered 0 (images_agree n m) y
 images-differ n m y h = rw (ne_eqb n m h)
 
 pub images_same : (n m : ℕ) (y : Chosen) {w : Chosen} → n ≡ m → w ≡ y → w ≡ numbered 0 (images_agree n m) y

@@ -1,9 +1,8 @@
 -- The promise of the link reader gives the choice what it needs of one stored table. Assumes nothing.
-use Rattle.std.specs.Prelude.{List, ◌≡◌, ℕ, ◌^◌, ◌≤◌, length, take}
+use Rattle.ground.specs.Refusals.{Check}
+use Rattle.std.specs.Prelude.{List, ◌≡◌, ℕ, ◌^◌, ◌≤◌, length, take, Ok, Err}
 use Rattle.std.proofs.Common.{ap, sym, ◌∙◌, arith, le-ltb}
 use Rattle.ground.specs.Ascending.{Between}
-use Rattle.ground.specs.declared.Check.{Check}
-use Rattle.ground.specs.declared.Check.TheVariants.{Passed, Refused}
 use Rattle.ground.specs.declared.Refusal.{Refusal}
 use Rattle.ground.specs.Outcomes.{front_if}
 use Rattle.theory.specs.Laws.JoinedRows.{rows_of-fars}
@@ -13,12 +12,9 @@ use Rattle.choice.specs.Call.{sides_of}
 use Rattle.stored_links.specs.Laws.Outcomes.{front-taken, table-passed, table-refused}
 use Rattle.stored_links.proofs.Laws.Enough.{table-begins}
 use Rattle.stored_links.proofs.Laws.ReadAt.{read_enough}
-use Rattle.stored_links.specs.Outcomes.{read_outcome, rows_if}
+use Rattle.stored_links.specs.Outcomes.{read_outcome, rows_if, StoredLinks}
 use Rattle.stored_links.specs.Reading.{table_at_checks, table_checks}
 use Rattle.link_forms.specs.Said.{cost_at, costs_of, count_of, far_at, fars_of, images_of, used_of}
-use Rattle.stored_links.specs.declared.StoredLinks.{StoredLinks}
-use Rattle.stored_links.specs.declared.StoredLinks.TheVariants.{Table}
-use Rattle.stored_links.specs.declared.StoredLinks.TheVariants as stored
 use Rattle.choice.specs.Read.{SidesListed, TableRead}
 use Rattle.bits.specs.declared.Form.{Form}
 
@@ -39,18 +35,18 @@ module _ (form : Form) (s : List ℕ) where
 
   -- ## What the caller learns
 
-  pub read_refused : {r : StoredLinks} {f : List ℕ} {q : Refusal} → TableRead form s r f → r ≡ stored.Refused q → table_checks form s ≡ Refused q
+  pub read_refused : {r : StoredLinks} {f : List ℕ} {q : Refusal} → TableRead form s r f → r ≡ Err q → table_checks form s ≡ Err q
   read_refused {q = q} p e = table-refused (table_checks form s) (images_of form s) (count_of form s) (used_of form s) q (sym p.answered ∙ e)
 
   -- its far sides ascend
-  pub sides_ascend : table_checks form s ≡ Passed → Between 1 (sides_of form s) (2 ^ images_of form s)
+  pub sides_ascend : table_checks form s ≡ Ok tt → Between 1 (sides_of form s) (2 ^ images_of form s)
   sides_ascend e =
       let n = images_of form s in
       let N = count_of form s in
       let q = length-listed (far_at form n s) N ∙ sym (length-listed (cost_at form n s) N) in
       rw (rows_of-fars (fars_of form n N s) (costs_of form n N s) q) at (table-begins form s e).rows.ascending
 
-  pub read_listed : {r : StoredLinks} {f : List ℕ} {n k used : ℕ} → TableRead form s r f → r ≡ Table n k used → SidesListed form s n k used f
+  pub read_listed : {r : StoredLinks} {f : List ℕ} {n k used : ℕ} → TableRead form s r f → r ≡ Ok (record { n = n; count = k; used = used }) → SidesListed form s n k used f
   read_listed {f = f} {n = n} {k = k} {used = used} p e =
       let q = table-passed (table_checks form s) (images_of form s) (count_of form s) (used_of form s) n k used (sym p.answered ∙ e) in
       let t = table-begins form s q.0 in

@@ -1,12 +1,12 @@
 -- `climbing::put_uppers` meets its contract: the first r places are upper rows, and the others as they were. Assumes nothing.
 use Rattle.std.proofs.Common.{arith, length-set, rules}
-use Rattle.ground.specs.Laws.Buffers.{over_end, over-more, over_none}
+use Rattle.ground.specs.Laws.Buffers.{over-more, over_none}
 use Rattle.theory.specs.Routes.{uppers}
 use Rattle.climbing.specs.Laws.UpperRows.{upper-most, uppers-length}
 use Rattle.climbing.proofs.put_uppers.Goals as goal
 
 pub loop-r-init : goal.loop-r-init
-loop-r-init c = (search rules, search rules, over_none _ _)
+loop-r-init c = (search rules, over_none _ _)
 
 pub overflow_cast-out : goal.overflow_cast-out
 overflow_cast-out c =
@@ -16,12 +16,8 @@ overflow_cast-out c =
 pub loop-r-preserved : goal.loop-r-preserved
 loop-r-preserved c =
     let a = c.args in (
-      search rules,
-      simp length-set c.loop-r.invariant.1,
+      simp length-set c.loop-r.invariant.0,
       rw c.upper.ensures
           (over-more c.loop-r.r (uppers a.fars.now) a.out.now c.loop-r.out (omega (arith, uppers-length 1 a.fars.now)) (search rules)
-          c.loop-r.invariant.2),
+          c.loop-r.invariant.1),
     )
-
-pub returns : goal.returns
-returns c = over_end _ _ _ _ _ (search rules) (search rules) c.loop-r.invariant.2

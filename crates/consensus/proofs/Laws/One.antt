@@ -1,22 +1,17 @@
 -- A team of one table: the two calls come to the same. Assumes nothing.
-use Rattle.std.specs.Prelude.{List, ◌≡◌, ℕ, ◌*◌, length}
+use Rattle.ground.specs.Refusals.{Check, Written}
+use Rattle.std.specs.Prelude.{List, ◌≡◌, ℕ, ◌*◌, length, Ok}
 use Rattle.std.proofs.Common.{ap, subst, sym, ◌∙◌, arith, take_all}
-use Rattle.ground.specs.declared.Check.{Check}
-use Rattle.ground.specs.declared.Check.TheVariants.{Passed}
-use Rattle.ground.specs.declared.Written.{Written}
-use Rattle.ground.specs.declared.Written.TheVariants.{Places}
 use Rattle.theory.specs.LinkTables.{Row}
 use Rattle.theory.specs.Outcomes.{LeftRows, RowsOutcome}
 use Rattle.tree.specs.Exact.{Wired, exact_rows}
 use Rattle.tree.proofs.Laws.Exact.{exact_check_lem, table-passed}
 use Rattle.tree.specs.Readings.{exact_outcome, outcome}
-use Rattle.consensus.specs.Call.{consensus_outcome, leaving}
+use Rattle.consensus.specs.Call.{consensus_outcome, leaving, Shared}
 use Rattle.consensus.specs.Laws.Joined.{no_table}
 use Rattle.consensus.proofs.Laws.Left.{consensus_reads}
 use Rattle.consensus.specs.Laws.Sharing.{wired-more, shared-one}
 use Rattle.consensus.specs.Team.{TeamReady, shared_links, table_at, tables_in}
-use Rattle.consensus.specs.declared.Shared.{Shared}
-use Rattle.consensus.specs.declared.Shared.TheVariants.{Rows}
 
 pub only_table : (n : ℕ) (t : List ℕ) → length t ≡ 1 * (n * n) → table_at n t 0 ≡ t
 unfolding table_at
@@ -32,33 +27,33 @@ module _ (L n : ℕ) (t f v : List ℕ) (y : TeamReady n 1 t (length f) (length 
   one-shared : shared_links L n (tables_in n 1 t) ≡ T
   one-shared = shared-one L n (table_at n t 0) first-wired ∙ ap (exact_rows L n) (only_table n t y.joined.sized)
 
-  one-consensus : consensus_outcome L n 1 t f v ≡ leaving (Rows (length T)) T f v
+  one-consensus : consensus_outcome L n 1 t f v ≡ leaving (Ok (length T)) T f v
   one-consensus =
       ap (λ (s : Shared). leaving s (shared_links L n (tables_in n 1 t)) f v)
       (consensus_reads L n 1 t f v y (wired-more L n t 0 (no_table n t (Wired L n)) first-wired))
-      ∙ ap (λ (X : List Row). leaving (Rows (length X)) X f v) one-shared
+      ∙ ap (λ (X : List Row). leaving (Ok (length X)) X f v) one-shared
 
-  one_exact : exact_outcome L n t f v ≡ outcome Passed T f v
+  one_exact : exact_outcome L n t f v ≡ outcome (Ok tt) T f v
   one_exact =
       let j = y.joined in
       ap (λ (c : Check). outcome c T f v)
       (exact_check_lem L n t j.some j.few (length f) (length v) y.far-room y.cost-room ∙ (table-passed L n t j.some j.few).1 w)
 
   module _ (r : ℕ) (f' v' : List ℕ) where
-    pub one_to_exact : LeftRows (consensus_outcome L n 1 t f v) (Rows r) f' v' → LeftRows (exact_outcome L n t f v) (Places r) f' v'
+    pub one_to_exact : LeftRows (consensus_outcome L n 1 t f v) (Ok r) f' v' → LeftRows (exact_outcome L n t f v) (Ok r) f' v'
     one_to_exact l =
-        let p = subst (λ (o : RowsOutcome Shared). LeftRows o (Rows r) f' v') one-consensus l in
-        subst (λ (o : RowsOutcome Written). LeftRows o (Places r) f' v') (sym one_exact)
-        (record { answered = ap Places (same r (length T) p.answered); far-sides = p.far-sides; doubled = p.doubled })
+        let p = subst (λ (o : RowsOutcome Shared). LeftRows o (Ok r) f' v') one-consensus l in
+        subst (λ (o : RowsOutcome Written). LeftRows o (Ok r) f' v') (sym one_exact)
+        (record { answered = ap Ok (same r (length T) p.answered); far-sides = p.far-sides; doubled = p.doubled })
       where
-        same : (a b : ℕ) → Rows a ≡ Rows b → a ≡ b
+        same : (a b : ℕ) → ◌≡◌ {A = Shared} (Ok a) (Ok b) → a ≡ b
         same a b e = cc
 
-    pub exact_to_one : LeftRows (exact_outcome L n t f v) (Places r) f' v' → LeftRows (consensus_outcome L n 1 t f v) (Rows r) f' v'
+    pub exact_to_one : LeftRows (exact_outcome L n t f v) (Ok r) f' v' → LeftRows (consensus_outcome L n 1 t f v) (Ok r) f' v'
     exact_to_one l =
-        let p = subst (λ (o : RowsOutcome Written). LeftRows o (Places r) f' v') one_exact l in
-        subst (λ (o : RowsOutcome Shared). LeftRows o (Rows r) f' v') (sym one-consensus)
-        (record { answered = ap Rows (same r (length T) p.answered); far-sides = p.far-sides; doubled = p.doubled })
+        let p = subst (λ (o : RowsOutcome Written). LeftRows o (Ok r) f' v') one_exact l in
+        subst (λ (o : RowsOutcome Shared). LeftRows o (Ok r) f' v') (sym one-consensus)
+        (record { answered = ap Ok (same r (length T) p.answered); far-sides = p.far-sides; doubled = p.doubled })
       where
-        same : (a b : ℕ) → Places a ≡ Places b → a ≡ b
+        same : (a b : ℕ) → ◌≡◌ {A = Written} (Ok a) (Ok b) → a ≡ b
         same a b e = cc

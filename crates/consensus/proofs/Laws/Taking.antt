@@ -1,14 +1,11 @@
 -- How the tables of a team are taken one after another, and what the call then leaves. Assumes nothing.
-use Rattle.std.specs.Prelude.{not, List, ◌↔◌, refl, ◌≡◌, ℕ, ◌*◌, ◌+◌, ◌-◌, ◌<◌, ◌≤◌, eqb, ltb, length}
+use Rattle.std.specs.Prelude.{not, List, ◌↔◌, refl, ◌≡◌, ℕ, ◌*◌, ◌+◌, ◌-◌, ◌<◌, ◌≤◌, eqb, ltb, length, Ok, Err}
 use Rattle.std.proofs.Common.{ap, subst, sym, ◌∙◌, arith, eq-eqb, eqb-true, le-ltb, ltb-false}
 use Rattle.std.proofs.lemmas.Bool.{not-false}
 use Rattle.ground.specs.Filters.{Each}
 use Rattle.ground.specs.Laws.Refusals.{outside_false, refuse_if-passed, then_passed}
 use Rattle.ground.specs.Laws.Tests.{or_false}
-use Rattle.ground.specs.Refusals.{outside, ◌then◌}
-use Rattle.ground.specs.declared.Check.{Check}
-use Rattle.ground.specs.declared.Check.TheVariants.{Passed}
-use Rattle.ground.specs.declared.Check.TheVariants as check
+use Rattle.ground.specs.Refusals.{outside, ◌then◌, Check, refused_in}
 use Rattle.ground.specs.declared.Refusal.{Refusal}
 use Rattle.theory.specs.Checks.{images_check}
 use Rattle.theory.proofs.Demands.{one_tree}
@@ -19,20 +16,18 @@ use Rattle.tree.proofs.Laws.Writing.{room-passed}
 use Rattle.tree.specs.Readings.{outputs_room_check, short}
 use Rattle.tree.specs.Writing.{RowsWritten}
 use Rattle.shared_rows.specs.Meet.{meet}
-use Rattle.consensus.specs.Call.{consensus_outcome, joined_check, leaving, number_check, team_answer, team_check}
+use Rattle.consensus.specs.Call.{consensus_outcome, joined_check, leaving, number_check, team_answer, team_check, Shared}
 use Rattle.consensus.specs.Laws.Joined.{no_table, table_in_lem, tables-passed, tables_stop, wired-passed}
 use Rattle.consensus.specs.Laws.Sharing.{first_tree, wired-more, share_next, shared-one}
 use Rattle.consensus.specs.Taking.{RowsHeld, Shares, Taken}
 use Rattle.consensus.specs.Team.{Joined, TeamReady, shared_links, table_at, tables_in}
-use Rattle.consensus.specs.declared.Shared.{Shared}
-use Rattle.consensus.specs.declared.Shared.TheVariants.{Refused, Rows}
 
 -- ## What the call's own checks have shown
 
-pub number_passed : (m : ℕ) → number_check m ≡ Passed → (1 ≤ m) × (m ≤ 16)
+pub number_passed : (m : ℕ) → number_check m ≡ Ok tt → (1 ≤ m) × (m ≤ 16)
 number_passed m e = outside_false 1 16 m (refuse_if-passed (outside 1 16 m) _ e)
 
-pub team_passed : (n m : ℕ) (t : List ℕ) (f v : ℕ) → (team_check n m t f v ≡ Passed) ↔ TeamReady n m t f v
+pub team_passed : (n m : ℕ) (t : List ℕ) (f v : ℕ) → (team_check n m t f v ≡ Ok tt) ↔ TeamReady n m t f v
 unfolding team_check
 team_passed n m t f v = (
   λ e.
@@ -62,26 +57,26 @@ team_passed n m t f v = (
 -- ## One table after another
 
 module _ (L n m : ℕ) (t f v : List ℕ) (j : Joined n m t) where
-  passed : (k : ℕ) → k ≤ m → Each (tables_in n k t) (Wired L n) → (i : ℕ) → i < k → tree_check L n (table_at n t i) ≡ Passed
+  passed : (k : ℕ) → k ≤ m → Each (tables_in n k t) (Wired L n) → (i : ℕ) → i < k → tree_check L n (table_at n t i) ≡ Ok tt
   passed k l h i q = wired-passed L n m t j i (omega arith) (table_in_lem n k t (Wired L n) h i q)
 
   -- table k is refused, and those before it were accepted
-  pub taken_refused : (k i : ℕ) (q : Refusal) → k < m → Each (tables_in n k t) (Wired L n) → tree_check L n (table_at n t k) ≡ check.Refused q
-      → Taken L n m t i (Refused (k + 1) q) f v
+  pub taken_refused : (k i : ℕ) (q : Refusal) → k < m → Each (tables_in n k t) (Wired L n) → tree_check L n (table_at n t k) ≡ Err q
+      → Taken L n m t i (refused_in (k + 1) q) f v
   taken_refused k i q l h e = record {
     refused = λ a b s y. tables_stop L n t y 0 m k q (omega arith) (omega arith) (λ x _ d. passed k (omega arith) h x d) e ∙ s;
     accepted = λ c s. absurd (let z : ◌≡◌ {A = ℕ} 0 1 = cc in omega arith);
   }
 
-  pub taken-rows : (k c : ℕ) → Shares L n t k f v c → Taken L n m t k (Rows c) f v
+  pub taken-rows : (k c : ℕ) → Shares L n t k f v c → Taken L n m t k (Ok c) f v
   taken-rows k c h = record {
     refused = λ a b s y. absurd (let z : ◌≡◌ {A = ℕ} 0 1 = cc in omega arith);
     accepted = λ e s. let z : c ≡ e = cc in subst (Shares L n t k f v) z h;
   }
 
 -- a refusal is handed on
-pub taken_on : (L n m : ℕ) (t : List ℕ) {k i : ℕ} {x : Shared} {f v g w : List ℕ} {j : ℕ} {q : Refusal} → Taken L n m t k x f v → x ≡ Refused j q
-    → Taken L n m t i (Refused j q) g w
+pub taken_on : (L n m : ℕ) (t : List ℕ) {k i : ℕ} {x : Shared} {f v g w : List ℕ} {j : ℕ} {q : Refusal} → Taken L n m t k x f v → x ≡ refused_in j q
+    → Taken L n m t i (refused_in j q) g w
 taken_on L n m t {j = j} {q = q} h e = record {
   refused = λ a b s y. h.refused j q e y ∙ s;
   accepted = λ c s. absurd (let z : ◌≡◌ {A = ℕ} 0 1 = cc in omega arith);
@@ -111,21 +106,21 @@ module _ (L n : ℕ) (t f v : List ℕ) (c : ℕ) where
 -- ## What the call leaves
 
 module _ (L n m : ℕ) (t f v : List ℕ) where
-  pub left-table : {x : Shared} {g w : List ℕ} {k : ℕ} {q : Refusal} → Taken L n m t m x g w → x ≡ Refused k q
-      → LeftRows (leaving (team_answer L n m t) (shared_links L n (tables_in n m t)) f v) (Refused k q) f v
+  pub left-table : {x : Shared} {g w : List ℕ} {k : ℕ} {q : Refusal} → Taken L n m t m x g w → x ≡ refused_in k q
+      → LeftRows (leaving (team_answer L n m t) (shared_links L n (tables_in n m t)) f v) (refused_in k q) f v
   left-table {x} {g} {w} {k} {q} h e =
-      rw (h.refused k q e (Rows (length (shared_links L n (tables_in n m t))))) (record { answered = refl; far-sides = refl; doubled = refl })
+      rw (h.refused k q e (Ok (length (shared_links L n (tables_in n m t))))) (record { answered = refl; far-sides = refl; doubled = refl })
 
   pub left-rows : {c : ℕ} {g w f' v' : List ℕ} → Joined n m t → Shares L n t m g w c → RowsWritten (shared_links L n (tables_in n m t)) c f v f' v'
-      → LeftRows (leaving (team_answer L n m t) (shared_links L n (tables_in n m t)) f v) (Rows c) f' v'
+      → LeftRows (leaving (team_answer L n m t) (shared_links L n (tables_in n m t)) f v) (Ok c) f' v'
   left-rows j h w =
-      rw (tables-passed L n t (Rows (length (shared_links L n (tables_in n m t)))) 0 m (λ i a b. passed L n m t f v j m (omega arith) h.wired i (omega arith)))
-      (record { answered = ap Rows w.counted; far-sides = w.far-front; doubled = w.cost-front })
+      rw (tables-passed L n t (Ok (length (shared_links L n (tables_in n m t)))) 0 m (λ i a b. passed L n m t f v j m (omega arith) h.wired i (omega arith)))
+      (record { answered = ap Ok w.counted; far-sides = w.far-front; doubled = w.cost-front })
 
-  pub left_team : {x : Check} {q : Refusal} → x ≡ team_check n m t (length f) (length v) → x ≡ check.Refused q
-      → LeftRows (consensus_outcome L n m t f v) (Refused 0 q) f v
+  pub left_team : {x : Check} {q : Refusal} → x ≡ team_check n m t (length f) (length v) → x ≡ Err q
+      → LeftRows (consensus_outcome L n m t f v) (refused_in 0 q) f v
   left_team e s = let z = sym e ∙ s in rw z (record { answered = refl; far-sides = refl; doubled = refl })
 
-  pub left_through : {x : Check} {r : Shared} {f' v' : List ℕ} → x ≡ team_check n m t (length f) (length v) → x ≡ Passed
+  pub left_through : {x : Check} {r : Shared} {f' v' : List ℕ} → x ≡ team_check n m t (length f) (length v) → x ≡ Ok tt
       → LeftRows (leaving (team_answer L n m t) (shared_links L n (tables_in n m t)) f v) r f' v' → LeftRows (consensus_outcome L n m t f v) r f' v'
   left_through e s l = let z = sym e ∙ s in rw z l

@@ -5,16 +5,17 @@ use Rattle.consensus.specs.Laws.Joined.{no_table}
 use Rattle.consensus.proofs.Laws.Taking.{shares_first, taken_refused, taken-rows}
 use Rattle.consensus.proofs.take_first.Goals as goal
 
-pub returns-in-Refused : goal.returns-in-Refused
-returns-in-Refused c =
+pub returns-in-Err : goal.returns-in-Err
+returns-in-Err c =
     let p = c.requires in
-    taken_refused limit c.args.n c.args.number c.args.tables.now _ _ p.0 0 1 c.in-Refused.r
+    rw c.in_table.ensures
+    (taken_refused limit c.args.n c.args.number c.args.tables.now _ _ p.0 0 1 c.in-Err.r
     p.0.one (no_table c.args.n c.args.tables.now (Wired limit c.args.n))
-    (c.read_table.ensures.refused _ c.in-Refused.is)
+    (c.read_table.ensures.refused _ c.in-Err.is))
 
-pub returns-in-Places : goal.returns-in-Places
-returns-in-Places c =
+pub returns-in-Ok : goal.returns-in-Ok
+returns-in-Ok c =
     let p = c.requires in
-    let h = c.read_table.ensures.accepted _ c.in-Places.is in
+    let h = c.read_table.ensures.accepted _ c.in-Ok.is in
     taken-rows limit c.args.n c.args.number c.args.tables.now _ _ p.0 1 _
     (shares_first limit c.args.n c.args.tables.now _ _ _ h.0 h.1)

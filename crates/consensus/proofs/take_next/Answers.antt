@@ -13,40 +13,24 @@ pub slice_bounds-f-end : goal.slice_bounds-f-end
 slice_bounds-f-end c =
     let tree : Wired limit c.args.n (table_at c.args.n c.args.tables.now c.args.k)
     × RowsHeld (exact_rows limit c.args.n (table_at c.args.n c.args.tables.now c.args.k))
-    c.read_table-rows.new.fars c.read_table-rows.new.costs
-    c.in-Places.others = c.read_table-rows.ensures.accepted _ c.in-Places.is in
+    c.read_table.new.fars c.read_table.new.costs
+    c.in-Ok.others = c.read_table.ensures.accepted _ c.in-Ok.is in
     let h = tree.1 in omega (arith, h.few, h.far-room)
-
-pub slice_bounds-meet-end : goal.slice_bounds-meet-end
-slice_bounds-meet-end c =
-    let tree : Wired limit c.args.n (table_at c.args.n c.args.tables.now c.args.k)
-    × RowsHeld (exact_rows limit c.args.n (table_at c.args.n c.args.tables.now c.args.k))
-    c.read_table-rows.new.fars c.read_table-rows.new.costs
-    c.in-Places.others = c.read_table-rows.ensures.accepted _ c.in-Places.is in
-    held_far_length tree.1
 
 pub slice_bounds-v-end : goal.slice_bounds-v-end
 slice_bounds-v-end c =
     let tree : Wired limit c.args.n (table_at c.args.n c.args.tables.now c.args.k)
     × RowsHeld (exact_rows limit c.args.n (table_at c.args.n c.args.tables.now c.args.k))
-    c.read_table-rows.new.fars c.read_table-rows.new.costs
-    c.in-Places.others = c.read_table-rows.ensures.accepted _ c.in-Places.is in
+    c.read_table.new.fars c.read_table.new.costs
+    c.in-Ok.others = c.read_table.ensures.accepted _ c.in-Ok.is in
     let h = tree.1 in omega (arith, h.few, h.cost-room)
-
-pub slice_bounds-meet-end-in-Places : goal.slice_bounds-meet-end-in-Places
-slice_bounds-meet-end-in-Places c =
-    let tree : Wired limit c.args.n (table_at c.args.n c.args.tables.now c.args.k)
-    × RowsHeld (exact_rows limit c.args.n (table_at c.args.n c.args.tables.now c.args.k))
-    c.read_table-rows.new.fars c.read_table-rows.new.costs
-    c.in-Places.others = c.read_table-rows.ensures.accepted _ c.in-Places.is in
-    held_cost_length tree.1
 
 pub meet-requires : goal.meet-requires
 meet-requires c =
     let tree : Wired limit c.args.n (table_at c.args.n c.args.tables.now c.args.k)
     × RowsHeld (exact_rows limit c.args.n (table_at c.args.n c.args.tables.now c.args.k))
-    c.read_table-rows.new.fars c.read_table-rows.new.costs
-    c.in-Places.others = c.read_table-rows.ensures.accepted _ c.in-Places.is in
+    c.read_table.new.fars c.read_table.new.costs
+    c.in-Ok.others = c.read_table.ensures.accepted _ c.in-Ok.is in
     let p = c.requires in
     let a = c.args in
     let h = p.3.held in
@@ -58,18 +42,19 @@ meet-requires c =
       omega (arith, h.few, h.cost-room),
     )
 
-pub returns-in-Refused : goal.returns-in-Refused
-returns-in-Refused c =
+pub returns-in-Err : goal.returns-in-Err
+returns-in-Err c =
     let p = c.requires in
-    taken_refused limit c.args.n c.args.number c.args.tables.now _ _ p.0 c.args.k _ _ p.2 p.3.wired
-    (c.read_table-rows.ensures.refused _ c.in-Refused.is)
+    rw c.in_table.ensures
+    (taken_refused limit c.args.n c.args.number c.args.tables.now _ _ p.0 c.args.k _ _ p.2 p.3.wired
+    (c.read_table.ensures.refused _ c.in-Err.is))
 
-pub returns-in-Places : goal.returns-in-Places
-returns-in-Places c =
+pub returns-in-Ok : goal.returns-in-Ok
+returns-in-Ok c =
     let tree : Wired limit c.args.n (table_at c.args.n c.args.tables.now c.args.k)
     × RowsHeld (exact_rows limit c.args.n (table_at c.args.n c.args.tables.now c.args.k))
-    c.read_table-rows.new.fars c.read_table-rows.new.costs
-    c.in-Places.others = c.read_table-rows.ensures.accepted _ c.in-Places.is in
+    c.read_table.new.fars c.read_table.new.costs
+    c.in-Ok.others = c.read_table.ensures.accepted _ c.in-Ok.is in
     let p = c.requires in
     let a = c.args in
     let q = tree in

@@ -1,15 +1,12 @@
 -- Trees held in local arrays: one read exactly, by the promise of the tree part alone; one more met there; and the rows written out.
 -- Assumes nothing.
-use Rattle.std.specs.Prelude.{List, [], ◌∷◌, refl, ◌≡◌, suc, ℕ, ◌*◌, ◌^◌, ◌≤◌, drop, length, take}
+use Rattle.ground.specs.Refusals.{Check, Written}
+use Rattle.std.specs.Prelude.{List, [], ◌∷◌, refl, ◌≡◌, suc, ℕ, ◌*◌, ◌^◌, ◌≤◌, drop, length, take, Ok, Err}
 use Rattle.std.proofs.Common.{ap, ap₂, sym, ◌∙◌, arith, length-append, length-drop, pow_mono, length-take-le, take_at}
 use Rattle.std.proofs.lemmas.List.{length-map}
 use Rattle.ground.specs.Ascending.{Between}
 use Rattle.ground.specs.Buffers.{front, over}
 use Rattle.ground.specs.Laws.Buffers.{over-front}
-use Rattle.ground.specs.declared.Check.{Check}
-use Rattle.ground.specs.declared.Check.TheVariants.{Passed}
-use Rattle.ground.specs.declared.Check.TheVariants as check
-use Rattle.ground.specs.declared.Written.{Written}
 use Rattle.theory.specs.Laws.JoinedRows.{rows_of-all, rows_of-costs, rows_of-fars}
 use Rattle.theory.specs.LinkTables.{LinkTable, Row, costs, far, fars, rows_of}
 use Rattle.theory.specs.Outcomes.{LeftRows}
@@ -53,7 +50,7 @@ module _ (L n : ℕ) (u : List ℕ) (least : 3 ≤ n) (most : n ≤ 64) (sized :
 
       go : (c : Check) → tree_check L n u ≡ c → r ≡ (outcome (tree_check L n u) T f v).answer → f' ≡ (outcome (tree_check L n u) T f v).far_list
           → v' ≡ (outcome (tree_check L n u) T f v).cost_list → TreeRead L n u r f' v'
-      go Passed s p x y =
+      go (Ok tt) s p x y =
           let w = (table-passed L n u least most).0 (table_sized L n u sized ∙ s) in
           let p' = rw s at p in
           record {
@@ -62,10 +59,10 @@ module _ (L n : ℕ) (u : List ℕ) (least : 3 ≤ n) (most : n ≤ 64) (sized :
                 let m : c ≡ length T = cc in
                 (w, rw (rw s at x, rw s at y) (front_held T f v c m (omega (arith, (exact_tree L n u w).most, m)) a b));
           }
-      go (check.Refused q') s p x y =
+      go (Err q') s p x y =
           let p' = rw s at p in
           record {
-            refused = λ q h. let z : q' ≡ q = cc in s ∙ ap check.Refused z;
+            refused = λ q h. let z : q' ≡ q = cc in s ∙ ap Err z;
             accepted = λ c h. absurd (let z : ◌≡◌ {A = ℕ} 0 1 = cc in omega arith);
           }
 

@@ -1,8 +1,9 @@
 -- Where each table of a team stands in the joined slice, and how tables are taken one after another. Assumes nothing.
+use Rattle.ground.specs.Refusals.{refused_in}
 use mathlib.Core.List.{List, Memᴰ, ◌++◌}
 use Rattle.std.proofs.Math.Path.{refl}
 use Rattle.std.proofs.Common.{subst, sym, ◌∙◌, mul-le-mul, mul-le-mul_right, suc-mul, arith, length-drop, length-take}
-use Rattle.std.specs.Prelude.{◌≡◌, eqb, drop, length, take}
+use Rattle.std.specs.Prelude.{◌≡◌, eqb, drop, length, take, Ok, Err}
 use Prim.Native.Nat.{suc, zero, ℕ, ◌*◌, ◌+◌, ◌-◌, ◌<◌, ◌≤◌}
 use Rattle.std.proofs.lemmas.List.{drop-append-le, take-append-le}
 use borrow.Author.Tests.{eqb-false, eqb-true}
@@ -11,15 +12,11 @@ use Rattle.ground.specs.Filters.{Each}
 use Rattle.ground.specs.Laws.Maps.{map-mem, mem-map}
 use Rattle.ground.specs.Laws.Ranges.{from-mem, mem-from}
 use Rattle.ground.specs.Ranges.{from}
-use Rattle.ground.specs.declared.Check.TheVariants.{Passed}
-use Rattle.ground.specs.declared.Check.TheVariants as check
 use Rattle.ground.specs.declared.Refusal.{Refusal}
 use Rattle.tree.specs.Exact.{Wired, tree_check}
 use Rattle.tree.proofs.Laws.Exact.{table-passed, table_sized}
-use Rattle.consensus.specs.Call.{table_by_table}
+use Rattle.consensus.specs.Call.{table_by_table, Shared}
 use Rattle.consensus.specs.Team.{Joined, table_at, tables_in}
-use Rattle.consensus.specs.declared.Shared.{Shared}
-use Rattle.consensus.specs.declared.Shared.TheVariants.{Refused}
 
 -- ## Sizes
 
@@ -74,24 +71,24 @@ table_in_lem n m t P h i l = h (table_at n t i) (in_tables n m t i l)
 
 module _ (L n m : ℕ) (t : List ℕ) (j : Joined n m t) where
   -- a table of a team is accepted exactly when 4, 5, 6, 20, 7 pass
-  pub wired-passed : (i : ℕ) → i < m → Wired L n (table_at n t i) → tree_check L n (table_at n t i) ≡ Passed
+  pub wired-passed : (i : ℕ) → i < m → Wired L n (table_at n t i) → tree_check L n (table_at n t i) ≡ Ok tt
   wired-passed i l w =
       sym (table_sized L n (table_at n t i) (part_sized n m t j i l)) ∙ (table-passed L n (table_at n t i) j.some j.few).1 w
 
-  pub passed-wired : (i : ℕ) → i < m → tree_check L n (table_at n t i) ≡ Passed → Wired L n (table_at n t i)
+  pub passed-wired : (i : ℕ) → i < m → tree_check L n (table_at n t i) ≡ Ok tt → Wired L n (table_at n t i)
   passed-wired i l e =
       (table-passed L n (table_at n t i) j.some j.few).0 (table_sized L n (table_at n t i) (part_sized n m t j i l) ∙ e)
 
 module _ (L n : ℕ) (t : List ℕ) (y : Shared) where
   -- all tables passed
-  pub tables-passed : (i m : ℕ) → ((h : ℕ) → i ≤ h → h < i + m → tree_check L n (table_at n t h) ≡ Passed) → table_by_table L n t i m y ≡ y
+  pub tables-passed : (i m : ℕ) → ((h : ℕ) → i ≤ h → h < i + m → tree_check L n (table_at n t h) ≡ Ok tt) → table_by_table L n t i m y ≡ y
   unfolding table_by_table
   tables-passed i zero p = refl
   tables-passed i (suc m) p = rw (p i (omega arith) (omega arith)) (tables-passed (suc i) m (λ h a b. p h (omega arith) (omega arith)))
 
   -- table k is refused, those before it having passed
-  pub tables_stop : (i m k : ℕ) (q : Refusal) → i ≤ k → k < i + m → ((h : ℕ) → i ≤ h → h < k → tree_check L n (table_at n t h) ≡ Passed)
-      → tree_check L n (table_at n t k) ≡ check.Refused q → table_by_table L n t i m y ≡ Refused (k + 1) q
+  pub tables_stop : (i m k : ℕ) (q : Refusal) → i ≤ k → k < i + m → ((h : ℕ) → i ≤ h → h < k → tree_check L n (table_at n t h) ≡ Ok tt)
+      → tree_check L n (table_at n t k) ≡ Err q → table_by_table L n t i m y ≡ refused_in (k + 1) q
   unfolding table_by_table
   tables_stop i zero k q a b p e = absurd (omega arith)
   tables_stop i (suc m) k q a b p e =

@@ -1,12 +1,10 @@
 -- What an accepted conversion of a stored cost table says, and when one is accepted. Assumes nothing.
-use Rattle.std.specs.Prelude.{List, ◌≡◌, ℕ, ◌≤◌, length}
+use Rattle.std.specs.Prelude.{List, ◌≡◌, ℕ, ◌≤◌, length, Ok, Err}
 use Rattle.std.proofs.Common.{ap, sym, ◌∙◌, arith}
 use Rattle.ground.specs.Buffers.{front}
 use Rattle.ground.specs.Outcomes.{Left, front_if, wrote_into}
+use Rattle.ground.specs.Refusals.{Check, Written}
 use Rattle.ground.specs.Laws.Refusals.{if_accepted, then_passed}
-use Rattle.ground.specs.declared.Check.{Check}
-use Rattle.ground.specs.declared.Written.TheVariants.{Places}
-use Rattle.ground.specs.declared.Written.TheVariants as written
 use Rattle.theory.specs.Tables.{CostTable, cost, limit}
 use Rattle.bits.specs.declared.Edition.{Edition}
 use Rattle.cost_forms.specs.Form.{cost_bytes, cost_form, cost_form_at}
@@ -24,7 +22,7 @@ pub record Converted (e : Edition) (s out : List ℕ) (u : ℕ) (out' : List ℕ
   pub used : used_in e s ≡ u
   pub left : out' ≡ front (cost_bytes (cost_form e) (images_said s) (cost (table_said s) (images_said s))) out
 
-places_same : (a b : ℕ) → Places a ≡ Places b → a ≡ b
+places_same : (a b : ℕ) → ◌≡◌ {A = Written} (Ok a) (Ok b) → a ≡ b
 places_same a b q = cc
 
 -- what is stored as the table t in the form e, and what begins with a table, by the checks of the form g
@@ -49,12 +47,12 @@ fitting e s b h =
     }
 
 module _ (e : Edition) (s out : List ℕ) where
-  pub converted : (u : ℕ) (out' : List ℕ) → Left (costs_converted e s out) (Places u) out' → Converted e s out u out'
+  pub converted : (u : ℕ) (out' : List ℕ) → Left (costs_converted e s out) (Ok u) out' → Converted e s out u out'
   converted u out' p =
       let n = images_said s in
       let t = table_said s in
       let store = store_checks (cost_form e) n (cost t n) (length out) in
-      let q = if_accepted written.Refused (cost_checks e s (length out)) (Places (used_in e s))
+      let q = if_accepted Err (cost_checks e s (length out)) (Ok (used_in e s))
       (λ r z. absurd (let o : ◌≡◌ {A = ℕ} 0 1 = cc in omega arith)) (sym p.answered) in
       let k = then_passed (table_checks (cost_form_at s 0) s) store q.0 in
       let w = store_passed (cost_form e) n t (length out) k.1 in

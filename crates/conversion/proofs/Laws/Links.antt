@@ -1,12 +1,12 @@
 -- What an accepted conversion of a stored link table says, and when one is accepted. Assumes nothing.
-use Rattle.std.specs.Prelude.{List, ◌↔◌, ◌≡◌, ℕ, ◌*◌, ◌≤◌, get_or, length}
-use Rattle.std.proofs.Common.{ap, sym, ◌∙◌, arith, le-ltb}
+use Rattle.std.specs.Prelude.{List, ◌↔◌, ◌≡◌, ℕ, ◌*◌, ◌≤◌, get_or, length, take, Ok, Err}
+use Rattle.std.proofs.Common.{ap, sym, ◌∙◌, arith, le-ltb, replicate}
+use lib.ListN.{length-replicate}
 use Rattle.ground.specs.Buffers.{front}
 use Rattle.ground.specs.Outcomes.{Left, front_if, wrote_into}
+use Rattle.ground.specs.Refusals.{Check, Written}
 use Rattle.ground.specs.Laws.Refusals.{if_accepted, then_passed}
-use Rattle.ground.specs.declared.Check.{Check}
-use Rattle.ground.specs.declared.Written.TheVariants.{Places}
-use Rattle.ground.specs.declared.Written.TheVariants as written
+use Rattle.theory.specs.Outcomes.{LeftRows}
 use Rattle.theory.specs.Tables.{limit}
 use Rattle.bits.specs.Editions.{edition_of}
 use Rattle.bits.specs.declared.Edition.{Edition}
@@ -14,12 +14,13 @@ use Rattle.links.specs.Laws.FirstChecks.{passed_first}
 use Rattle.links.specs.Laws.LinkChecks.{link_rows}
 use Rattle.links.specs.Links.{Links}
 use Rattle.link_forms.specs.Form.{link_bytes, link_form, link_form_at, link_used}
-use Rattle.stored_links.proofs.Laws.Enough.{LinksStored, links_said}
+use Rattle.stored_links.proofs.Laws.Enough.{LinksRead, LinksStored, front_read, links_said}
 use Rattle.stored_links.proofs.Laws.Told.{form_limit}
+use Rattle.stored_links.specs.Outcomes.{read_either}
 use Rattle.stored_links.specs.Reading.{table_checks}
 use Rattle.link_writer.specs.Laws.Accepted.{passed_store, store_passed}
 use Rattle.link_writer.specs.Laws.Fitting.{links_narrow, links_wide}
-use Rattle.link_writer.specs.Writing.{large, store_checks, stored_if}
+use Rattle.link_writer.specs.Writing.{large, store_checks, store_outcome, stored_if}
 use Rattle.conversion.specs.Links.{Begins, CostsFit, costs_said, count_said, fars_said, images_said, link_checks, links_converted, used_in}
 
 -- what s begins with is a link table
@@ -35,7 +36,7 @@ pub record Converted (e : Edition) (s out : List ℕ) (u : ℕ) (out' : List ℕ
   pub used : used_in e s ≡ u
   pub left : out' ≡ front (link_bytes (link_form e) (images_said s) (fars_said s) (costs_said s)) out
 
-places_same : (a b : ℕ) → Places a ≡ Places b → a ≡ b
+places_same : (a b : ℕ) → ◌≡◌ {A = Written} (Ok a) (Ok b) → a ≡ b
 places_same a b q = cc
 
 -- costs that fit, said of the table, and the other way round
@@ -62,12 +63,12 @@ pub begun-table : (g : Edition) (s more : List ℕ) → Begins s
 begun-table g s more b = rw b
 
 module _ (e : Edition) (s out : List ℕ) where
-  pub converted : (u : ℕ) (out' : List ℕ) → Left (links_converted e s out) (Places u) out' → Converted e s out u out'
+  pub converted : (u : ℕ) (out' : List ℕ) → Left (links_converted e s out) (Ok u) out' → Converted e s out u out'
   converted u out' p =
       let n = images_said s in
       let l = fars_said s in
       let v = costs_said s in
-      let q = if_accepted written.Refused (link_checks e s (length out)) (Places (link_used (link_form e) n (length l)))
+      let q = if_accepted Err (link_checks e s (length out)) (Ok (link_used (link_form e) n (length l)))
       (λ r z. absurd (let o : ◌≡◌ {A = ℕ} 0 1 = cc in omega arith)) (sym p.answered) in
       let k = then_passed (table_checks (link_form_at s 0) s) (store_checks (link_form e) n l v (length out)) q.0 in
       let w = store_passed (link_form e) n (count_said s) l v (length out) k.1 in
@@ -87,3 +88,25 @@ module _ (e : Edition) (s out : List ℕ) where
       begun-table e s out b
       ∙ rw (passed_store (link_form e) (images_said s) (count_said s) (fars_said s) (costs_said s) (length out) t (rw q h))
       (ap (λ (x : ℕ). wrote_into x (link_bytes (link_form e) (images_said s) (fars_said s) (costs_said s)) out) q)
+
+-- ## As the code goes: the table is read into arrays with room for every table, and what was read is stored
+
+-- an array as it was made
+abbrev made : List ℕ
+made = replicate 128 0
+
+enough : 125 ≤ length made
+enough = omega (arith, length-replicate {A = ℕ} 128 0)
+
+module _ (s f' v' : List ℕ) (n N used : ℕ) (p : LeftRows (read_either s 0 made made) (Ok (record { n = n; count = N; used = used })) f' v') where
+  read : LinksRead s made made f' v' enough enough n N
+  read = front_read s made made f' v' enough enough n N used p
+
+  pub read_table : Links limit n (length (take N f')) (take N f') (take N v')
+  read_table =
+      let t = rw (read.images, read.counted) at (begins-table s read.passed) in
+      rw (read.far-sides, read.doubled, t.counted) t
+
+  pub read_stored : (e : Edition) {w : Written} (out : List ℕ) {out' : List ℕ}
+      → Left (store_outcome (link_form e) n (take N f') (take N v') out) w out' → Left (links_converted e s out) w out'
+  read_stored e out q = rw (read.passed, read.images, read.counted, ← read.far-sides, ← read.doubled) q

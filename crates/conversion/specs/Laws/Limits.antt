@@ -1,12 +1,10 @@
 -- Two limits at once: what the lower one says of both. Assumes nothing.
-use Rattle.std.specs.Prelude.{Bool, false, true, List, refl, ◌≡◌, min, suc, zero, ℕ, ◌*◌, ◌+◌, ◌-◌, ◌<◌, ◌≤◌, ltb}
+use Rattle.std.specs.Prelude.{Bool, false, true, List, refl, ◌≡◌, min, suc, zero, ℕ, ◌+◌, ◌-◌, ◌<◌, ◌≤◌, ltb, Ok, Err}
 use Rattle.std.proofs.Common.{ap, sym, ◌∙◌, arith, ltb-false, ltb-true}
 use borrow.Table.Steps.{cases}
 use Rattle.ground.specs.Lowest.{check_all}
-use Rattle.ground.specs.Refusals.{refusal, refuse_if, ◌then◌}
+use Rattle.ground.specs.Refusals.{refusal, refuse_if, ◌then◌, Check}
 use Rattle.ground.specs.Laws.Refusals.{then_none, then_passed}
-use Rattle.ground.specs.declared.Check.{Check}
-use Rattle.ground.specs.declared.Check.TheVariants.{Passed, Refused}
 use Rattle.ground.specs.declared.Refusal.{Refusal}
 use Rattle.theory.specs.Tables.{cost}
 use Rattle.theory.specs.Checks.{images_check}
@@ -16,21 +14,21 @@ use Rattle.bits.specs.Kinds.{end_check}
 use Rattle.bits.specs.declared.Form.{Form}
 use Rattle.cost_forms.specs.Entries.{entry_cost, table_of}
 use Rattle.cost_forms.specs.Said.{entry_of, fill_of, images_of, stored_table}
-use Rattle.stored_costs.proofs.Laws.Enough.{readable_table, table_readable}
+use Rattle.stored_costs.proofs.Laws.Enough.{enough_room, readable_table, table_readable}
 use Rattle.cost_forms.specs.Laws.Tables.{table-cost, table_formed}
-use Rattle.stored_costs.specs.Reading.{body_checks, stored_check, table_checks, values_check}
+use Rattle.stored_costs.specs.Reading.{body_checks, read_checks, stored_check, table_checks, values_check}
 use Rattle.cost_limits.specs.Laws.Fitting.{passed_fit}
 use Rattle.cost_limits.specs.Checks.{fit_check, large_check}
 use Rattle.conversion.specs.Costs.{entry_checks}
 
 -- the same places with the number 17
 abbrev renumbered : Check → Check
-renumbered Passed = Passed
-renumbered (Refused r) = Refused (refusal 17 r.a r.b 0 0)
+renumbered (Ok tt) = Ok tt
+renumbered (Err r) = Err (refusal 17 r.a r.b 0 0)
 
 renumbered_then : (x y : Check) → (renumbered x then renumbered y) ≡ renumbered (x then y)
-renumbered_then Passed y = refl
-renumbered_then (Refused r) y = refl
+renumbered_then (Ok tt) y = refl
+renumbered_then (Err r) y = refl
 
 renumbered-all : (f g : ℕ → Check) (i m : ℕ) → ((k : ℕ) → i ≤ k → k < i + m → g k ≡ renumbered (f k)) → check_all g i m ≡ renumbered (check_all f i m)
 unfolding check_all
@@ -52,11 +50,11 @@ fit_renumbered L f n =
     one i j false = refl
 
 -- the form with the lower of its limit and another
-abbrev pub stricter : Form → ℕ → Form
+abbrev stricter : Form → ℕ → Form
 stricter form L = record { head = form.head; mark = form.mark; width = form.width; limit = min form.limit L }
 
 -- no entry is above the lower limit: neither 4 nor 17
-pub stricter-passed : (form : Form) (L : ℕ) (s : List ℕ) → table_checks (stricter form L) s ≡ Passed → entry_checks form L s ≡ Passed
+stricter-passed : (form : Form) (L : ℕ) (s : List ℕ) → table_checks (stricter form L) s ≡ Ok tt → entry_checks form L s ≡ Ok tt
 unfolding images_of entry_of fill_of
 stricter-passed form L s e =
     let n = images_of form s in
@@ -75,12 +73,12 @@ stricter-passed form L s e =
     let c = table_formed (entry_of form s) n (min form.limit L) r.some r.few r.fine r.nonzero in
     rw p (passed_fit L (cost (stored_table form n s) n) n (λ i j hi hj. omega (arith, c.formed.small {i = i} {j = j} hi hj)))
 
-passed-refused : {c : Check} {r : Refusal} → c ≡ Passed → c ≡ Refused r → ⊥
+passed-refused : {c : Check} {r : Refusal} → c ≡ Ok tt → c ≡ Err r → ⊥
 passed-refused p e = let q : ◌≡◌ {A = ℕ} 0 1 = cc in omega arith
 
 -- one is, and none is above the form's own: 17, at the place that the lower limit named
-stricter-refused : (form : Form) (L : ℕ) (s : List ℕ) (r : Refusal) → table_checks (stricter form L) s ≡ Refused r → table_checks form s ≡ Passed
-    → entry_checks form L s ≡ Refused (refusal 17 r.a r.b 0 0)
+stricter-refused : (form : Form) (L : ℕ) (s : List ℕ) (r : Refusal) → table_checks (stricter form L) s ≡ Err r → table_checks form s ≡ Ok tt
+    → entry_checks form L s ≡ Err (refusal 17 r.a r.b 0 0)
 unfolding images_of entry_of fill_of
 stricter-refused form L s r e p =
     let n = images_of form s in
@@ -91,7 +89,7 @@ stricter-refused form L s r e p =
     let c = then_passed (body_checks form n s) values b.1 in
     let v = then_passed (stored_check form.limit (entry_cost f n) n) (off_diagonal_check (entry_cost f n) n) c.1 in
     let lower = stored_check (min form.limit L) (entry_cost f n) n in
-    let under : lower ≡ Refused r = sym (then_none lower (off_diagonal_check (entry_cost f n) n) v.1) ∙ (rw (a.0, b.0, c.0) at e) in
+    let under : lower ≡ Err r = sym (then_none lower (off_diagonal_check (entry_cost f n) n) v.1) ∙ (rw (a.0, b.0, c.0) at e) in
     cases (ltb L form.limit)
     (λ h.
     let m : min form.limit L ≡ L = omega (arith, ltb-true L form.limit h) in
@@ -100,11 +98,26 @@ stricter-refused form L s r e p =
     let m : min form.limit L ≡ form.limit = omega (arith, ltb-false L form.limit h) in
     absurd (passed-refused v.0 (ap (λ (x : ℕ). stored_check x (entry_cost f n) n) (sym m) ∙ under)))
 
+-- so, as the reader asks with places enough for every table: where the lower limit let all pass, and where it refused
+pub passed_stricter : (form : Form) (L : ℕ) (s : List ℕ) → read_checks (stricter form L) s 4096 ≡ Ok tt → entry_checks form L s ≡ Ok tt
+passed_stricter form L s e = stricter-passed form L s (sym (enough_room (stricter form L) s 4096 (omega arith)) ∙ e)
+
+pub refused_stricter : (form : Form) (L : ℕ) (s : List ℕ) (r : Refusal) → read_checks (stricter form L) s 4096 ≡ Err r
+    → (table_checks form s then Err (refusal 17 r.a r.b 0 0)) ≡ entry_checks form L s
+refused_stricter form L s r e = go (table_checks form s) refl
+  where
+    under : table_checks (stricter form L) s ≡ Err r
+    under = sym (enough_room (stricter form L) s 4096 (omega arith)) ∙ e
+
+    go : (c : Check) → table_checks form s ≡ c → (table_checks form s then Err (refusal 17 r.a r.b 0 0)) ≡ entry_checks form L s
+    go (Ok tt) p = ap (λ (x : Check). x then Err (refusal 17 r.a r.b 0 0)) p ∙ sym (stricter-refused form L s r under p)
+    go (Err q) p = rw p refl
+
 -- so, where the lower limit refused: what the form's own refuses, and else 17
-pub stricter_again : (form : Form) (L : ℕ) (s : List ℕ) (r : Refusal) → table_checks (stricter form L) s ≡ Refused r
-    → (table_checks form s then Refused (refusal 17 r.a r.b 0 0)) ≡ entry_checks form L s
+pub stricter_again : (form : Form) (L : ℕ) (s : List ℕ) (r : Refusal) → table_checks (stricter form L) s ≡ Err r
+    → (table_checks form s then Err (refusal 17 r.a r.b 0 0)) ≡ entry_checks form L s
 stricter_again form L s r e = go (table_checks form s) refl
   where
-    go : (c : Check) → table_checks form s ≡ c → (table_checks form s then Refused (refusal 17 r.a r.b 0 0)) ≡ entry_checks form L s
-    go Passed p = ap (λ (x : Check). x then Refused (refusal 17 r.a r.b 0 0)) p ∙ sym (stricter-refused form L s r e p)
-    go (Refused q) p = rw p refl
+    go : (c : Check) → table_checks form s ≡ c → (table_checks form s then Err (refusal 17 r.a r.b 0 0)) ≡ entry_checks form L s
+    go (Ok tt) p = ap (λ (x : Check). x then Err (refusal 17 r.a r.b 0 0)) p ∙ sym (stricter-refused form L s r e p)
+    go (Err q) p = rw p refl

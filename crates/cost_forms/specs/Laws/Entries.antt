@@ -1,5 +1,5 @@
 -- The stored order: where an entry stands, and that a table and its entries say the same. Assumes nothing.
-use Rattle.std.specs.Prelude.{List, ◌++◌, ◌≡◌, ltb, length}
+use Rattle.std.specs.Prelude.{List, ◌++◌, ◌≡◌, ◌/◌, ltb, length}
 use Rattle.std.proofs.Math.Path.{ap, refl, sym}
 use Rattle.std.proofs.Common.{ap₂, ◌∙◌, add-suc, add-zero, mul-add, mul-le-mul_left, suc-mul, zero-mul, add-one, arith}
 use Prim.Native.Nat.{suc, zero, ℕ, ◌*◌, ◌+◌, ◌-◌, ◌<◌, ◌≤◌}
@@ -33,6 +33,9 @@ row-twice n (suc i) h =
     let p : suc i * (suc i + 1) ≡ i * (i + 1) + 2 * (i + 1) = ap (λ (x : ℕ). suc i * x) (omega arith) ∙ mul-add (suc i) (i + 1) 1
     ∙ omega (arith, suc-mul i (i + 1)) in
     omega (arith, row-twice n i (omega arith), p, suc-mul i n)
+
+pub counted : (n i : ℕ) → i ≤ n → i * n - i * (i + 1) / 2 ≡ row_start n i
+counted n i h = omega (arith, row-twice n i h)
 
 pub number_lt : (n i j : ℕ) → i < j → j < n → entry_number n i j < entry_count n
 number_lt n i j h k = omega (arith, row_more n i, row_le_lem n (i + 1) n (omega arith))

@@ -1,5 +1,5 @@
 -- Writing what was read, for any form. Assumes nothing.
-use Rattle.std.specs.Prelude.{List, ◌≡◌, ℕ, ◌/◌, ◌≤◌, drop, length, take}
+use Rattle.std.specs.Prelude.{List, ◌≡◌, ℕ, ◌/◌, ◌≤◌, drop, length, take, Ok}
 use Rattle.ground.specs.Outcomes.{wrote_into}
 use Rattle.theory.specs.Tables.{CostTable, limit}
 use Rattle.bits.specs.Bits.{AllBytes}
@@ -11,13 +11,12 @@ use Rattle.stored_costs.proofs.Laws.Passed.{table-at}
 use Rattle.stored_costs.proofs.Laws.Positions.{used_bytes}
 use Rattle.stored_costs.specs.Laws.WriteBack.{read_table}
 use Rattle.stored_costs.specs.Outcomes.{judged}
-use Rattle.stored_costs.specs.declared.StoredCosts.TheVariants.{Table}
 use Rattle.bits.specs.declared.Form.{Form}
 
 module _ (form : Form) where
   -- writing what was read gives the same used bytes
   pub read_again : form.limit ≤ limit → (bytes : List ℕ) (position room n used : ℕ) (out : List ℕ) → AllBytes bytes
-      → judged form bytes position room ≡ Table n used
+      → judged form bytes position room ≡ Ok (record { n = n; used = used })
       → Marked form (drop (position / 8) bytes) → used ≤ length out
       → write_outcome form n (stored_table form n (drop (position / 8) bytes)) out
       ≡ wrote_into used (take used (drop (position / 8) bytes)) out

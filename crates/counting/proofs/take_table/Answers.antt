@@ -13,18 +13,18 @@ with_apart-requires c =
 
 pub take_tree-requires : goal.take_tree-requires
 take_tree-requires c =
-    record { ts = c.requires.ts; u = c.args.t.now; ready = exact_ready _ _ _ _ (replicate 128 0) (replicate 128 0) _ _ _ _ _ _ c.requires.ready refl refl _ c.exact-read.ensures _ c.in-Places.is c.exact-read.auto.fars c.exact-read.auto.costs }
+    record { ts = c.requires.ts; u = c.args.t.now; ready = exact_ready _ _ _ _ (replicate 128 0) (replicate 128 0) _ _ _ _ _ _ c.requires.ready refl refl _ c.exact.ensures _ c.in-Ok.is c.exact.auto.fars c.exact.auto.costs }
 
-pub returns-in-Refused : goal.returns-in-Refused
-returns-in-Refused c =
+pub returns-in-Err : goal.returns-in-Err
+returns-in-Err c =
     rw c.with_apart.ensures
     (record {
       taken = λ ts y.
           moved_apart ts _ _ _ _ _ _ _ y
           (exact_apart c.args.n c.args.more c.args.t.now (replicate 128 0) (replicate 128 0) _ _ y.read.formed refl refl _
-          c.exact-read.ensures _ c.in-Refused.is);
+          c.exact.ensures _ c.in-Err.is);
     })
 
-pub returns-in-Places : goal.returns-in-Places
-returns-in-Places c =
-    record { taken = λ ts y. c.take_tree.ensures.taken ts _ (exact_ready ts _ _ _ (replicate 128 0) (replicate 128 0) _ _ _ _ _ _ y refl refl _ c.exact-read.ensures _ c.in-Places.is c.exact-read.auto.fars c.exact-read.auto.costs) }
+pub returns-in-Ok : goal.returns-in-Ok
+returns-in-Ok c =
+    record { taken = λ ts y. c.take_tree.ensures.taken ts _ (exact_ready ts _ _ _ (replicate 128 0) (replicate 128 0) _ _ _ _ _ _ y refl refl _ c.exact.ensures _ c.in-Ok.is c.exact.auto.fars c.exact.auto.costs) }

@@ -1,8 +1,7 @@
 -- A table that gets 7, counted apart. Assumes nothing.
-use Rattle.std.specs.Prelude.{false, List, [], ◌++◌, ◌∷◌, refl, ◌≡◌, ℕ, ◌+◌, ltb, length}
+use Rattle.std.specs.Prelude.{false, List, [], ◌++◌, ◌∷◌, refl, ◌≡◌, ℕ, ltb, length, Ok}
 use Rattle.std.proofs.Common.{ap, sym, ◌∙◌, arith, le-ltb}
 use Rattle.ground.specs.Laws.Filters.{each_end}
-use Rattle.ground.specs.declared.Check.TheVariants.{Passed}
 use Rattle.theory.specs.LinkTables.{Row, fars}
 use Rattle.theory.specs.Tables.{CostTable, limit}
 use Rattle.seen.specs.Seen.{entries, seen}
@@ -25,7 +24,7 @@ pub moved_apart : (ts : List Table) (n more : ℕ) (u : List ℕ) (here : Standi
         rows = here.rows;
         last = here.last;
       };
-      stop = Passed;
+      stop = Ok tt;
     }) f t s f t s
 moved_apart ts n more u here f t s y e =
     let tb = table_of n more u in

@@ -1,15 +1,11 @@
 -- The exact reading of a table that the reader accepted: it gets 7, or its tree stands in two local arrays. Assumes nothing.
+use Rattle.ground.specs.Refusals.{Check, Written}
 use Rattle.std.proofs.Math.Bool.{false}
-use Rattle.std.specs.Prelude.{true, List, ℕ, ◌≤◌}
+use Rattle.std.specs.Prelude.{true, List, ℕ, ◌≤◌, Ok, Err}
 use Rattle.std.proofs.Math.Path.{ap, ap₂, refl, subst, sym, ◌≡◌}
 use Rattle.std.proofs.Common.{◌∙◌, arith}
 use Rattle.std.proofs.Math.ListN.{length}
-use Rattle.ground.specs.declared.Check.{Check}
-use Rattle.ground.specs.declared.Check.TheVariants.{Passed, Refused}
 use Rattle.ground.specs.declared.Refusal.{Refusal}
-use Rattle.ground.specs.declared.Written.{Written}
-use Rattle.ground.specs.declared.Written.TheVariants.{Places}
-use Rattle.ground.specs.declared.Written.TheVariants as written
 use Rattle.theory.specs.Laws.JoinedRows.{rows_of-all}
 use Rattle.theory.specs.LinkTables.{rows_of}
 use Rattle.theory.specs.Outcomes.{LeftRows}
@@ -35,13 +31,13 @@ module _ (n more : ℕ) (u f v f' v' : List ℕ) (c : CostTable limit n u) (a : 
       exact_check_lem limit n u c.some c.few (length f) (length v) (omega (arith, c.few)) (omega (arith, c.few)) ∙ table_sized limit n u c.sized
       ∙ tree_wiring limit n u c
 
-  pub exact_apart : (q : Refusal) → w ≡ written.Refused q → is_accepted (table_of n more u) ≡ false
+  pub exact_apart : (q : Refusal) → w ≡ Err q → is_accepted (table_of n more u) ≡ false
   unfolding is_accepted
   exact_apart q e = go (wiring_check (cost u n) n) refl
     where
       go : (x : Check) → wiring_check (cost u n) n ≡ x → is_accepted (table_of n more u) ≡ false
-      go (Refused r) s = rw s
-      go Passed s = absurd (let z = rw (e, checks, s) at l.answered in let o : ◌≡◌ {A = ℕ} 0 1 = cc in omega arith)
+      go (Err r) s = rw s
+      go (Ok tt) s = absurd (let z = rw (e, checks, s) at l.answered in let o : ◌≡◌ {A = ℕ} 0 1 = cc in omega arith)
 
   -- accepted: its rows stand in the first k places
   record Held (k : ℕ) : Type 0 where
@@ -49,23 +45,23 @@ module _ (n more : ℕ) (u f v f' v' : List ℕ) (c : CostTable limit n u) (a : 
     pub is : rows_in f' v' k ≡ tree_of limit (table_of n more u)
     pub few : k ≤ 128
 
-  exact_tree : (k : ℕ) → w ≡ Places k → length f' ≡ 128 → length v' ≡ 128 → Held k
+  exact_tree : (k : ℕ) → w ≡ Ok k → length f' ≡ 128 → length v' ≡ 128 → Held k
   unfolding is_accepted
   exact_tree k e g h =
       let l' = subst (λ r. LeftRows (exact_outcome limit n u f v) r f' v') e l in
       let s = left_stand (exact_check limit n u (length f) (length v)) (exact_rows limit n u) k f v f' v' l' in
       let x = exact_answer limit n u f v k f' v' l' in
-      let few : k ≤ 128 = omega (arith, counted k (rw s.0 at l'.answered), ap length x.left.rows, x.tree.most, c.few) in
+      let few : k ≤ 128 = omega (arith, counted (rw s.0 at l'.answered), ap length x.left.rows, x.tree.most, c.few) in
       let is : rows_left k f' v' ≡ rows_in f' v' k =
       ap₂ rows_of (rows_in-fars f' v' k (omega arith)) (rows_in-costs f' v' k (omega arith)) ∙ rows_of-all (rows_in f' v' k) in
       record { accepted = rw (sym checks ∙ s.0); is = sym is ∙ x.left.rows; few = few }
     where
-      counted : (r : ℕ) → Places r ≡ Places (length (exact_rows limit n u)) → r ≡ length (exact_rows limit n u)
-      counted r e = cc
+      counted : ◌≡◌ {A = Written} (Ok k) (Ok (length (exact_rows limit n u))) → k ≡ length (exact_rows limit n u)
+      counted e = cc
 
 -- so the tree is ready to be taken
 pub exact_ready : (ts : List Table) (n more : ℕ) (u f v f' v' : List ℕ) (here : Standing) (fs ns ss : List ℕ) → TableReady ts (table_of n more u) here fs ns ss
-    → length f ≡ 128 → length v ≡ 128 → (w : Written) → LeftRows (exact_outcome limit n u f v) w f' v' → (k : ℕ) → w ≡ Places k → length f' ≡ 128
+    → length f ≡ 128 → length v ≡ 128 → (w : Written) → LeftRows (exact_outcome limit n u f v) w f' v' → (k : ℕ) → w ≡ Ok k → length f' ≡ 128
     → length v' ≡ 128 → TreeReady ts (table_of n more u) (record { count = k; fars = f'; costs = v' }) here fs ns ss
 exact_ready ts n more u f v f' v' here fs ns ss y a b w l k e g h =
     let t = exact_tree n more u f v f' v' y.read.formed a b w l k e g h in

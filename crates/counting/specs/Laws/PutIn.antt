@@ -1,9 +1,8 @@
 -- A table more with its tree, put in and counted. Assumes nothing.
-use Rattle.std.specs.Prelude.{false, List, [], ◌++◌, ◌∷◌, refl, ◌≡◌, ℕ, ◌*◌, ◌+◌, ◌^◌, ◌≤◌, ltb, length, take}
+use Rattle.std.specs.Prelude.{false, List, [], ◌++◌, ◌∷◌, refl, ◌≡◌, ℕ, ◌*◌, ◌^◌, ◌≤◌, ltb, length, take, Ok}
 use Rattle.std.proofs.Common.{ap, ap₂, sym, ◌∙◌, arith, le-ltb}
 use Rattle.ground.specs.Filters.{Each}
 use Rattle.ground.specs.Laws.Filters.{each_end}
-use Rattle.ground.specs.declared.Check.TheVariants.{Passed}
 use Rattle.theory.specs.LinkTables.{fars}
 use Rattle.theory.specs.Tables.{CostTable, limit}
 use Rattle.tree.specs.LocalRows.{rows_in}
@@ -77,7 +76,7 @@ module _ (ts : List Table) (n more : ℕ) (u : List ℕ) (tree : Rows) (here : S
           rows = tree.count;
           last = tree.fars;
         };
-        stop = Passed;
+        stop = Ok tt;
       }) f t s f' t' s'
   moved_tree all d f' t' s' e h ed o =
       let tb = table_of n more u in

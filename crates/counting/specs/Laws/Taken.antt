@@ -1,10 +1,11 @@
 -- A table more with its tree: what the code asks of it, and its refusal. Assumes nothing.
-use Rattle.std.specs.Prelude.{true, List, [], ◌++◌, ◌∷◌, refl, ◌≡◌, ℕ, ◌+◌, ◌-◌, ◌<◌, ◌^◌, ◌≤◌, ltb, length, take}
-use Rattle.std.proofs.Common.{ap, ◌∙◌, arith, length-take-le, lt-ltb}
+use Rattle.std.specs.Prelude.{List, [], ◌++◌, ◌∷◌, refl, ◌≡◌, ℕ, ◌+◌, ◌-◌, ◌^◌, ◌≤◌, ltb, length, take, Ok, Err}
+use Rattle.std.proofs.Common.{ap, sym, ◌∙◌, arith, length-take-le, ltb-false}
 use Rattle.ground.specs.Ascending.{Between}
 use Rattle.ground.specs.Laws.Filters.{each_end}
-use Rattle.ground.specs.Refusals.{refusal}
-use Rattle.ground.specs.declared.Check.TheVariants.{Refused}
+use Rattle.ground.specs.Laws.Refusals.{refuse_if-passed}
+use Rattle.ground.specs.Refusals.{refusal, refuse_if, Check}
+use Rattle.ground.specs.declared.Refusal.{Refusal}
 use Rattle.theory.specs.Comparison.{common, inners}
 use Rattle.theory.specs.Demands.{OneTree}
 use Rattle.theory.specs.LinkTables.{Row, fars}
@@ -64,10 +65,15 @@ module _ (ts : List Table) (n more : ℕ) (u : List ℕ) (tree : Rows) (here : S
       ∙ ap (λ (Us : List (List Row)). length (seen n Us)) (trees_yes limit ts (table_of n more u) y.accepted) in
       omega (arith, q, a, b, c, d)
 
+  -- 19 passed: there is room for all of them
+  pub not_many : (m : ℕ) {c : Check} → c ≡ refuse_if (ltb most_sides m) (refusal 19 0 0 0 0) → c ≡ Ok tt → m ≤ most_sides
+  not_many m h g = ltb-false most_sides m (refuse_if-passed (ltb most_sides m) _ (sym h ∙ g))
+
   -- refused with 19: nothing has moved
-  pub moved_many : (m : ℕ) → m ≡ sides_at limit (ts ++ (table_of n more u ∷ [])) → most_sides < m
+  pub moved_many : (m : ℕ) → m ≡ sides_at limit (ts ++ (table_of n more u ∷ [])) → {c : Check} {r : Refusal}
+      → c ≡ refuse_if (ltb most_sides m) (refusal 19 0 0 0 0) → c ≡ Err r
       → Moved limit (many_check limit (ts ++ (table_of n more u ∷ []))) ts (table_of n more u)
-      (record { standing = here; stop = Refused (refusal 19 0 0 0 0) }) f t s f t s
-  moved_many m e h =
-      let q : ltb most_sides (sides_at limit (ts ++ (table_of n more u ∷ []))) ≡ true = lt-ltb _ _ (rw e at h) in
+      (record { standing = here; stop = Err r }) f t s f t s
+  moved_many m e {c} {r} h g =
+      let q : many_check limit (ts ++ (table_of n more u ∷ [])) ≡ Err r = sym (rw e at h) ∙ g in
       rw q (record { stopped = refl; stands = y.table.read.stands; grown = omega arith; stored = y.table.read.holds.stored })

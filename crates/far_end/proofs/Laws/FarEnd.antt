@@ -73,3 +73,6 @@ module _ (d : ℕ → ℕ → ℕ) where
 
   pub farther_lt : (n w x : ℕ) → w < n → x < n → farther_of d w x < n
   farther_lt n w x h g = cases (ltb (d 0 x) (d 0 w)) (λ e. rw e h) (λ e. rw e g)
+
+-- what the loop's function names
+pub ruleset turns = (farthest_none, farthest-more, farthest_end, farther_lt)

@@ -3,14 +3,8 @@ use Rattle.std.proofs.Common.{length-take-le, refl, sym, take, ◌^◌}
 use Rattle.figures.specs.Laws.Pairs.{common_few}
 use Rattle.figures.proofs.fresh.Goals as goal
 
-pub slice_bounds-common_rows-end : goal.slice_bounds-common_rows-end
-slice_bounds-common_rows-end c = sym (length-take-le _ _ c.requires.0)
-
 pub overflow_sub-result : goal.overflow_sub-result
 overflow_sub-result c =
     let p = c.requires in
     let a = c.args in
     rw (c.common_rows.ensures, c.inner_rows.ensures) (common_few a.n (2 ^ a.n) (take a.sides a.kept.now) a.next.now p.1 p.2)
-
-pub returns : goal.returns
-returns c = rw (c.inner_rows.ensures, c.common_rows.ensures) refl

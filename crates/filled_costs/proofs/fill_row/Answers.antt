@@ -1,41 +1,11 @@
 -- `stored_costs::fill_row` meets its contract: its three parts are the whole row. Assumes nothing.
-use Rattle.std.proofs.Common.{arith, length, length-set, ◌*◌, ◌+◌, ◌∙◌, ◌≤◌}
+use Rattle.std.proofs.Common.{arith, length, length-set, ◌*◌, ◌+◌, ◌≤◌}
 use Rattle.bits.specs.Bits.{bits}
 use Rattle.bits.specs.Forms.{field_value}
 use Rattle.cost_forms.specs.Said.{entry_of}
 use Rattle.filled_costs.specs.Laws.Filling.{row_field, row-filled, row_inside}
 use Rattle.cost_forms.specs.Laws.Sizes.{row_span, square_le}
 use Rattle.filled_costs.proofs.fill_row.Goals as goal
-
-pub overflow_mul-out : goal.overflow_mul-out
-overflow_mul-out c =
-    let inside : (c.args.i * c.args.n + c.args.n ≤ length c.args.out.now) × (c.args.i * c.args.n + c.args.n ≤ 4096) = let r = row_inside c.args.n c.args.i c.requires.1 in
-    (omega (arith, r, c.requires.2), omega (arith, r, square_le c.requires.0.small.few)) in omega (arith, inside.1)
-
-pub overflow_add-out : goal.overflow_add-out
-overflow_add-out c =
-    let inside : (c.args.i * c.args.n + c.args.n ≤ length c.args.out.now) × (c.args.i * c.args.n + c.args.n ≤ 4096) = let r = row_inside c.args.n c.args.i c.requires.1 in
-    (omega (arith, r, c.requires.2), omega (arith, r, square_le c.requires.0.small.few)) in omega (arith, c.requires.1, inside.1)
-
-pub offset_bounds-out-i : goal.offset_bounds-out-i
-offset_bounds-out-i c =
-    let inside : (c.args.i * c.args.n + c.args.n ≤ length c.args.out.now) × (c.args.i * c.args.n + c.args.n ≤ 4096) = let r = row_inside c.args.n c.args.i c.requires.1 in
-    (omega (arith, r, c.requires.2), omega (arith, r, square_le c.requires.0.small.few)) in omega (arith, c.requires.1, inside.1)
-
-pub bounds-out-i : goal.bounds-out-i
-bounds-out-i c =
-    let inside : (c.args.i * c.args.n + c.args.n ≤ length c.args.out.now) × (c.args.i * c.args.n + c.args.n ≤ 4096) = let r = row_inside c.args.n c.args.i c.requires.1 in
-    (omega (arith, r, c.requires.2), omega (arith, r, square_le c.requires.0.small.few)) in omega (arith, c.requires.1, inside.0, c.fill_left.auto.out)
-
-pub overflow_mul-i : goal.overflow_mul-i
-overflow_mul-i c =
-    let inside : (c.args.i * c.args.n + c.args.n ≤ length c.args.out.now) × (c.args.i * c.args.n + c.args.n ≤ 4096) = let r = row_inside c.args.n c.args.i c.requires.1 in
-    (omega (arith, r, c.requires.2), omega (arith, r, square_le c.requires.0.small.few)) in omega (arith, inside.1)
-
-pub overflow_add-i-3 : goal.overflow_add-i-3
-overflow_add-i-3 c =
-    let inside : (c.args.i * c.args.n + c.args.n ≤ length c.args.out.now) × (c.args.i * c.args.n + c.args.n ≤ 4096) = let r = row_inside c.args.n c.args.i c.requires.1 in
-    (omega (arith, r, c.requires.2), omega (arith, r, square_le c.requires.0.small.few)) in omega (arith, c.requires.1, inside.1)
 
 pub fill_right-requires : goal.fill_right-requires
 fill_right-requires c =
@@ -46,11 +16,6 @@ fill_right-requires c =
       omega (arith, c.requires.1, inside.1),
       simp length-set (omega (arith, c.requires.1, inside.0, c.fill_left.auto.out)),
     )
-
-pub shape_of-out : goal.shape_of-out
-shape_of-out c =
-    let a = c.args in
-    c.fill_right.auto.out ∙ length-set c.fill_left.new.out (a.i * a.n + a.i) _ ∙ c.fill_left.auto.out
 
 pub returns : goal.returns
 returns c =

@@ -1,10 +1,6 @@
 -- `grafting::own_rows` meets its contract: the own links of the images 1 to i are there, and at the end that of image 0. Assumes nothing.
-use Rattle.std.proofs.Common.{◌-◌}
 use Rattle.grafting.specs.Laws.OwnTable.{OwnTo}
 use Rattle.grafting.proofs.own_rows.Given as goal
 
 abbrev pub invariant-loop-i : goal.invariant-loop-i
 invariant-loop-i l = OwnTo l.n l.i l.initial.fars l.initial.costs l.fars l.costs
-
-abbrev pub decreases-loop-i : goal.decreases-loop-i
-decreases-loop-i l = l.n - l.i

@@ -1,5 +1,5 @@
 -- Where the paths from the first image part, seen in the order. Assumes nothing.
-use Rattle.std.specs.Prelude.{◌≡◌, min, suc, zero, ℕ, ◌*◌, ◌+◌, ◌-◌, ◌<◌, ◌≤◌, eqb}
+use Rattle.std.specs.Prelude.{◌≡◌, min, suc, zero, ℕ, ◌*◌, ◌+◌, ◌<◌, ◌≤◌, eqb}
 use native.Mathlib.Omega.{arith}
 use Rattle.std.proofs.lemmas.Bool.{eqb-false}
 use Rattle.std.proofs.Common.{eqb-true}

@@ -1,6 +1,6 @@
 -- Every costly row that grafting makes is a division of index above 0. So no two cross. Assumes nothing.
 use Rattle.std.proofs.Common.{inl, inr, ap, ap₂, ◌∙◌, arith, leb-false, leb-true}
-use Rattle.std.specs.Prelude.{◌⊎◌, ◌≡◌, suc, ℕ, ◌+◌, ◌-◌, ◌<◌, ◌≤◌, leb}
+use Rattle.std.specs.Prelude.{◌⊎◌, ◌≡◌, suc, ℕ, ◌+◌, ◌<◌, ◌≤◌, leb}
 use borrow.Table.Steps.{cases}
 use Rattle.ground.specs.Bits.{bit}
 use Rattle.ground.specs.Least.{On}

@@ -1,24 +1,22 @@
 -- What the first refusal of steps is. Assumes nothing.
 use mathlib.Core.List.{List, Memᴰ, [], ◌++◌, ◌∷◌}
 use Rattle.std.proofs.Common.{inl, inr, ap, subst, sym}
-use Rattle.std.specs.Prelude.{◌⊎◌, refl, ◌≡◌, ℕ}
+use Rattle.std.specs.Prelude.{◌⊎◌, refl, ◌≡◌, ℕ, Ok, Err}
 use Rattle.ground.specs.Laws.Filters.{each_cons, each_nil}
-use Rattle.ground.specs.Refusals.{if_passed}
-use Rattle.ground.specs.declared.Check.{Check}
-use Rattle.ground.specs.declared.Check.TheVariants.{Passed, Refused}
+use Rattle.ground.specs.Refusals.{if_passed, Check}
 use Rattle.ground.specs.declared.Refusal.{Refusal}
 use Rattle.ground.specs.Steps.{FirstRefused, Passes, Refuses, Step, about, decided}
 
 module _ {A : Type 0} (refused : ℕ → Refusal → A) where
   -- steps about one table, which one check stands for, and then what follows
-  pub decided-about : (m : ℕ) (l : List Step) (y : A) → if_passed (refused m) (decided (λ k. Refused) l Passed) y ≡ decided refused (about m l) y
+  pub decided-about : (m : ℕ) (l : List Step) (y : A) → if_passed (refused m) (decided (λ k. Err) l (Ok tt)) y ≡ decided refused (about m l) y
   decided-about m [] y = refl
   decided-about m (s ∷ l) y = go s.check (decided-about m l y)
     where
-      go : (c : Check) → if_passed (refused m) (decided (λ k. Refused) l Passed) y ≡ decided refused (about m l) y
-          → if_passed (refused m) (if_passed Refused c (decided (λ k. Refused) l Passed)) y ≡ if_passed (refused m) c (decided refused (about m l) y)
-      go Passed e = e
-      go (Refused r) e = refl
+      go : (c : Check) → if_passed (refused m) (decided (λ k. Err) l (Ok tt)) y ≡ decided refused (about m l) y
+          → if_passed (refused m) (if_passed Err c (decided (λ k. Err) l (Ok tt))) y ≡ if_passed (refused m) c (decided refused (about m l) y)
+      go (Ok tt) e = e
+      go (Err r) e = refl
 
   -- steps and then further ones
   pub decided-join : (l m : List Step) (y : A) → decided refused l (decided refused m y) ≡ decided refused (l ++ m) y
@@ -35,20 +33,20 @@ module _ {A : Type 0} (refused : ℕ → Refusal → A) where
 
 -- every check passed, or one of them is the first to refuse
 pub passes_or_refuses : (l : List Step) → Passes l ⊎ Refuses l
-passes_or_refuses [] = inl (each_nil (λ s. s.check ≡ Passed))
+passes_or_refuses [] = inl (each_nil (λ s. s.check ≡ Ok tt))
 passes_or_refuses (s ∷ l) = go s.check refl (passes_or_refuses l)
   where
     go : (c : Check) → s.check ≡ c → Passes l ⊎ Refuses l → Passes (s ∷ l) ⊎ Refuses (s ∷ l)
-    go (Refused r) e h = inr (s, r, record { before = []; after = l; steps = refl; passed = each_nil (λ t. t.check ≡ Passed); refused = e })
-    go Passed e (inl h) = inl (each_cons (λ t. t.check ≡ Passed) s l e h)
-    go Passed e (inr f) = inr (
+    go (Err r) e h = inr (s, r, record { before = []; after = l; steps = refl; passed = each_nil (λ t. t.check ≡ Ok tt); refused = e })
+    go (Ok tt) e (inl h) = inl (each_cons (λ t. t.check ≡ Ok tt) s l e h)
+    go (Ok tt) e (inr f) = inr (
       f.0,
       f.1,
       record {
         before = s ∷ f.2.before;
         after = f.2.after;
         steps = ap (λ (t : List Step). s ∷ t) f.2.steps;
-        passed = each_cons (λ t. t.check ≡ Passed) s f.2.before e f.2.passed;
+        passed = each_cons (λ t. t.check ≡ Ok tt) s f.2.before e f.2.passed;
         refused = f.2.refused;
       },
     )

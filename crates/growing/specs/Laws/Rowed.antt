@@ -9,7 +9,7 @@ use Rattle.theory.specs.FarSides.{FarSide}
 use Rattle.theory.specs.Laws.Nested.{uncrossed_nested}
 use Rattle.theory.proofs.Laws.OneTree.{drawn_uncrossed, fars-measured, rows_between, rows-far}
 use Rattle.theory.proofs.Laws.RowsGrow.{rows-most}
-use Rattle.theory.specs.LinkTables.{Row, far, fars}
+use Rattle.theory.specs.LinkTables.{Row, fars}
 use Rattle.theory.specs.Readings.{drawn, row, rows}
 use Rattle.theory.specs.Tables.{WellFormed}
 use Rattle.brought.specs.Answers.{Valued}

@@ -1,5 +1,5 @@
 -- What the checks of the index call let through. Assumes nothing.
-use Rattle.std.specs.Prelude.{false, ◌||◌, List, ◌↔◌, ◌≡◌, ℕ, ◌^◌, eqb, leb}
+use Rattle.std.specs.Prelude.{false, ◌||◌, List, ◌↔◌, ◌≡◌, ℕ, ◌^◌, eqb, leb, Ok}
 use Rattle.std.proofs.Common.{arith, leb-false, ne_eqb}
 use Rattle.std.proofs.lemmas.Bool.{eqb-false, lt-leb}
 use Rattle.ground.specs.Bits.{bit}
@@ -7,7 +7,6 @@ use Rattle.ground.specs.Laws.Bits.{bit_lt}
 use Rattle.ground.specs.Refusals.{◌then◌}
 use Rattle.ground.specs.Laws.Refusals.{refuse_if-passed, then_passed}
 use Rattle.ground.specs.Laws.Tests.{or_false}
-use Rattle.ground.specs.declared.Check.TheVariants.{Passed}
 use Rattle.theory.specs.FarSides.{FarSide}
 use Rattle.theory.specs.Tables.{cost}
 use Rattle.tables.specs.Checks.{costs_check, size_check}
@@ -27,7 +26,7 @@ far-side n S = (
   λ f. rw (ne_eqb S 0 (λ e. omega (arith, f.some)), ne_eqb (bit S 0) 1 (λ e. omega (arith, f.near)), lt-leb (2 ^ n) S f.fits),
 )
 
-pub index-passed : (L n : ℕ) (t : List ℕ) (S : ℕ) → (index_check L n t S ≡ Passed) ↔ IndexAsked L n t S
+pub index-passed : (L n : ℕ) (t : List ℕ) (S : ℕ) → (index_check L n t S ≡ Ok tt) ↔ IndexAsked L n t S
 index-passed L n t S = (
   λ e.
       let p = then_passed (size_check n t) (costs_check L (cost t n) n then far_side_check n S) e in

@@ -1,12 +1,10 @@
 -- The index of a far side, by the index with two limits added: some choice has it, and none has less. Assumes nothing.
-use Rattle.std.specs.Prelude.{List, ◌≡◌, ℕ, ◌*◌, ◌+◌, ◌≤◌, pos, ℤ, ◌-ℤ◌}
+use Rattle.ground.specs.Refusals.{Check}
+use Rattle.std.specs.Prelude.{List, ◌≡◌, ℕ, ◌*◌, ◌+◌, ◌≤◌, pos, ℤ, ◌-ℤ◌, Ok, Err}
 use Rattle.std.proofs.Common.{ap, sym, ◌∙◌, arith}
 use Rattle.ground.specs.Bits.{bit}
 use Rattle.ground.specs.Laws.Refusals.{if_goes}
 use Rattle.ground.proofs.Laws.Signed.{le_signed}
-use Rattle.ground.specs.declared.Check.{Check}
-use Rattle.ground.specs.declared.Check.TheVariants.{Passed}
-use Rattle.ground.specs.declared.SignedAnswer.TheVariants.{Refused, Value}
 use Rattle.theory.specs.Choices.{Choice, across, inside, value_of}
 use Rattle.theory.specs.FarSides.{FarSide}
 use Rattle.theory.specs.Index.{gain, index, shifted}
@@ -15,7 +13,7 @@ use Rattle.theory.specs.Laws.FarSides.{far_image}
 use Rattle.theory.proofs.Laws.Index.{shifted_le}
 use Rattle.theory.proofs.Laws.SignedIndex.{far-shifted, value-gain}
 use Rattle.theory.specs.Tables.{WellFormed, cost}
-use Rattle.index.specs.Call.{index_answer, index_check}
+use Rattle.index.specs.Call.{IndexAsked, index_answer, index_check}
 use Rattle.index.specs.IndexIs.{IndexIs}
 use Rattle.index.proofs.Laws.Passed.{index-passed}
 
@@ -46,8 +44,14 @@ module _ (L : ℕ) (d : ℕ → ℕ → ℕ) (n : ℕ) (c : WellFormed L d n) (S
   }
 
 -- the last step of the call: where the checks passed, two limits are taken off
-pub value_answered : (L n : ℕ) (t : List ℕ) (S : ℕ) {x : Check} {v : ℕ} {z : ℤ} → x ≡ Passed → x ≡ index_check L n t S
-    → v ≡ shifted L (cost t n) n (bit S) → z ≡ pos v -ℤ pos (2 * L) → Value z ≡ index_answer L n t S
+pub value_answered : (L n : ℕ) (t : List ℕ) (S : ℕ) {x : Check} {v : ℕ} {z : ℤ} → x ≡ Ok tt → x ≡ index_check L n t S
+    → v ≡ shifted L (cost t n) n (bit S) → z ≡ pos v -ℤ pos (2 * L) → Ok z ≡ index_answer L n t S
 value_answered L n t S p e h k =
     let a = (index-passed L n t S).0 (sym e ∙ p) in
-    if_goes Refused _ _ p e (ap Value (k ∙ rw h (sym (far-shifted L (cost t n) n a.table.formed S a.side))))
+    if_goes Err _ _ p e (ap Ok (k ∙ rw h (sym (far-shifted L (cost t n) n a.table.formed S a.side))))
+
+pub passed_asked : (L n : ℕ) (t : List ℕ) (S : ℕ) → index_check L n t S ≡ Ok tt → IndexAsked L n t S
+passed_asked L n t S = (index-passed L n t S).0
+
+-- what the author of the call names
+pub ruleset call_laws = (passed_asked, value_answered)

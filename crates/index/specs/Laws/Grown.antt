@@ -24,3 +24,6 @@ module _ (L : ℕ) (d : ℕ → ℕ → ℕ) (n S : ℕ) (c : WellFormed L d n) 
 
   pub grown_end : (k : ℕ) {v : ℕ} → k ≤ n → n ≤ k → v ≡ shifted L d k (bit S) → v ≡ shifted L d n (bit S)
   grown_end k l h e = let q : k ≡ n = omega arith in rw (← q) e
+
+-- what the author of the loop names
+pub ruleset turns = (grown_none, grown-more, grown_end)

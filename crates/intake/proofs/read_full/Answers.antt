@@ -8,6 +8,7 @@ use lib.Seq.{take-add, take-append-le}
 use Rattle.intake.proofs.read_full.Goals as goal
 
 -- A front and what follows it make the longer front.
+
 take_split : (a n : ℕ) (old new : List ℕ) → take a new ≡ take a old → take a old ++ slice_range new a (a + n) ≡ take (a + n) new
 take_split a n old new front =
     let same : (a + n) - a ≡ n = omega arith in

@@ -9,9 +9,6 @@ use Rattle.joined_tables.specs.Tables.{tables}
 use Rattle.joined_tables.proofs.put_tables.Given as goal
 
 abbrev pub invariant-loop-table : goal.invariant-loop-table
-invariant-loop-table l = (l.table ≤ length l.ns) × (length l.out ≡ length l.initial.out) × (l.used ≤ length l.initial.out) × (l.rows ≤ length l.fars)
+invariant-loop-table l = (length l.out ≡ length l.initial.out) × (l.used ≤ length l.initial.out) × (l.rows ≤ length l.fars)
     × BatchFits (link_form l.edition) (drop l.table (tables l.ns l.counts)) (drop l.rows l.fars) (drop l.rows l.costs) (length l.initial.out - l.used)
     × (front (batch_bytes (link_form l.edition) (tables l.ns l.counts) l.fars l.costs) l.initial.out ≡ joined_at (link_form l.edition) l.ns l.counts l.fars l.costs l.out l.used l.rows l.table)
-
-abbrev pub decreases-loop-table : goal.decreases-loop-table
-decreases-loop-table l = length l.ns - l.table

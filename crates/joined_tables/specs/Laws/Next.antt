@@ -1,9 +1,8 @@
 -- The next table of a batch passes its checks exactly when it is a link table that has its rows and room. Assumes nothing.
-use Rattle.std.specs.Prelude.{List, ◌≡◌, ℕ, ◌*◌, ◌-◌, ◌≤◌, ltb, length, take}
+use Rattle.std.specs.Prelude.{List, ◌≡◌, ℕ, ◌*◌, ◌-◌, ◌≤◌, ltb, length, take, Ok}
 use Rattle.std.proofs.Common.{ap, subst, sym, ◌∙◌, arith, length-take, length-take-le, le-ltb, ltb-false}
 use Rattle.ground.specs.Refusals.{refusal, refuse_if, ◌then◌}
 use Rattle.ground.specs.Laws.Refusals.{refuse_if-passed, then_passed}
-use Rattle.ground.specs.declared.Check.TheVariants.{Passed}
 use Rattle.theory.proofs.Laws.RowCount.{row_count}
 use Rattle.theory.specs.LinkTables.{rows_of}
 use Rattle.theory.specs.Tables.{limit}
@@ -17,26 +16,26 @@ use Rattle.joined_tables.specs.Fitting.{NextFits}
 use Rattle.joined_tables.specs.Tables.{left_over_checks, next_checks, run_out_checks}
 use Rattle.bits.specs.declared.Form.{Form}
 
-pub run_out_passed : (N : ℕ) (l v : List ℕ) → run_out_checks N l v ≡ Passed → (N ≤ length l) × (N ≤ length v)
+pub run_out_passed : (N : ℕ) (l v : List ℕ) → run_out_checks N l v ≡ Ok tt → (N ≤ length l) × (N ≤ length v)
 run_out_passed N l v e =
     let p = then_passed (refuse_if (ltb (length l) N) (refusal 2 0 0 0 0)) (refuse_if (ltb (length v) N) (refusal 2 0 0 0 0)) e in
     (ltb-false (length l) N (refuse_if-passed (ltb (length l) N) _ p.0), ltb-false (length v) N (refuse_if-passed (ltb (length v) N) _ p.1))
 
-pub left_over_passed : (l v : List ℕ) → left_over_checks l v ≡ Passed → (length l ≡ 0) × (length v ≡ 0)
+pub left_over_passed : (l v : List ℕ) → left_over_checks l v ≡ Ok tt → (length l ≡ 0) × (length v ≡ 0)
 left_over_passed l v e =
     let p = then_passed (refuse_if (ltb 0 (length l)) (refusal 2 0 0 0 0)) (refuse_if (ltb 0 (length v)) (refusal 2 0 0 0 0)) e in
     let a = ltb-false 0 (length l) (refuse_if-passed (ltb 0 (length l)) _ p.0) in
     let b = ltb-false 0 (length v) (refuse_if-passed (ltb 0 (length v)) _ p.1) in
     (omega (arith, a), omega (arith, b))
 
-pub next_sized : (n N : ℕ) (l v : List ℕ) → count_checks n N ≡ Passed → run_out_checks N l v ≡ Passed → LinksSized n N (take N l) (take N v)
+pub next_sized : (n N : ℕ) (l v : List ℕ) → count_checks n N ≡ Ok tt → run_out_checks N l v ≡ Ok tt → LinksSized n N (take N l) (take N v)
 next_sized n N l v e f =
     let c = count-passed n N e in
     let r = run_out_passed N l v f in
     record { some = c.0; few = c.1; least = c.2; most = c.3; counted = length-take-le N l r.0; costed = length-take-le N v r.1 }
 
 module _ (form : Form) (n N : ℕ) (l v : List ℕ) (room : ℕ) where
-  pub next-passed : next_checks form n N l v room ≡ Passed → NextFits form n N l v room
+  pub next-passed : next_checks form n N l v room ≡ Ok tt → NextFits form n N l v room
   next-passed e =
       let f = fit_checks form n (take N l) (take N v) room in
       let p = then_passed (count_checks n N) (run_out_checks N l v then f) e in
@@ -56,7 +55,7 @@ module _ (form : Form) (n N : ℕ) (l v : List ℕ) (room : ℕ) where
       let q = rows-length (take N l) (take N v) (k.counted ∙ sym k.costed) in
       (k.some, k.few, omega (arith, c.0, q, k.counted), omega (arith, c.1, q, k.counted))
 
-  pub passed-next : form.limit ≤ limit → NextFits form n N l v room → next_checks form n N l v room ≡ Passed
+  pub passed-next : form.limit ≤ limit → NextFits form n N l v room → next_checks form n N l v room ≡ Ok tt
   passed-next w t =
       let k = take N l in
       let u = take N v in

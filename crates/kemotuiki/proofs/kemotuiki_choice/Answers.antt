@@ -5,4 +5,4 @@ use Rattle.kemotuiki.proofs.kemotuiki_choice.Goals as goal
 
 pub returns : goal.returns
 returns c =
-    c.of_chosen.ensures ∙ ap of_chosen c.choice.ensures
+    c.into.ensures ∙ ap of_chosen c.choice.ensures

@@ -5,4 +5,4 @@ use Rattle.kemotuiki.proofs.kemotuiki_compare.Goals as goal
 
 pub returns : goal.returns
 returns c =
-    c.of_comparison.ensures ∙ ap of_comparison c.compare.ensures
+    c.into.ensures ∙ ap of_comparison c.compare.ensures

@@ -5,4 +5,4 @@ use Rattle.kemotuiki.proofs.kemotuiki_consensus.Goals as goal
 
 pub returns : goal.returns
 returns c =
-    left-rows of_shared _ c.consensus.ensures c.of_shared.ensures
+    left-rows of_shared _ c.consensus.ensures c.into.ensures

@@ -5,4 +5,4 @@ use Rattle.kemotuiki.proofs.kemotuiki_exact.Goals as goal
 
 pub returns : goal.returns
 returns c =
-    left-rows of_rows _ c.exact.ensures c.of_rows.ensures
+    left-rows of_rows _ c.exact.ensures c.into.ensures

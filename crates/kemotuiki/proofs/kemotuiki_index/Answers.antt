@@ -5,4 +5,4 @@ use Rattle.kemotuiki.proofs.kemotuiki_index.Goals as goal
 
 pub returns : goal.returns
 returns c =
-    c.of_index.ensures ∙ ap of_index c.index.ensures
+    c.into.ensures ∙ ap of_index c.index.ensures

@@ -5,4 +5,4 @@ use Rattle.kemotuiki.proofs.kemotuiki_levels.Goals as goal
 
 pub returns : goal.returns
 returns c =
-    left_levels of_levels _ c.levels.ensures c.of_levels.ensures
+    left_levels of_levels _ c.levels.ensures c.into.ensures

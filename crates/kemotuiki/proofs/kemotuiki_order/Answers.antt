@@ -5,4 +5,4 @@ use Rattle.kemotuiki.proofs.kemotuiki_order.Goals as goal
 
 pub returns : goal.returns
 returns c =
-    left-crossed of_order _ c.order.ensures c.of_order.ensures
+    left-crossed of_order _ c.order.ensures c.into.ensures

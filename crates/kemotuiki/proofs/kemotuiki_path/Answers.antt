@@ -5,4 +5,4 @@ use Rattle.kemotuiki.proofs.kemotuiki_path.Goals as goal
 
 pub returns : goal.returns
 returns c =
-    c.of_path.ensures ∙ ap of_path c.path.ensures
+    c.into.ensures ∙ ap of_path c.path.ensures

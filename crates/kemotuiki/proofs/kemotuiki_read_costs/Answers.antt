@@ -5,4 +5,4 @@ use Rattle.kemotuiki.proofs.kemotuiki_read_costs.Goals as goal
 
 pub returns : goal.returns
 returns c =
-    left-crossed of_costs _ c.read_costs.ensures c.of_costs.ensures
+    left-crossed of_costs _ c.read_costs.ensures c.into.ensures

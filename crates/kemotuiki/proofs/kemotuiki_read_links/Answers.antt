@@ -5,4 +5,4 @@ use Rattle.kemotuiki.proofs.kemotuiki_read_links.Goals as goal
 
 pub returns : goal.returns
 returns c =
-    left-rows of_links _ c.read_links.ensures c.of_links.ensures
+    left-rows of_links _ c.read_links.ensures c.into.ensures

@@ -5,4 +5,4 @@ use Rattle.kemotuiki.proofs.kemotuiki_read_newick.Goals as goal
 
 pub returns : goal.returns
 returns c =
-    left-rows of_tree _ c.read_newick.ensures c.of_tree.ensures
+    left-rows of_tree _ c.read_newick.ensures c.into.ensures

@@ -5,4 +5,4 @@ use Rattle.kemotuiki.proofs.kemotuiki_refusal_text.Goals as goal
 
 pub returns : goal.returns
 returns c =
-    left-crossed of_bytes _ c.refusal_text.ensures c.of_bytes.ensures
+    left-crossed of_bytes _ c.refusal_text.ensures c.into.ensures

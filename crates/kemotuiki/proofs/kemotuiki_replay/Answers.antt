@@ -5,4 +5,4 @@ use Rattle.kemotuiki.proofs.kemotuiki_replay.Goals as goal
 
 pub returns : goal.returns
 returns c =
-    left-rows of_replayed _ c.replay.ensures c.of_replayed.ensures
+    left-rows of_replayed _ c.replay.ensures c.into.ensures

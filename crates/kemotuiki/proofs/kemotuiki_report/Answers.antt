@@ -5,4 +5,4 @@ use Rattle.kemotuiki.proofs.kemotuiki_report.Goals as goal
 
 pub returns : goal.returns
 returns c =
-    left_report of_report _ c.report.ensures c.of_report.ensures
+    left_report of_report _ c.report.ensures c.into.ensures

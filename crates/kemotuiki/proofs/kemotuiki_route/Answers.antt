@@ -5,4 +5,4 @@ use Rattle.kemotuiki.proofs.kemotuiki_route.Goals as goal
 
 pub returns : goal.returns
 returns c =
-    left-crossed of_rows _ c.route.ensures c.of_rows.ensures
+    left-crossed of_rows _ c.route.ensures c.into.ensures

@@ -5,4 +5,4 @@ use Rattle.kemotuiki.proofs.kemotuiki_upper_rows.Goals as goal
 
 pub returns : goal.returns
 returns c =
-    left-crossed of_rows _ c.upper_rows.ensures c.of_rows.ensures
+    left-crossed of_rows _ c.upper_rows.ensures c.into.ensures

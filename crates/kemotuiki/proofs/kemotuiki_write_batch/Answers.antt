@@ -5,4 +5,4 @@ use Rattle.kemotuiki.proofs.kemotuiki_write_batch.Goals as goal
 
 pub returns : goal.returns
 returns c =
-    left-crossed of_batched _ (rw c.edition_by.ensures at c.write_batch.ensures) c.of_batched.ensures
+    left-crossed of_batched _ (rw c.from.ensures at c.write_batch.ensures) c.into.ensures

@@ -5,4 +5,4 @@ use Rattle.kemotuiki.proofs.kemotuiki_write_links.Goals as goal
 
 pub returns : goal.returns
 returns c =
-    left-crossed of_bytes _ (rw c.edition_by.ensures at c.write_links.ensures) c.of_bytes.ensures
+    left-crossed of_bytes _ (rw c.from.ensures at c.write_links.ensures) c.into.ensures

@@ -5,4 +5,4 @@ use Rattle.kemotuiki.proofs.kemotuiki_write_newick.Goals as goal
 
 pub returns : goal.returns
 returns c =
-    left-crossed of_bytes _ c.write_newick.ensures c.of_bytes.ensures
+    left-crossed of_bytes _ c.write_newick.ensures c.into.ensures

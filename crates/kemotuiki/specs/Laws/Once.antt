@@ -1,14 +1,12 @@
 -- No two answers of the exported calls cross as the same numbers: a call that is decided by its checks gives no refusal numbered 0, which is
 -- all that the crossing asks. Assumes nothing.
 use mathlib.Core.List.Memᴰ
-use Rattle.std.specs.Prelude.{List, [], ◌∷◌, refl, ◌≡◌, ℕ}
+use Rattle.std.specs.Prelude.{List, [], ◌∷◌, refl, ◌≡◌, ℕ, Ok, Err}
 use Rattle.std.proofs.Common.{ap, sym, ◌∙◌, arith}
 use Rattle.ground.specs.Filters.{Each}
 use Rattle.ground.specs.InOrder.{Decides, Own}
-use Rattle.ground.specs.Refusals.{if_passed}
+use Rattle.ground.specs.Refusals.{if_passed, Check}
 use Rattle.ground.specs.Steps.{Step, decided}
-use Rattle.ground.specs.declared.Check.{Check}
-use Rattle.ground.specs.declared.Check.TheVariants.{Passed, Refused}
 use Rattle.ground.specs.declared.Refusal.{Refusal}
 use Rattle.numbers.specs.Kept.{Kept, Numbered}
 use Rattle.numbers.specs.declared.KemotuikiHead.{KemotuikiHead}
@@ -19,8 +17,8 @@ module _ {A : Type 0} (refuse : ℕ → Refusal → A) (same : (m n : ℕ) (p q 
   decided-numbered (s ∷ l) o = go s.check refl (decided-numbered l (λ t m. o t (Memᴰ.tail m)))
     where
       go : (c : Check) → s.check ≡ c → Numbered refuse (decided refuse l y) → Numbered refuse (if_passed (refuse s.table) c (decided refuse l y))
-      go Passed e rest m q f = rest m q f
-      go (Refused r) e rest m q f =
+      go (Ok tt) e rest m q f = rest m q f
+      go (Err r) e rest m q f =
           let w = o s (Memᴰ.head refl) in
           omega (arith, w.some, w.alone r e, ap (λ (z : Refusal). z.number) (same s.table m r q f))
 

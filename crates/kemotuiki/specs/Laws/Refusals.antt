@@ -1,17 +1,15 @@
 -- A call whose answer is the first refusal of its checks meets demand 1. Assumes nothing.
 use mathlib.Core.List.{List, Memᴰ, [], ◌∷◌}
 use Rattle.std.proofs.Common.{inl, inr, ap, ap₂, subst, sym, ◌∙◌, arith}
-use Rattle.std.specs.Prelude.{◌⊎◌, refl, ◌≡◌, ℕ}
+use Rattle.std.specs.Prelude.{◌⊎◌, refl, ◌≡◌, ℕ, Ok, Err}
 use Rattle.ground.specs.InOrder.{Decides, InOrder}
 use Rattle.ground.specs.Laws.InOrder.{decides_last, first-own}
 use Rattle.ground.specs.Laws.Outcomes.{front_stops}
 use Rattle.ground.specs.Laws.Maps.{mem-map}
 use Rattle.ground.specs.Laws.Steps.{first-decided, first_in, passes-decided, passes_or_refuses}
 use Rattle.ground.specs.Outcomes.{Left, front_if}
-use Rattle.ground.specs.Refusals.{if_passed}
+use Rattle.ground.specs.Refusals.{if_passed, Check}
 use Rattle.ground.specs.Steps.{FirstRefused, Passes, Refuses, Step, about, numbers_of}
-use Rattle.ground.specs.declared.Check.{Check}
-use Rattle.ground.specs.declared.Check.TheVariants.{Passed, Refused}
 use Rattle.ground.specs.declared.Refusal.{Refusal}
 use Rattle.theory.specs.Outcomes.{LeftRows, RowsOutcome}
 use Rattle.numbers.specs.Heads.{refused}
@@ -57,23 +55,23 @@ refusals head numbers refuse h {l} {steps} {x} {y} {r} {before} {after} k z d e 
 
 -- ## A call with one check c, about one table
 
-refused_check : (c : Check) {q : Refusal} → if_passed Refused c Passed ≡ Refused q → c ≡ Refused q
-refused_check Passed e = e
-refused_check (Refused r) e = e
+refused_check : (c : Check) {q : Refusal} → ◌≡◌ {A = Check} (if_passed Err c (Ok tt)) (Err q) → c ≡ Err q
+refused_check (Ok tt) e = e
+refused_check (Err r) e = e
 
 module _ {A K : Type 0} (head : K → KemotuikiHead) (numbers : A → K) (refuse : Refusal → A)
     (h : (q : Refusal) → head (numbers (refuse q)) ≡ refused 0 q) where
   -- without a lent buffer, or with any
   pub by_check : {l : List (ℕ × ℕ)} {steps : List Step} (c : Check) (y : A) {r : K} {before after : List (List ℕ)}
       → numbers_of (about 0 steps) ≡ l → (head (numbers y)).number ≡ 0 → InOrder steps c → r ≡ numbers (if_passed refuse c y)
-      → ((q : Refusal) → c ≡ Refused q → after ≡ before) → Refusals l (about 0 steps) (head r) before after
+      → ((q : Refusal) → c ≡ Err q → after ≡ before) → Refusals l (about 0 steps) (head r) before after
   by_check {steps = steps} c y k z o e u =
       refusals (λ a. a) (λ a. a) refused (λ m q. refl) k z (decides_last refused 0 (head (numbers y)) o) (ap head e ∙ crossing c)
-      (λ s q f. u q (refused_check c ((decides_last (λ m. Refused) 0 Passed o).same ∙ first-decided (λ m. Refused) (about 0 steps) Passed f)))
+      (λ s q f. u q (refused_check c ((decides_last (λ m. Err) 0 (Ok tt) o).same ∙ first-decided (λ m. Err) (about 0 steps) (Ok tt) f)))
     where
       crossing : (d : Check) → head (numbers (if_passed refuse d y)) ≡ if_passed (refused 0) d (head (numbers y))
-      crossing Passed = refl
-      crossing (Refused q) = h q
+      crossing (Ok tt) = refl
+      crossing (Err q) = h q
 
   -- with one lent buffer, o before and e after
   pub by_left : {l : List (ℕ × ℕ)} {steps : List Step} (c : Check) (y : A) (m o : List ℕ) {r : K} {e : List ℕ}
@@ -85,7 +83,7 @@ module _ {A K : Type 0} (head : K → KemotuikiHead) (numbers : A → K) (refuse
   -- with two
   pub by_rows : {l : List (ℕ × ℕ)} {steps : List Step} (c : Check) (y : A) (w : RowsOutcome A) (f v : List ℕ) {r : K} {f' v' : List ℕ}
       → numbers_of (about 0 steps) ≡ l → (head (numbers y)).number ≡ 0 → InOrder steps c → w.answer ≡ if_passed refuse c y
-      → ((q : Refusal) → c ≡ Refused q → (w.far_list ≡ f) × (w.cost_list ≡ v))
+      → ((q : Refusal) → c ≡ Err q → (w.far_list ≡ f) × (w.cost_list ≡ v))
       → LeftRows (crossed_rows numbers w) r f' v' → Refusals l (about 0 steps) (head r) (f ∷ v ∷ []) (f' ∷ v' ∷ [])
   by_rows c y w f v k z i a u p =
       by_check c y k z i (p.answered ∙ ap numbers a)

@@ -7,9 +7,9 @@ use Rattle.leaving.proofs.finish.Goals as goal
 pub write_rows-requires : goal.write_rows-requires
 write_rows-requires c =
     let p = c.requires in
+    let k = c.run-r.ensures.kept in
     let few = stands_few _ _ _ _ _ _ p.0.sound c.run-r.ensures in
-    (omega (arith, c.run-r.ensures.kept.few, c.run-r.ensures.kept.far-room), omega (arith, c.run-r.ensures.kept.few, c.run-r.ensures.kept.cost-room), le_trans few p.1, le_trans few p.2)
+    (omega (arith, k.few, k.far-room), omega (arith, k.few, k.cost-room), le_trans few p.1, le_trans few p.2)
 
 pub returns : goal.returns
-returns c =
-    stands_left _ _ _ _ _ _ _ _ c.run-r.ensures c.write_rows.ensures.0 c.write_rows.ensures.1
+returns c = stands_left _ _ _ _ _ _ _ _ c.run-r.ensures c.write_rows.ensures.0 c.write_rows.ensures.1

@@ -1,9 +1,7 @@
 -- The rows where a replay stands are what the exact reading of the smaller cost table leaves. Assumes nothing.
-use Rattle.std.specs.Prelude.{List, refl, ◌≡◌, ℕ, ◌*◌, ◌-◌, ◌≤◌, length}
+use Rattle.std.specs.Prelude.{List, refl, ◌≡◌, ℕ, ◌*◌, ◌-◌, ◌≤◌, length, Ok}
 use Rattle.std.proofs.Common.{sym, ◌∙◌}
 use Rattle.ground.specs.Buffers.{front}
-use Rattle.ground.specs.declared.Check.TheVariants.{Passed}
-use Rattle.ground.specs.declared.Written.TheVariants.{Places}
 use Rattle.theory.proofs.Laws.OnlyOne.{unique}
 use Rattle.theory.specs.LinkTables.{Row, costs, fars}
 use Rattle.theory.specs.Outcomes.{LeftRows}
@@ -25,9 +23,9 @@ module _ (L m : ℕ) (d : ℕ → ℕ → ℕ) (T : List Row) (h : 3 ≤ m) (g :
   rows = (exact_rows_lem L m (table_of m d) wired T).0 (table_exact m d L T e)
 
   pub read_anew : (f v : List ℕ) → 2 * m - 3 ≤ length f → 2 * m - 3 ≤ length v
-      → LeftRows (exact_outcome L m (table_of m d) f v) (Places (length T)) (front (fars T) f) (front (costs T) v)
+      → LeftRows (exact_outcome L m (table_of m d) f v) (Ok (length T)) (front (fars T) f) (front (costs T) v)
   read_anew f v a b =
-      let p : exact_check L m (table_of m d) (length f) (length v) ≡ Passed =
+      let p : exact_check L m (table_of m d) (length f) (length v) ≡ (Ok tt) =
       exact_check_lem L m (table_of m d) h g (length f) (length v) a b ∙ (table-passed L m (table_of m d) h g).1 wired in
       rw (p, ← rows) (record { answered = refl; far-sides = refl; doubled = refl })
 
@@ -38,7 +36,7 @@ pub only_one : {L : ℕ} (d : ℕ → ℕ → ℕ) (m : ℕ) → WellFormed L d 
 only_one {L} d m c T U a b = unique L d m c T a.tree a.meets ∙ sym (unique L d m c U b.tree b.meets)
 
 -- a start that passes its checks is wired
-pub passed-wired : (L n : ℕ) (t : List ℕ) (f v : ℕ) → exact_check L n t f v ≡ Passed → Wired L n t
+pub passed-wired : (L n : ℕ) (t : List ℕ) (f v : ℕ) → exact_check L n t f v ≡ Ok tt → Wired L n t
 passed-wired L n t f v e =
     let y = exact_ready L n t f v e in
     let c = y.table in

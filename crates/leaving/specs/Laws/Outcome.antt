@@ -1,12 +1,9 @@
 -- What is written at the end, and what the call leaves. Assumes nothing.
-use Rattle.std.specs.Prelude.{List, refl, ◌≡◌, ℕ, ◌*◌, ◌-◌, ◌≤◌, length}
+use Rattle.ground.specs.Refusals.{Check, Written}
+use Rattle.std.specs.Prelude.{List, refl, ◌≡◌, ℕ, ◌*◌, ◌-◌, ◌≤◌, length, Ok, Err}
 use Rattle.std.proofs.Common.{ap, sym, ◌∙◌, arith}
 use Rattle.ground.specs.Buffers.{over}
-use Rattle.ground.specs.declared.Check.{Check}
-use Rattle.ground.specs.declared.Check.TheVariants.{Passed, Refused}
 use Rattle.ground.specs.declared.Refusal.{Refusal}
-use Rattle.ground.specs.declared.Written.{Written}
-use Rattle.ground.specs.declared.Written.TheVariants as written
 use Rattle.theory.proofs.Demands.{one_tree}
 use Rattle.theory.specs.LinkTables.{Row}
 use Rattle.theory.specs.Outcomes.{LeftRows}
@@ -32,7 +29,7 @@ stands_few n T es r f v s p =
     omega (arith, sym (rows_in-length f v r.rows) ∙ ap length p.kept.is, o.most, k.fewer)
 
 pub stands_left : (p : Standing) (r : Replayed) (g w f v f' v' : List ℕ) → Stands p r g w → f' ≡ over r.rows g f → v' ≡ over r.rows w v
-    → LeftRows (outcome Passed p f v) r f' v'
+    → LeftRows (outcome (Ok tt) p f v) r f' v'
 stands_left p r g w f v f' v' s a b =
     let k = s.kept in
     let q = rows-over p.rows r.rows g w f v f' v' k.is (omega (arith, k.few, k.far-room)) (omega (arith, k.few, k.cost-room)) a b in
@@ -41,19 +38,19 @@ stands_left p r g w f v f' v' s a b =
 -- ## What the call leaves
 
 module _ (n : ℕ) (t es f v : List ℕ) where
-  refused_so : (r : Refusal) → exact_check limit n t (length f) (length v) ≡ Refused r
-      → LeftRows (replay_outcome limit n t es f v) (record { images = 0; rows = 0; event = 0; stop = Refused r }) f v
+  refused_so : (r : Refusal) → exact_check limit n t (length f) (length v) ≡ Err r
+      → LeftRows (replay_outcome limit n t es f v) (record { images = 0; rows = 0; event = 0; stop = Err r }) f v
   refused_so r e = rw e (record { answered = refl; far-sides = refl; doubled = refl })
 
-  pub left-start : (y : Check) (r : Refusal) → y ≡ Refused r → y ≡ start n t (length f) (length v)
+  pub left-start : (y : Check) (r : Refusal) → y ≡ Err r → y ≡ start n t (length f) (length v)
       → LeftRows (replay_outcome limit n t es f v) (record { images = 0; rows = 0; event = 0; stop = y }) f v
   left-start y r e q = rw e (refused_so r (start-refused limit n t (length f) (length v) r (sym q ∙ e)))
 
-  pub left_exact : (f₀ v₀ : List ℕ) → length f₀ ≡ 128 → length v₀ ≡ 128 → (y : Check) (x : Written) (r : Refusal) (f' v' : List ℕ) → y ≡ Passed
-      → y ≡ start n t (length f) (length v) → x ≡ written.Refused r → LeftRows (exact_outcome limit n t f₀ v₀) x f' v'
-      → LeftRows (replay_outcome limit n t es f v) (record { images = 0; rows = 0; event = 0; stop = Refused r }) f v
+  pub left_exact : (f₀ v₀ : List ℕ) → length f₀ ≡ 128 → length v₀ ≡ 128 → (y : Check) (x : Written) (r : Refusal) (f' v' : List ℕ) → y ≡ Ok tt
+      → y ≡ start n t (length f) (length v) → x ≡ Err r → LeftRows (exact_outcome limit n t f₀ v₀) x f' v'
+      → LeftRows (replay_outcome limit n t es f v) (record { images = 0; rows = 0; event = 0; stop = Err r }) f v
   left_exact f₀ v₀ a b y x r f' v' e q g l = refused_so r (began_refused n t f₀ v₀ (length f) (length v) a b y x r f' v' e q g l)
 
   pub left_replayed : (count : ℕ) (g w : List ℕ) → Began n t (length f) (length v) count g w → (r : Replayed) (f' v' : List ℕ)
-      → LeftRows (outcome Passed (replay 1 n (rows_in g w count) es) f v) r f' v' → LeftRows (replay_outcome limit n t es f v) r f' v'
+      → LeftRows (outcome (Ok tt) (replay 1 n (rows_in g w count) es) f v) r f' v' → LeftRows (replay_outcome limit n t es f v) r f' v'
   left_replayed count g w b r f' v' l = rw (b.passed, ← b.is) l

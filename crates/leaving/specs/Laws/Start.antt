@@ -1,15 +1,10 @@
 -- The start as the code reads it: 1, 2 and 3 asked of the lent slices, then read into local arrays. Assumes nothing.
-use Rattle.std.specs.Prelude.{List, refl, ◌≡◌, ℕ, ◌*◌, ◌-◌, ◌≤◌, ltb, length}
+use Rattle.std.specs.Prelude.{List, refl, ◌≡◌, ℕ, ◌*◌, ◌-◌, ◌≤◌, ltb, length, Ok, Err}
 use Rattle.std.proofs.Common.{ap, ap₂, subst, sym, ◌∙◌, arith, ltb-false}
 use Rattle.ground.specs.Laws.Refusals.{refuse_if-passed, then_passed}
 use Rattle.ground.specs.Laws.Tests.{or_false}
-use Rattle.ground.specs.Refusals.{◌then◌}
-use Rattle.ground.specs.declared.Check.{Check}
-use Rattle.ground.specs.declared.Check.TheVariants.{Passed, Refused}
+use Rattle.ground.specs.Refusals.{◌then◌, Check, Written}
 use Rattle.ground.specs.declared.Refusal.{Refusal}
-use Rattle.ground.specs.declared.Written.{Written}
-use Rattle.ground.specs.declared.Written.TheVariants.{Places}
-use Rattle.ground.specs.declared.Written.TheVariants as written
 use Rattle.tables.specs.Checks.{size_check}
 use Rattle.tables.proofs.Laws.Formed.{size-passed}
 use Rattle.theory.specs.Laws.JoinedRows.{rows_of-all}
@@ -34,22 +29,22 @@ start n t f v = size_check n t then outputs_room_check (2 * n - 3) f v
 
 module _ (L n : ℕ) (t : List ℕ) (f v : ℕ) where
   -- refused there, the exact reading is refused so
-  pub start-refused : (r : Refusal) → start n t f v ≡ Refused r → exact_check L n t f v ≡ Refused r
+  pub start-refused : (r : Refusal) → start n t f v ≡ Err r → exact_check L n t f v ≡ Err r
   start-refused r e = go (size_check n t) (outputs_room_check (2 * n - 3) f v) _ _ e
     where
-      go : (a b c d : Check) → (a then b) ≡ Refused r → ((a then (b then c)) then d) ≡ Refused r
-      go Passed Passed c d e = absurd (let y : ◌≡◌ {A = ℕ} 0 1 = cc in omega arith)
-      go Passed (Refused q) c d e = e
-      go (Refused q) b c d e = e
+      go : (a b c d : Check) → (a then b) ≡ Err r → ((a then (b then c)) then d) ≡ Err r
+      go (Ok _) (Ok _) c d e = absurd (let y : ◌≡◌ {A = ℕ} 0 1 = cc in omega arith)
+      go (Ok _) (Err q) c d e = e
+      go (Err q) b c d e = e
 
-  pub start-room : start n t f v ≡ Passed → (2 * n - 3 ≤ f) × (2 * n - 3 ≤ v)
+  pub start-room : start n t f v ≡ Ok tt → (2 * n - 3 ≤ f) × (2 * n - 3 ≤ v)
   start-room e =
       let r = (then_passed (size_check n t) (outputs_room_check (2 * n - 3) f v) e).1 in
       let s = or_false (ltb f (2 * n - 3)) (ltb v (2 * n - 3)) (refuse_if-passed (short (2 * n - 3) f v) _ r) in
       (ltb-false f (2 * n - 3) s.0, ltb-false v (2 * n - 3) s.1)
 
   -- passed, 128 places do as well
-  pub start-passed : start n t f v ≡ Passed → exact_check L n t f v ≡ exact_check L n t 128 128
+  pub start-passed : start n t f v ≡ Ok tt → exact_check L n t f v ≡ exact_check L n t 128 128
   start-passed e =
       let s = size-passed n t (then_passed (size_check n t) (outputs_room_check (2 * n - 3) f v) e).0 in
       let r = start-room e in
@@ -62,15 +57,15 @@ module _ (L n : ℕ) (t : List ℕ) (f v : ℕ) where
 pub record Began (n : ℕ) (t : List ℕ) (a b count : ℕ) (f v : List ℕ) : Type 0 where
   pub far_places : 2 * n - 3 ≤ a
   pub cost_places : 2 * n - 3 ≤ b
-  pub passed : exact_check limit n t a b ≡ Passed
+  pub passed : exact_check limit n t a b ≡ Ok tt
   pub is : rows_in f v count ≡ exact_rows limit n t
   pub held : SoundRows limit n f v count
 
 module _ (n : ℕ) (t f₀ v₀ : List ℕ) (a b : ℕ) (far-room : length f₀ ≡ 128) (cost-room : length v₀ ≡ 128) where
-  to_local : start n t a b ≡ Passed → exact_check limit n t a b ≡ exact_check limit n t (length f₀) (length v₀)
+  to_local : start n t a b ≡ Ok tt → exact_check limit n t a b ≡ exact_check limit n t (length f₀) (length v₀)
   to_local e = start-passed limit n t a b e ∙ ap₂ (exact_check limit n t) (sym far-room) (sym cost-room)
 
-  pub began : (y : Check) (x : Written) (count : ℕ) (f v : List ℕ) → y ≡ Passed → y ≡ start n t a b → x ≡ Places count
+  pub began : (y : Check) (x : Written) (count : ℕ) (f v : List ℕ) → y ≡ Ok tt → y ≡ start n t a b → x ≡ Ok count
       → LeftRows (exact_outcome limit n t f₀ v₀) x f v → length f ≡ length f₀ → length v ≡ length v₀ → Began n t a b count f v
   began y x count f v e q g l h w =
       let z = sym q ∙ e in
@@ -93,16 +88,16 @@ module _ (n : ℕ) (t f₀ v₀ : List ℕ) (a b : ℕ) (far-room : length f₀ 
         };
       }
     where
-      counted : (r : ℕ) → Places r ≡ Places (length (exact_rows limit n t)) → r ≡ length (exact_rows limit n t)
+      counted : (r : ℕ) → ◌≡◌ {A = Written} (Ok r) (Ok (length (exact_rows limit n t))) → r ≡ length (exact_rows limit n t)
       counted r e = cc
 
   -- or the exact reading refused it
-  pub began_refused : (y : Check) (x : Written) (r : Refusal) (f v : List ℕ) → y ≡ Passed → y ≡ start n t a b → x ≡ written.Refused r
-      → LeftRows (exact_outcome limit n t f₀ v₀) x f v → exact_check limit n t a b ≡ Refused r
+  pub began_refused : (y : Check) (x : Written) (r : Refusal) (f v : List ℕ) → y ≡ Ok tt → y ≡ start n t a b → x ≡ Err r
+      → LeftRows (exact_outcome limit n t f₀ v₀) x f v → exact_check limit n t a b ≡ Err r
   began_refused y x r f v e q g l =
       to_local (sym q ∙ e) ∙ go (exact_check limit n t (length f₀) (length v₀)) refl (subst (λ z. LeftRows (exact_outcome limit n t f₀ v₀) z f v) g l)
     where
-      go : (c : Check) → exact_check limit n t (length f₀) (length v₀) ≡ c → LeftRows (exact_outcome limit n t f₀ v₀) (written.Refused r) f v
-          → exact_check limit n t (length f₀) (length v₀) ≡ Refused r
-      go Passed s l = absurd (let w = rw s at l.answered in let y : ◌≡◌ {A = ℕ} 0 1 = cc in omega arith)
-      go (Refused u) s l = let w = rw s at l.answered in let z : u ≡ r = cc in rw z at s
+      go : (c : Check) → exact_check limit n t (length f₀) (length v₀) ≡ c → LeftRows (exact_outcome limit n t f₀ v₀) (Err r) f v
+          → exact_check limit n t (length f₀) (length v₀) ≡ Err r
+      go (Ok tt) s l = absurd (let w = rw s at l.answered in let y : ◌≡◌ {A = ℕ} 0 1 = cc in omega arith)
+      go (Err u) s l = let w = rw s at l.answered in let z : u ≡ r = cc in rw z at s

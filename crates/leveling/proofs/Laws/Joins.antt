@@ -4,10 +4,13 @@ use Rattle.std.proofs.Math.Path.{ap}
 use Rattle.std.proofs.Common.{sym, ◌∙◌}
 use Prim.Native.Nat.{max, ℕ, ◌+◌, ◌<◌, ◌≤◌}
 use native.Mathlib.Omega.{arith}
-use borrow.Author.Tests.{eq-eqb, eqb-false, eqb-true, le-ltb, lt-ltb, ltb-false, ltb-true}
+use borrow.Author.Tests.{eq-eqb, eqb-false, eqb-true, ltb-false, ltb-true}
 use borrow.Table.Steps.{cases}
+use mathlib.Core.Bool.{false≢true}
 use Rattle.theory.proofs.Laws.FourPoint.{well_formed_less}
-use Rattle.theory.specs.Tables.{WellFormed}
+use Rattle.theory.specs.Tables.{WellFormed, limit}
+use Rattle.tables.specs.Entries.{costs_in}
+use Rattle.tables.specs.declared.costs.Costs.{Costs}
 use Rattle.leveling.specs.Below.{every}
 use Rattle.leveling.specs.Joins.{Nearest, joins, joins_at, nearer}
 use Rattle.leveling.specs.Laws.Below.{every-at, every_ends, every_is, every_more, every_none, every_stops}
@@ -36,19 +39,6 @@ module _ (d : ℕ → ℕ → ℕ) (j : ℕ) where
   pub nearest_end : (i : ℕ) {p : ℕ} → i ≤ j → j ≤ i → Nearest d j i p → Nearest d j j p
   nearest_end i a b h = let q : i ≡ j = omega arith in rw q at h
 
-  pub nearer-taken : (p i : ℕ) {x y : ℕ} → x ≡ d j i → y ≡ d j p → x < y → i ≡ nearer d j p i
-  unfolding nearer
-  nearer-taken p i e f l = rw (← e, ← f, lt-ltb _ _ l)
-
-  pub nearer-left : (p i : ℕ) {x y : ℕ} → x ≡ d j i → y ≡ d j p → y ≤ x → p ≡ nearer d j p i
-  unfolding nearer
-  nearer-left p i e f l = rw (← e, ← f, le-ltb _ _ l)
-
-  -- x is the entry of j and i, z what it ought to be, which is the larger of the other two
-  pub joins_by : (p i : ℕ) {x z : ℕ} → x ≡ d j i → z ≡ max (d p i) (d j p) → eqb x z ≡ joins_at d j p i
-  unfolding joins_at
-  joins_by p i e f = rw (← e, ← f)
-
   -- the test of all images before j, one image more at a time
   pub joins_none : (p : ℕ) → every 0 (joins_at d j p) ≡ true
   joins_none p = every_none (joins_at d j p)
@@ -64,12 +54,10 @@ module _ (d : ℕ → ℕ → ℕ) (j : ℕ) where
   unfolding joins
   joins_ends p i l h e = every_ends i j (joins_at d j p) l h e
 
--- the larger of two numbers, as the code finds it
-pub joins-far : {x y a b : ℕ} → x ≡ a → y ≡ b → x < y → y ≡ max a b
-joins-far e f l = omega (arith, e, f, l)
+-- what the loops over the images before j name
+pub ruleset nearest_turns = (nearest-first, nearest-more, nearest_end)
 
-pub joins-near : {x y a b : ℕ} → x ≡ a → y ≡ b → y ≤ x → x ≡ max a b
-joins-near e f l = omega (arith, e, f, l)
+pub ruleset joins_turns = (joins_none, joins-more, joins_stops, joins_ends)
 
 -- ## The condition, one image more at a time
 
@@ -135,3 +123,20 @@ module _ (L : ℕ) (d : ℕ → ℕ → ℕ) (n : ℕ) (c : WellFormed L d n) wh
 
   pub three_end : (j : ℕ) → j ≤ n → n ≤ j → ThreePoint d j → ThreePoint d n
   three_end j a b t = let q : j ≡ n = omega arith in rw q at t
+
+-- the same of a cost table, as the loop over the images names it
+module _ (t : Costs) where
+  pub levels_begin : ThreePoint (costs_in t) 1
+  levels_begin = three-first limit (costs_in t) t.n t.formed.formed (omega (arith, t.formed.some))
+
+  pub levels_go : (j p : ℕ) {r : Bool} → j < t.n → Nearest (costs_in t) j j p → r ≡ joins (costs_in t) j p → r ≡ true → ThreePoint (costs_in t) j
+      → ThreePoint (costs_in t) (j + 1)
+  levels_go j p h near e q three = three-more limit (costs_in t) t.n t.formed.formed j p h near three (sym e ∙ q)
+
+  pub levels_stop : (j p : ℕ) {r : Bool} → j < t.n → Nearest (costs_in t) j j p → r ≡ joins (costs_in t) j p → r ≡ false → ThreePoint (costs_in t) t.n → ⊥
+  levels_stop j p h near e q three = false≢true (sym q ∙ e ∙ three-joins limit (costs_in t) t.n t.formed.formed j p h near three)
+
+  pub levels_end : (j : ℕ) → j ≤ t.n → t.n ≤ j → ThreePoint (costs_in t) j → ThreePoint (costs_in t) t.n
+  levels_end j a b three = three_end limit (costs_in t) t.n t.formed.formed j a b three
+
+pub ruleset three_turns = (levels_begin, levels_go, levels_stop, levels_end)

@@ -1,5 +1,5 @@
 -- The scan for refusal 21 finds the first of all threes that fail. Assumes nothing.
-use Rattle.std.specs.Prelude.{Bool, List, [], map, ◌++◌, ◌∷◌, ◌≡◌}
+use Rattle.std.specs.Prelude.{Bool, List, [], map, ◌++◌, ◌∷◌, ◌≡◌, Ok}
 use Rattle.std.proofs.Math.Path.{refl}
 use Rattle.std.proofs.Common.{sym, ◌∙◌, arith}
 use Prim.Native.Nat.{suc, zero, ℕ, ◌+◌, ◌-◌, ◌<◌}
@@ -7,11 +7,12 @@ use borrow.Table.Steps.{cases}
 use Rattle.ground.specs.Filters.{filter}
 use Rattle.ground.specs.Laws.Filters.{filter-append}
 use Rattle.ground.specs.Lowest.{check_all}
-use Rattle.ground.specs.Laws.Lowest.{all_goes, all_same, passed-all}
+use Rattle.ground.specs.Laws.Lowest.{all_ends, all_goes, all_same, all_stops, passed-all}
 use Rattle.ground.specs.Ranges.{from, gather}
 use Rattle.ground.specs.Refusals.{◌then◌}
-use Rattle.ground.specs.declared.Check.TheVariants.{Passed}
-use Rattle.theory.specs.Tables.{WellFormed}
+use Rattle.theory.specs.Tables.{WellFormed, limit}
+use Rattle.tables.specs.Entries.{costs_in}
+use Rattle.tables.specs.declared.costs.Costs.{Costs}
 use Rattle.leveling.specs.Check.{first_three, levels_check}
 use Rattle.leveling.proofs.Laws.Sorted.{first_two, last_two}
 use Rattle.leveling.specs.Scan.{last_scan, second_scan, three_check}
@@ -21,7 +22,7 @@ first-append : (l r : List Three) → first_three (l ++ r) ≡ (first_three l th
 first-append [] r = refl
 first-append (q ∷ l) r = refl
 
-pub first-passed : (l : List Three) → first_three l ≡ Passed → l ≡ []
+pub first-passed : (l : List Three) → first_three l ≡ Ok tt → l ≡ []
 first-passed [] e = refl
 first-passed (q ∷ l) e = absurd (let z : ◌≡◌ {A = ℕ} 0 1 = cc in omega arith)
 
@@ -63,3 +64,15 @@ module _ (L : ℕ) (d : ℕ → ℕ → ℕ) (n : ℕ) (c : WellFormed L d n) wh
   unfolding second_scan last_scan
   second-behind i h =
       all_goes (last_scan d n i) i n h refl refl (sym (passed-all (three_check d i i) i (n - i) (λ k l m. rw (first_two L d n c i k h))))
+
+module _ (t : Costs) where
+  pub last_begins : (i j : ℕ) → j < t.n → last_scan (costs_in t) t.n i j ≡ check_all (three_check (costs_in t) i j) (j + 1) (t.n - (j + 1))
+  last_begins i j h = last_behind limit (costs_in t) t.n t.formed.formed i j h
+
+  pub second_begins : (i : ℕ) → i < t.n → second_scan (costs_in t) t.n i ≡ check_all (last_scan (costs_in t) t.n i) (i + 1) (t.n - (i + 1))
+  second_begins i h = second-behind limit (costs_in t) t.n t.formed.formed i h
+
+-- what the scans name
+pub ruleset last_in_turn = (all_goes, all_stops, all_ends, last_begins)
+
+pub ruleset second_in_turn = (all_goes, all_stops, all_ends, second_begins)

@@ -1,24 +1,10 @@
 -- `leveling::scan_last` meets its contract: what is left answers as the whole does. Assumes nothing.
-use Rattle.std.proofs.Common.{rules}
-use Rattle.ground.specs.Laws.Lowest.{all_ends, all_goes, all_stops}
-use Rattle.theory.specs.Tables.{limit}
-use Rattle.leveling.proofs.Laws.Scan.{last_behind}
+use Rattle.std.proofs.lemmas.Result.{err_from_is_err_and}
+use Rattle.ground.specs.Laws.Lowest.{all_stops}
 use Rattle.leveling.proofs.scan_last.Goals as goal
 
-pub loop-k-init : goal.loop-k-init
-loop-k-init c = (search rules, last_behind limit _ _ c.requires.0.formed _ _ (search rules))
-
-pub returns-in-Refused : goal.returns-in-Refused
-returns-in-Refused c =
-    all_stops _ _ _ (search rules) c.loop-k.invariant.1 c.in-Refused.is
-    c.check_three-c.ensures
-
-pub loop-k-preserved : goal.loop-k-preserved
-loop-k-preserved c = (
-  search rules,
-  all_goes _ _ _ (search rules) c.loop-k.invariant.1 c.in-Passed.is
-      c.check_three-c.ensures,
-)
-
-pub returns : goal.returns
-returns c = all_ends _ _ _ (search rules) c.loop-k.invariant.1
+pub returns-in_err-check_three : goal.returns-in_err-check_three
+returns-in_err-check_three c =
+    let p = err_from_is_err_and c.from_residual.result c.from_residual.ensures.1 in
+    rw (p.1, p.2, ← c.in_err-check_three.was)
+    (all_stops _ _ _ c.loop-k-test.true c.loop-k.invariant c.in_err-check_three.was c.check_three.ensures)

@@ -10,7 +10,6 @@ use Rattle.ground.specs.Ascending.{Between}
 use Rattle.ground.specs.Counts.{count}
 use Rattle.ground.specs.Laws.Counts.{sum-count}
 use Rattle.ground.specs.Filters.{Each}
-use Rattle.ground.specs.First.{first}
 use Rattle.ground.specs.Least.{least_on}
 use Rattle.ground.specs.Laws.Least.{least_on-at, least_on_le}
 use Rattle.ground.specs.Laws.Tests.{and_l, and_r}

@@ -1,9 +1,8 @@
 -- A member sum one image more at a time, as the loop of `level_at` has it. Assumes nothing.
 use Rattle.std.specs.Prelude.{Bool, false, true, ◌≡◌, suc, zero, ℕ, ◌*◌, ◌+◌, ◌<◌, ◌^◌, ◌≤◌}
-use Rattle.std.proofs.Common.{ap, ◌∙◌, lt_of_lt_of_le, add-one, arith, pow_mono, le-leb}
+use Rattle.std.proofs.Common.{ap, ◌∙◌, lt_of_lt_of_le, add-one, arith, pow_mono}
 use Rattle.std.proofs.Math.Path.{refl}
 use Rattle.std.proofs.Math.Dec.{leb}
-use Rattle.std.proofs.lemmas.Bool.{lt-leb}
 use borrow.Table.Steps.{cases}
 use Rattle.ground.specs.Bits.{num}
 use Rattle.ground.specs.Counts.{one_if}
@@ -37,14 +36,5 @@ module _ (d : ℕ → ℕ → ℕ) (k h : ℕ) where
       lt_of_lt_of_le (omega (arith, e, ball_fits d j k h)) m
 
   -- all images up to k
-  pub ball_end : (j : ℕ) {s : ℕ} → j ≤ suc k → k < j → s ≡ ball d j k h → s ≡ ball d (suc k) k h
+  pub ball_end : (j : ℕ) {s : ℕ} → j ≤ k + 1 → k + 1 ≤ j → s ≡ ball d j k h → s ≡ ball d (suc k) k h
   ball_end j l g e = let q : j ≡ suc k = omega arith in rw (← q) e
-
--- ## One image more, as the code decides it: x is the entry of images k and j, b its bit
-
-module _ (f : ℕ → ℕ) (h j : ℕ) where
-  pub member_taken : (s : ℕ) {x b : ℕ} → x ≡ f j → x ≤ h → b ≡ 2 ^ j → s + b ≡ s + when (leb (f j) h) (2 ^ j)
-  member_taken s e l q = rw (← e, le-leb _ h l) (ap (λ y. s + y) q)
-
-  pub member_left : (s : ℕ) {x : ℕ} → x ≡ f j → h < x → s ≡ s + when (leb (f j) h) (2 ^ j)
-  member_left s e l = rw (← e, lt-leb _ h l) (omega arith)

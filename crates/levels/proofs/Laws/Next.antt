@@ -1,7 +1,7 @@
 -- The way from one height to the next: it leaves no level out, and ends where images after k are as near. Assumes nothing.
 use Rattle.std.specs.Prelude.{Bool, false, ◌⊎◌, ◌≡◌, eqb, leb, ltb}
 use Rattle.std.proofs.Math.Bool.{true}
-use Rattle.std.proofs.Common.{inl, inr, ap, sym, ◌∙◌}
+use Rattle.std.proofs.Common.{inl, inr, sym, ◌∙◌}
 use Rattle.std.proofs.Math.Path.{refl}
 use Prim.Native.Nat.{min, suc, ℕ, ◌+◌, ◌<◌, ◌≤◌}
 use native.Mathlib.Omega.{arith}
@@ -9,47 +9,61 @@ use borrow.Author.Tests.{le-leb, leb-true, lt-leb, lt-ltb, ltb-true}
 use borrow.Table.Steps.{cases}
 use Rattle.ground.specs.Counts.{one_if}
 use Rattle.ground.specs.Least.{On, least_on, lower_if}
-use Rattle.ground.specs.Laws.Least.{least_on_cap, least_on_is, least_on_le, least_on-turn, le_least_on}
-use Rattle.theory.specs.Tables.{WellFormed}
+use Rattle.ground.specs.Laws.Least.{least_on_cap, least_on_is, least_on_le, least_on_none, least_on-turn, le_least_on}
+use Rattle.theory.specs.Tables.{WellFormed, limit}
+use Rattle.tables.specs.Entries.{costs_in}
+use Rattle.tables.specs.declared.costs.Costs.{Costs}
 use Rattle.levels.specs.Balls.{is_level}
 use Rattle.levels.proofs.Laws.Levels.{level_after, level_before, level_is}
+use Rattle.levels.proofs.Laws.Members.{ball_end, ball-more, ball_none, ball-room}
 use Rattle.levels.specs.Next.{after_height, next_height}
 
 one_if_is : (b : Bool) → one_if b ≡ 1 → b ≡ true
 one_if_is true e = refl
 one_if_is false e = absurd (omega arith)
 
--- ## One image more
+-- ## Image by image
 
--- with an entry of h or more, x being f's value there; and with a lower one
-module _ (f : ℕ → ℕ) (j m : ℕ) where
-  pub from-taken : (h : ℕ) {x r : ℕ} → x ≡ f j → h ≤ x → r ≡ min x m → r ≡ lower_if (eqb (one_if (leb h (f j))) 1) f j m
-  from-taken h e l q = rw (← e, le-leb h _ l) (q ∙ ap (λ y. min y m) e)
-
-  pub from-left : (h : ℕ) {x : ℕ} → x ≡ f j → x < h → m ≡ lower_if (eqb (one_if (leb h (f j))) 1) f j m
-  from-left h e l = rw (← e, lt-leb h _ l)
-
--- after k: before the loop, and one image more
-module _ (L : ℕ) (f : ℕ → ℕ) (k : ℕ) where
-  pub after-begins : suc L ≡ least_on (k + 1) (λ i. one_if (ltb k i)) 1 (suc L) f
-  after-begins = go (least_on_is (λ i. one_if (ltb k i)) 1 (suc L) f (k + 1))
+-- after k: before the loop, one image more, after it
+module _ (L : ℕ) (d : ℕ → ℕ → ℕ) (k : ℕ) where
+  pub after_begins : suc L ≡ after_height L d (k + 1) k
+  unfolding after_height
+  after_begins = go (least_on_is (λ i. one_if (ltb k i)) 1 (suc L) (d k) (k + 1))
     where
-      go : ((a : ℕ) × On (k + 1) (λ i. one_if (ltb k i)) 1 a × (least_on (k + 1) (λ i. one_if (ltb k i)) 1 (suc L) f ≡ f a))
-          ⊎ (least_on (k + 1) (λ i. one_if (ltb k i)) 1 (suc L) f ≡ suc L) → suc L ≡ least_on (k + 1) (λ i. one_if (ltb k i)) 1 (suc L) f
+      go : ((a : ℕ) × On (k + 1) (λ i. one_if (ltb k i)) 1 a × (least_on (k + 1) (λ i. one_if (ltb k i)) 1 (suc L) (d k) ≡ d k a))
+          ⊎ (least_on (k + 1) (λ i. one_if (ltb k i)) 1 (suc L) (d k) ≡ suc L) → suc L ≡ least_on (k + 1) (λ i. one_if (ltb k i)) 1 (suc L) (d k)
       go (inl r) = absurd (omega (arith, r.1.0, ltb-true k r.0 (one_if_is (ltb k r.0) r.1.1)))
       go (inr e) = sym e
 
-  pub after_more : (j : ℕ) {m x r : ℕ} → k < j → m ≡ least_on j (λ i. one_if (ltb k i)) 1 (suc L) f → x ≡ f j → r ≡ min x m
-      → r ≡ least_on (j + 1) (λ i. one_if (ltb k i)) 1 (suc L) f
-  after_more j {m} l e q w = least_on-turn (λ i. one_if (ltb k i)) 1 (suc L) f j e (rw (lt-ltb k j l, ← q) w)
+  pub after_more : (j : ℕ) {m x r : ℕ} → m ≡ after_height L d j k → k < j → x ≡ d k j → r ≡ min x m → r ≡ after_height L d (j + 1) k
+  unfolding after_height
+  after_more j {m} e l q w = least_on-turn (λ i. one_if (ltb k i)) 1 (suc L) (d k) j e (rw (lt-ltb k j l, ← q) w)
+
+  pub after_end : (j n : ℕ) {m : ℕ} → j ≤ n → n ≤ j → m ≡ after_height L d j k → m ≡ after_height L d n k
+  after_end j n a b e = let q : j ≡ n = omega arith in rw (← q) e
+
+-- what the loop over the images after k names
+pub ruleset after_turns = (after_begins, after_more, after_end)
+
+-- the next height of those with the images before j: before the loop, and one image more
+unfoldable pub next_to : ℕ → (ℕ → ℕ → ℕ) → ℕ → ℕ → ℕ → ℕ
+next_to L d k h j = least_on j (λ i. one_if (leb h (d k i))) 1 (suc L) (d k)
+
+module _ (L : ℕ) (d : ℕ → ℕ → ℕ) (k h : ℕ) where
+  pub next_begin : suc L ≡ next_to L d k h 0
+  unfolding next_to
+  next_begin = least_on_none (λ i. one_if (leb h (d k i))) 1 (suc L) (d k)
+
+  pub next_turn : (j : ℕ) {m r : ℕ} → m ≡ next_to L d k h j → r ≡ lower_if (eqb (one_if (leb h (d k j))) 1) (d k) j m → r ≡ next_to L d k h (j + 1)
+  unfolding next_to
+  next_turn j e w = least_on-turn (λ i. one_if (leb h (d k i))) 1 (suc L) (d k) j e w
 
 -- ## What the two heights say
 
 module _ (L : ℕ) (d : ℕ → ℕ → ℕ) (n k : ℕ) where
   -- image k itself is never the next height, so that a loop may go up to it
-  pub next_end : WellFormed L d n → k < n → (h j : ℕ) {m : ℕ} → j ≤ suc k → k < j → m ≡ least_on j (λ i. one_if (leb (suc h) (d k i))) 1 (suc L) (d k)
-      → m ≡ next_height L d k (suc h)
-  unfolding next_height least_on
+  next_end : WellFormed L d n → k < n → (h j : ℕ) {m : ℕ} → j ≤ k + 1 → k + 1 ≤ j → m ≡ next_to L d k (suc h) j → m ≡ next_height L d k (suc h)
+  unfolding next_height next_to least_on
   next_end c l h j a b e = let q : j ≡ suc k = omega arith in e ∙ rw (q, c.self l, lt-leb (suc h) 0 (omega arith)) refl
 
   pub next-most : (h : ℕ) → next_height L d k h ≤ suc L
@@ -124,3 +138,11 @@ module _ (L : ℕ) (d : ℕ → ℕ → ℕ) (n k : ℕ) where
           ⊎ (least_on n (λ j. one_if (ltb k j)) 1 (suc L) (d k) ≡ suc L) → ⊥
       go e (inl r) = omega (arith, r.2, level_after d n k x e r.0 (ltb-true k r.0 (one_if_is (ltb k r.0) r.1.1)) r.1.0)
       go e (inr q) = omega arith
+
+-- after the loop over the images up to k
+pub next_ends : (t : Costs) (k h j : ℕ) {m : ℕ} → k < t.n → j ≤ k + 1 → k + 1 ≤ j → m ≡ next_to limit (costs_in t) k (suc h) j
+    → m ≡ next_height limit (costs_in t) k (suc h)
+next_ends t k h j l a b e = next_end limit (costs_in t) t.n k t.formed.formed l h j a b e
+
+-- what that loop names
+pub ruleset level_turns = (ball_none, ball-more, ball-room, ball_end, next_begin, next_turn, next_ends)

@@ -7,7 +7,9 @@ use native.Mathlib.Omega.{arith}
 use Rattle.std.proofs.Math.ListN.{length, length-append, length-map}
 use Rattle.ground.specs.Buffers.{front}
 use Rattle.ground.specs.Ranges.{from, gather}
-use Rattle.theory.specs.Tables.{WellFormed}
+use Rattle.theory.specs.Tables.{WellFormed, limit}
+use Rattle.tables.specs.Entries.{costs_in}
+use Rattle.tables.specs.declared.costs.Costs.{Costs}
 use Rattle.levels.specs.Balls.{ball, found, found_at, found_heights, levels_at}
 use Rattle.levels.specs.Groups.{groups, height, heights}
 use Rattle.levels.proofs.Laws.Count.{groups-most}
@@ -125,11 +127,34 @@ module _ (L : ℕ) (d : ℕ → ℕ → ℕ) (n : ℕ) where
             heights-front = w.heights_are ∙ ap (λ x. front (heights_to L d n x) v₀) e ∙ ap (λ x. front x v₀) heights-all;
           }
 
-      pub written_lengths : (k p : ℕ) (g v : List ℕ) → WrittenTo L d n k g₀ v₀ g v p → k ≤ n → (length g ≡ length g₀) × (length v ≡ length v₀)
-      written_lengths k p g v w l =
-          let m : length (heights_to L d n k) ≤ n - 1 =
-          omega (arith, heights_fewer k l, ap length heights-all, length-map (groups d n) (height d n), groups-most L d n c t) in (
-            front_same (found_to L d n k) g₀ (omega (arith, same_count k, m)) w.groups_are,
-            front_same (heights_to L d n k) v₀ (omega (arith, m))
-                w.heights_are,
-          )
+-- ## The same of a cost table, as the loop over the images names it
+
+unfoldable pub Writing : Costs → ℕ → List ℕ → List ℕ → List ℕ → List ℕ → ℕ → Type 0
+Writing t k g₀ v₀ g v p = WrittenTo limit (costs_in t) t.n k g₀ v₀ g v p
+
+module _ (t : Costs) (g₀ v₀ : List ℕ) where
+  pub write_begin : ThreePoint (costs_in t) t.n → t.n - 1 ≤ length g₀ → t.n - 1 ≤ length v₀ → Writing t 0 g₀ v₀ g₀ v₀ 0
+  unfolding Writing
+  write_begin c a b = written_none limit (costs_in t) t.n t.formed.formed c g₀ v₀ a b
+
+  pub write_groups : (k p : ℕ) (g v : List ℕ) → Writing t k g₀ v₀ g v p → ThreePoint (costs_in t) t.n → t.n - 1 ≤ length g₀
+      → t.n - 1 ≤ length v₀ → k < t.n → p + length (levels_at (costs_in t) t.n k (suc limit)) ≤ length g
+  unfolding Writing
+  write_groups k p g v w c a b l = written_groups limit (costs_in t) t.n t.formed.formed c g₀ v₀ a b k p g v w l
+
+  pub write_heights : (k p : ℕ) (g v : List ℕ) → Writing t k g₀ v₀ g v p → ThreePoint (costs_in t) t.n → t.n - 1 ≤ length g₀
+      → t.n - 1 ≤ length v₀ → k < t.n → p + length (levels_at (costs_in t) t.n k (suc limit)) ≤ length v
+  unfolding Writing
+  write_heights k p g v w c a b l = written_heights limit (costs_in t) t.n t.formed.formed c g₀ v₀ a b k p g v w l
+
+  pub write_more : (k p r : ℕ) (g v g' v' : List ℕ) → Writing t k g₀ v₀ g v p → PutLevels limit (costs_in t) t.n k p g v r g' v'
+      → ThreePoint (costs_in t) t.n → t.n - 1 ≤ length g₀ → t.n - 1 ≤ length v₀ → k < t.n → Writing t (k + 1) g₀ v₀ g' v' r
+  unfolding Writing
+  write_more k p r g v g' v' w q c a b l = written_more limit (costs_in t) t.n t.formed.formed c g₀ v₀ a b k p r g v g' v' w l q
+
+  pub write_end : (k p : ℕ) (g v : List ℕ) → Writing t k g₀ v₀ g v p → ThreePoint (costs_in t) t.n → t.n - 1 ≤ length g₀
+      → t.n - 1 ≤ length v₀ → k ≤ t.n → t.n ≤ k → WroteLevels (costs_in t) t.n p g₀ v₀ g v
+  unfolding Writing
+  write_end k p g v w c a b l m = written_end limit (costs_in t) t.n t.formed.formed c g₀ v₀ a b k p g v l m w
+
+pub ruleset write_turns = (write_begin, write_groups, write_heights, write_more, write_end)

@@ -1,12 +1,9 @@
 -- What the reading of levels has left in two arrays of 64 places, and the text of it. Assumes nothing.
-use Rattle.std.specs.Prelude.{List, refl, ◌≡◌, ℕ, ◌≤◌, length, take}
+use Rattle.ground.specs.Refusals.{Check}
+use Rattle.std.specs.Prelude.{List, refl, ◌≡◌, ℕ, ◌≤◌, length, take, Ok, Err}
 use Rattle.std.proofs.Common.{ap, sym, ◌∙◌, arith, take_at}
 use Rattle.std.proofs.lemmas.List.{length-map}
-use Rattle.ground.specs.declared.Check.{Check}
-use Rattle.ground.specs.declared.Check.TheVariants.{Passed, Refused}
 use Rattle.ground.specs.declared.Refusal.{Refusal}
-use Rattle.ground.specs.declared.Written.TheVariants.{Places}
-use Rattle.ground.specs.declared.Written.TheVariants as written
 use Rattle.theory.specs.Tables.{CostTable, cost, limit}
 use Rattle.leveling.specs.Check.{levels_check}
 use Rattle.leveling.proofs.Promises.{levels_passed}
@@ -33,20 +30,20 @@ module _ (n : ℕ) (t g v : List ℕ) (c : CostTable limit n t) (a : 64 ≤ leng
   only_levels =
       asked_checks limit n t (length g) (length v) (record { table = c; group-room = omega (arith, c.few); height-room = omega (arith, c.few) })
 
-  pub levels_refused : (q : Refusal) (g' v' : List ℕ) → LeftLevels (levels_outcome limit n t g v) (written.Refused q) g' v' → table_levels n t ≡ refused_line q
+  pub levels_refused : (q : Refusal) (g' v' : List ℕ) → LeftLevels (levels_outcome limit n t g v) (Err q) g' v' → table_levels n t ≡ refused_line q
   levels_refused q g' v' l = go (levels_check (cost t n) n) refl (rw only_levels at l.answered)
     where
-      go : (k : Check) → levels_check (cost t n) n ≡ k → written.Refused q ≡ (outcome k (cost t n) n g v).answer → table_levels n t ≡ refused_line q
-      go Passed f e = absurd (let z : ◌≡◌ {A = ℕ} 0 1 = cc in omega arith)
-      go (Refused p) f e = let s : p ≡ q = cc in rw f (ap refused_line s)
+      go : (k : Check) → levels_check (cost t n) n ≡ k → Err q ≡ (outcome k (cost t n) n g v).answer → table_levels n t ≡ refused_line q
+      go (Ok tt) f e = absurd (let z : ◌≡◌ {A = ℕ} 0 1 = cc in omega arith)
+      go (Err p) f e = let s : p ≡ q = cc in rw f (ap refused_line s)
 
-  pub levels_read : (r : ℕ) (g' v' : List ℕ) → LeftLevels (levels_outcome limit n t g v) (Places r) g' v' → LevelsRead n t r g' v'
+  pub levels_read : (r : ℕ) (g' v' : List ℕ) → LeftLevels (levels_outcome limit n t g v) (Ok r) g' v' → LevelsRead n t r g' v'
   levels_read r g' v' l =
       go (levels_check (cost t n) n) refl (rw only_levels at l.answered) (rw only_levels at l.group-left) (rw only_levels at l.height-left)
     where
-      go : (k : Check) → levels_check (cost t n) n ≡ k → Places r ≡ (outcome k (cost t n) n g v).answer → g' ≡ (outcome k (cost t n) n g v).group_list
+      go : (k : Check) → levels_check (cost t n) n ≡ k → Ok r ≡ (outcome k (cost t n) n g v).answer → g' ≡ (outcome k (cost t n) n g v).group_list
           → v' ≡ (outcome k (cost t n) n g v).height_list → LevelsRead n t r g' v'
-      go Passed f e x y =
+      go (Ok tt) f e x y =
           let d = cost t n in
           let p = (levels_passed limit d n c.formed).0 f in
           let s : r ≡ length (groups d n) = cc in
@@ -60,4 +57,4 @@ module _ (n : ℕ) (t g v : List ℕ) (c : CostTable limit n t) (a : 64 ≤ leng
             same = rw (f, u, w) refl;
             short = rw (u, w) (levels_most n t c p);
           }
-      go (Refused p) f e x y = absurd (let z : ◌≡◌ {A = ℕ} 0 1 = cc in omega arith)
+      go (Err p) f e x y = absurd (let z : ◌≡◌ {A = ℕ} 0 1 = cc in omega arith)

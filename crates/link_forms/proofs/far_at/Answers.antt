@@ -1,4 +1,4 @@
--- `link_forms::far_at_lem` meets its contract: one field of at most 63 bits, so twice its number fits 64. Assumes nothing.
+-- `link_forms::far_at` meets its contract: one field of at most 63 bits, so twice its number fits 64. Assumes nothing.
 use Rattle.std.proofs.Common.{arith, ◌-◌}
 use Rattle.bits.specs.Laws.Turns.{value_part_lt}
 use Rattle.link_forms.proofs.far_at.Goals as goal

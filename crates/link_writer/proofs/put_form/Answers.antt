@@ -9,9 +9,6 @@ use Rattle.link_forms.specs.Laws.Rows.{length-rows}
 use Rattle.link_writer.specs.Laws.Putting.{form_put}
 use Rattle.link_writer.proofs.put_form.Goals as goal
 
-pub start-begun-requires : goal.start-begun-requires
-start-begun-requires c = (omega (arith, c.requires.0.small.short), omega (arith, c.requires.0.fits))
-
 pub put-counted-requires : goal.put-counted-requires
 put-counted-requires c =
     let room : Room (length c.start-begun.new.out) c.start-begun.result (7 + row_width c.args.form.width c.args.n * length c.args.fars.now) = let a = c.args in

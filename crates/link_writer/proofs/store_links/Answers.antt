@@ -1,15 +1,11 @@
 -- `link_writer::store_links` meets its contract: the form is put once both checks passed. Assumes nothing.
-use Rattle.std.proofs.Common.{ap, length, sym, ◌∙◌, ◌≡◌, ◌≤◌}
+use Rattle.std.proofs.Common.{length, sym, ◌∙◌, ◌≡◌, ◌≤◌}
 use Rattle.link_forms.specs.Form.{link_form, link_used}
 use Rattle.stored_links.proofs.Laws.Told.{form_limit, form_small}
 use Rattle.link_forms.specs.Sizes.{Small}
 use Rattle.theory.specs.Tables.{limit}
 use Rattle.link_writer.specs.Laws.Accepted.{links_small, store_passed}
 use Rattle.link_writer.specs.Writing.{store_checks}
-use Rattle.ground.specs.Laws.Outcomes.{front_goes, front_stops}
-use Rattle.ground.specs.Laws.Refusals.{if_goes, if_stops}
-use Rattle.ground.specs.declared.Written.TheVariants.{Places}
-use Rattle.ground.specs.declared.Written.TheVariants as written
 use Rattle.link_writer.proofs.store_links.Goals as goal
 
 pub check_store-requires : goal.check_store-requires
@@ -26,20 +22,4 @@ put_links-requires c =
     let room : link_used (link_form c.args.edition) c.args.n (length c.args.fars.now)
     ≤ length c.args.out.now = let a = c.args in
     (store_passed (link_form a.edition) a.n (length a.fars.now) a.fars.now a.costs.now (length a.out.now)
-    (sym checked ∙ c.in-Passed.is)).1 in (record { small = small; fits = room }, c.requires.costed)
-
-pub returns-in-Refused : goal.returns-in-Refused
-returns-in-Refused c =
-    let checked : c.check_store.result ≡ store_checks (link_form c.args.edition) c.args.n c.args.fars.now c.args.costs.now
-    (length c.args.out.now) = rw c.form_of.ensures at c.check_store.ensures in record {
-      answered = if_stops written.Refused _ _ c.in-Refused.is checked;
-      left = front_stops _ _ _ (sym checked ∙ c.in-Refused.is);
-    }
-
-pub returns-in-Passed : goal.returns-in-Passed
-returns-in-Passed c =
-    let checked : c.check_store.result ≡ store_checks (link_form c.args.edition) c.args.n c.args.fars.now c.args.costs.now
-    (length c.args.out.now) = rw c.form_of.ensures at c.check_store.ensures in record {
-      answered = if_goes written.Refused _ _ c.in-Passed.is checked (ap Places c.put_links.ensures.0);
-      left = front_goes _ _ _ _ (sym checked ∙ c.in-Passed.is) c.put_links.ensures.1;
-    }
+    (sym checked ∙ c.in_ok-check_store.was)).1 in (record { small = small; fits = room }, c.requires.costed)

@@ -1,7 +1,6 @@
 -- Link tables within a form's limit: 17 is the answer exactly for the others. Assumes nothing.
-use Rattle.std.specs.Prelude.{List, ◌≡◌, ℕ, ◌*◌, ◌≤◌, ltb, get_or, length}
+use Rattle.std.specs.Prelude.{List, ◌≡◌, ℕ, ◌*◌, ◌≤◌, get_or, length, Ok}
 use Rattle.std.proofs.Common.{arith, le-ltb, ltb-false}
-use Rattle.ground.specs.declared.Check.TheVariants.{Passed}
 use Rattle.links.specs.Laws.FirstChecks.{first-passed, passed_first}
 use Rattle.links.specs.Laws.LinkChecks.{link_rows}
 use Rattle.links.specs.Laws.RowTests.{rows-mem}
@@ -10,7 +9,7 @@ use Rattle.link_writer.specs.Writing.{fit_check, large}
 
 module _ (L n N : ℕ) (l v : List ℕ) where
   -- a table within the limit passes
-  pub passed_fit : Links L n N l v → fit_check L v ≡ Passed
+  pub passed_fit : Links L n N l v → fit_check L v ≡ Ok tt
   passed_fit t =
       passed_first 17 (large L v) (length v)
       (λ k h. le-ltb (2 * L) (get_or v k 0) (link_rows L n l v (omega (arith, t.counted, t.costed)) t.table k (omega (arith, t.counted, t.costed))).small)
@@ -37,7 +36,7 @@ module _ (L n N : ℕ) (l v : List ℕ) where
         }
 
     -- and allows those whose costs are within it
-    pub links_narrow : Links M n N l v → fit_check L v ≡ Passed → Links L n N l v
+    pub links_narrow : Links M n N l v → fit_check L v ≡ Ok tt → Links L n N l v
     links_narrow t e =
         let c = t.table in
         let none = first-passed 17 (large L v) (length v) e in

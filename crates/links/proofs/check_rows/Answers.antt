@@ -1,9 +1,7 @@
 -- `links::check_rows` meets its contract: it stops at the first refusal, as the chain does. Assumes nothing.
-use Rattle.std.proofs.Common.{arith, length, ◌≡◌}
+use Rattle.std.proofs.Common.{arith, length}
 use Rattle.ground.specs.Laws.First.{first_le}
-use Rattle.ground.specs.Laws.Refusals.{then_goes, then_stops}
 use Rattle.bad_rows.specs.BadRows.{bad_row, missing}
-use Rattle.links.specs.FirstChecks.{first_check}
 use Rattle.links.proofs.check_rows.Goals as goal
 
 pub overflow_add-row : goal.overflow_add-row
@@ -15,13 +13,3 @@ pub overflow_add-image : goal.overflow_add-image
 overflow_add-image c =
     let a = c.args in
     omega (arith, c.first_missing-image.ensures, first_le (missing a.n a.fars.now) a.n)
-
-pub returns-in-Refused : goal.returns-in-Refused
-returns-in-Refused c =
-    let rows : let a = c.args in c.refuse_if-rows.result ≡ first_check 12 (bad_row a.most a.n a.fars.now a.costs.now)
-    (length a.fars.now) = rw c.first_bad_row-row.ensures at c.refuse_if-rows.ensures in then_stops _ _ c.in-Refused.is rows
-
-pub returns-in-Passed : goal.returns-in-Passed
-returns-in-Passed c =
-    let rows : let a = c.args in c.refuse_if-rows.result ≡ first_check 12 (bad_row a.most a.n a.fars.now a.costs.now)
-    (length a.fars.now) = rw c.first_bad_row-row.ensures at c.refuse_if-rows.ensures in then_goes _ _ c.in-Passed.is rows (rw c.first_missing-image.ensures at c.refuse_if.ensures)

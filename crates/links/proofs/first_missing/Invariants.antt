@@ -1,11 +1,7 @@
 -- `links::first_missing` meets its contract: no image below i lacks its own link. Assumes nothing.
-use Rattle.std.proofs.Common.{◌-◌, ◌≤◌}
 use Rattle.ground.specs.First.{NoneBelow}
 use Rattle.bad_rows.specs.BadRows.{missing}
 use Rattle.links.proofs.first_missing.Given as goal
 
 abbrev pub invariant-loop-i : goal.invariant-loop-i
-invariant-loop-i l = (l.i ≤ l.n) × NoneBelow (missing l.n l.fars) l.i
-
-abbrev pub decreases-loop-i : goal.decreases-loop-i
-decreases-loop-i l = l.n - l.i
+invariant-loop-i l = NoneBelow (missing l.n l.fars) l.i

@@ -1,5 +1,5 @@
 -- The checks of a link table pass for exactly the link tables. Assumes nothing.
-use Rattle.std.specs.Prelude.{false, List, ◌↔◌, ◌≡◌, ℕ, ◌*◌, ◌-◌, ◌<◌, ◌^◌, ◌≤◌, eqb, ltb, get_or}
+use Rattle.std.specs.Prelude.{false, List, ◌↔◌, ◌≡◌, ℕ, ◌*◌, ◌-◌, ◌<◌, ◌^◌, ◌≤◌, eqb, ltb, get_or, Ok}
 use Rattle.std.proofs.Math.Bool.{not}
 use Rattle.std.proofs.Common.{inl, arith, pow_pos}
 use Rattle.std.proofs.Math.Path.{ap}
@@ -11,21 +11,18 @@ use Rattle.ground.specs.Members.{is_in}
 use Rattle.ground.specs.Laws.Members.{is_in-mem, mem-is_in}
 use Rattle.ground.specs.Refusals.{outside, refusal, refuse_if, ◌then◌}
 use Rattle.ground.specs.Laws.Refusals.{outside_false, refuse_if-passed, then_passed}
-use Rattle.ground.specs.declared.Check.TheVariants.{Passed}
 use Rattle.theory.specs.Checks.{images_check}
 use Rattle.theory.specs.Laws.Checks.{images-passed}
 use Rattle.theory.specs.FarSides.{Nested, own}
 use Rattle.theory.specs.Laws.JoinedRows.{rows_of-fars}
 use Rattle.theory.proofs.Laws.RowCount.{row_count}
 use Rattle.theory.specs.LinkTables.{LinkTable, fars, rows_of}
-use Rattle.theory.specs.Readings.{drawn}
 use Rattle.bad_rows.specs.BadRows.{bad_row, missing}
 use Rattle.links.specs.Checks.{count_checks, length_checks, row_checks, size_checks}
 use Rattle.links.specs.FirstChecks.{first_check}
 use Rattle.links.specs.Laws.FirstChecks.{first-passed, passed_first}
 use Rattle.links.specs.Laws.RowTests.{GoodRow, between_steps, clear_nested, good_row, mem-rows}
 use Rattle.links.specs.Laws.RowTests.{nested_clear, nested_sym, row_good, rows-mem, steps_between}
-use denote.RattleType.{owns}
 use Rattle.links.specs.Links.{Links}
 
 module _ (L n : ℕ) (l v : List ℕ) (e : length l ≡ length v) where
@@ -66,7 +63,7 @@ module _ (L n : ℕ) (l v : List ℕ) (e : length l ≡ length v) where
   unfolding missing
   found t i h = ap not (mem-is_in (own n i) l (rw (rows_of-fars l v e) at (t.owns i h)))
 
-  pub row_checks_lem : (row_checks L n l v ≡ Passed) ↔ LinkTable L n (rows_of l v)
+  pub row_checks_lem : (row_checks L n l v ≡ Ok tt) ↔ LinkTable L n (rows_of l v)
   row_checks_lem = (
     λ p. let q = then_passed (first_check 12 (bad_row L n l v) (length l)) (first_check 13 (missing n l) n) p in
         checked (λ k h. good_row L n l v k (first-passed 12 (bad_row L n l v) (length l) q.0 k h)) (first-passed 13 (missing n l) n q.1),
@@ -85,14 +82,14 @@ pub record LinksSized (n N : ℕ) (l v : List ℕ) : Type 0 where
   pub counted : length l ≡ N
   pub costed : length v ≡ N
 
-pub count-passed : (n N : ℕ) → count_checks n N ≡ Passed → (3 ≤ n) × (n ≤ 64) × (n ≤ N) × (N ≤ 2 * n - 3)
+pub count-passed : (n N : ℕ) → count_checks n N ≡ Ok tt → (3 ≤ n) × (n ≤ 64) × (n ≤ N) × (N ≤ 2 * n - 3)
 count-passed n N e =
     let p = then_passed (images_check n) _ e in
     let a = images-passed n p.0 in
     let b = outside_false n (2 * n - 3) N (refuse_if-passed (outside n (2 * n - 3) N) _ p.1) in
     (a.0, a.1, b.0, b.1)
 
-pub length-passed : (N : ℕ) (l v : List ℕ) → length_checks N l v ≡ Passed → (length l ≡ N) × (length v ≡ N)
+pub length-passed : (N : ℕ) (l v : List ℕ) → length_checks N l v ≡ Ok tt → (length l ≡ N) × (length v ≡ N)
 length-passed N l v e =
     let p = then_passed (refuse_if (not (eqb (length l) N)) (refusal 2 0 0 0 0)) _ e in (
       eqb-true (length l) N (not-false _ (refuse_if-passed (not (eqb (length l) N)) _ p.0)),
@@ -100,14 +97,14 @@ length-passed N l v e =
           (not-false _ (refuse_if-passed (not (eqb (length v) N)) _ p.1)),
     )
 
-pub sizes_passed : (n N : ℕ) (l v : List ℕ) → size_checks n N l v ≡ Passed → LinksSized n N l v
+pub sizes_passed : (n N : ℕ) (l v : List ℕ) → size_checks n N l v ≡ Ok tt → LinksSized n N l v
 sizes_passed n N l v e =
     let p = then_passed (count_checks n N) (length_checks N l v) e in
     let a = count-passed n N p.0 in
     let b = length-passed N l v p.1 in
     record { some = a.0; few = a.1; least = a.2; most = a.3; counted = b.0; costed = b.1 }
 
-pub passed_sizes : (n N : ℕ) (l v : List ℕ) → LinksSized n N l v → size_checks n N l v ≡ Passed
+pub passed_sizes : (n N : ℕ) (l v : List ℕ) → LinksSized n N l v → size_checks n N l v ≡ Ok tt
 passed_sizes n N l v s =
     rw (
       le-ltb n 3 s.some,
@@ -120,16 +117,16 @@ passed_sizes n N l v s =
     )
 
 -- the checks pass exactly when n is 3 to 64, the lengths fit, and the rows are a link table
-pub link_checks_lem : (L n N : ℕ) (l v : List ℕ) → ((size_checks n N l v then row_checks L n l v) ≡ Passed) ↔ Links L n N l v
+pub link_checks_lem : (L n N : ℕ) (l v : List ℕ) → ((size_checks n N l v then row_checks L n l v) ≡ Ok tt) ↔ Links L n N l v
 link_checks_lem L n N l v = (into, out)
   where
-    into : (size_checks n N l v then row_checks L n l v) ≡ Passed → Links L n N l v
+    into : (size_checks n N l v then row_checks L n l v) ≡ Ok tt → Links L n N l v
     into e =
         let p = then_passed (size_checks n N l v) (row_checks L n l v) e in
         let s = sizes_passed n N l v p.0 in
         record { some = s.some; few = s.few; counted = s.counted; costed = s.costed; table = (row_checks_lem L n l v (omega arith)).0 p.1 }
 
-    out : Links L n N l v → (size_checks n N l v then row_checks L n l v) ≡ Passed
+    out : Links L n N l v → (size_checks n N l v then row_checks L n l v) ≡ Ok tt
     out t =
         let e : length l ≡ length v = omega arith in
         let c = row_count L n (rows_of l v) t.some t.table in

@@ -1,11 +1,8 @@
 -- `listing_lines::put_rows` meets its contract: what is left to write loses its first line in each turn. Assumes nothing.
-use Rattle.std.proofs.Common.{drop, length, ◌-◌, ◌≤◌}
+use Rattle.std.proofs.Common.{drop}
 use Rattle.listing_lines.specs.Lines.{row_lines}
 use Rattle.text.specs.Putting.{Rest}
 use Rattle.listing_lines.proofs.put_rows.Given as goal
 
 abbrev pub invariant-loop-i : goal.invariant-loop-i
-invariant-loop-i l = (l.i ≤ length l.fars) × Rest (row_lines (drop l.i l.fars) (drop l.i l.costs) (drop l.i l.above)) l.place l.out (row_lines l.fars l.costs l.above) l.at l.initial.out
-
-abbrev pub decreases-loop-i : goal.decreases-loop-i
-decreases-loop-i l = length l.fars - l.i
+invariant-loop-i l = Rest (row_lines (drop l.i l.fars) (drop l.i l.costs) (drop l.i l.above)) l.place l.out (row_lines l.fars l.costs l.above) l.at l.initial.out

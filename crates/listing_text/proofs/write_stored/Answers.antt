@@ -1,74 +1,25 @@
 -- `listing_text::write_stored` meets its contract: the reader leaves a cost table, or its refusal. Assumes nothing.
-use Rattle.std.proofs.Common.{List, arith, length, length-take-le, replicate, sym, ℕ, ◌*◌, ◌≡◌, ◌≤◌}
-use lib.ListN.{length-replicate}
-use Rattle.cost_forms.specs.Laws.Sizes.{square_le}
-use Rattle.listing_text.specs.Laws.LastImage.{last_other}
-use Rattle.listing_lines.specs.Laws.Lengths.{refused_fits}
-use Rattle.listing_lines.specs.Lines.{refused_line}
-use Rattle.listing_text.specs.Listing.{listing_text, text_with}
+use Rattle.std.proofs.Common.{sym}
 use Rattle.text.specs.Laws.Pieces.{put_same}
-use Rattle.listing_text.specs.Laws.Stored.{StoredTable, stored_refused, stored_table_lem}
+use Rattle.listing_text.proofs.Laws.Read.{last_asked, stored_read, stored_refusal}
+use Rattle.listing_text.specs.Listing.{listing_text, text_with}
 use Rattle.listing_text.proofs.write_stored.Goals as goal
 
-pub put_refusal-requires : goal.put_refusal-requires
-put_refusal-requires c =
-    refused_fits c.in-Refused.q c.args.out.now c.requires
-
-pub overflow_mul-t : goal.overflow_mul-t
-overflow_mul-t c =
-    let places : List ℕ = c.read_costs.new.out in
-    let table_is : let a = c.args in
-    StoredTable (text_with a.which) a.bytes.now (replicate 4096 0) places (omega (arith, length-replicate {A = ℕ} 4096 0)) c.in-Table.n = stored_table_lem (text_with c.args.which) c.args.bytes.now (replicate 4096 0) c.read_costs.new.out (omega (arith, length-replicate {A = ℕ} 4096 0)) _ _
-    (rw c.in-Table.is at c.read_costs.ensures) in
-    omega (arith, square_le table_is.few)
-
-pub slice_bounds-t-end : goal.slice_bounds-t-end
-slice_bounds-t-end c =
-    let places : List ℕ = c.read_costs.new.out in
-    let table_is : let a = c.args in
-    StoredTable (text_with a.which) a.bytes.now (replicate 4096 0) places (omega (arith, length-replicate {A = ℕ} 4096 0)) c.in-Table.n = stored_table_lem (text_with c.args.which) c.args.bytes.now (replicate 4096 0) c.read_costs.new.out (omega (arith, length-replicate {A = ℕ} 4096 0)) _ _
-    (rw c.in-Table.is at c.read_costs.ensures) in
-    let within : c.in-Table.n * c.in-Table.n ≤ length places = omega (arith, square_le table_is.few, c.read_costs.auto.out) in
-    within
-
-pub slice_bounds-table-end : goal.slice_bounds-table-end
-slice_bounds-table-end c =
-    let places : List ℕ = c.read_costs.new.out in
-    let table_is : let a = c.args in
-    StoredTable (text_with a.which) a.bytes.now (replicate 4096 0) places (omega (arith, length-replicate {A = ℕ} 4096 0)) c.in-Table.n = stored_table_lem (text_with c.args.which) c.args.bytes.now (replicate 4096 0) c.read_costs.new.out (omega (arith, length-replicate {A = ℕ} 4096 0)) _ _
-    (rw c.in-Table.is at c.read_costs.ensures) in
-    let within : c.in-Table.n * c.in-Table.n ≤ length places = omega (arith, square_le table_is.few, c.read_costs.auto.out) in
-    sym (length-take-le _ _ within)
-
-pub last_image-requires : goal.last_image-requires
-last_image-requires c =
-    let places : List ℕ = c.read_costs.new.out in
-    let table_is : let a = c.args in
-    StoredTable (text_with a.which) a.bytes.now (replicate 4096 0) places (omega (arith, length-replicate {A = ℕ} 4096 0)) c.in-Table.n = stored_table_lem (text_with c.args.which) c.args.bytes.now (replicate 4096 0) c.read_costs.new.out (omega (arith, length-replicate {A = ℕ} 4096 0)) _ _
-    (rw c.in-Table.is at c.read_costs.ensures) in
-    table_is.table
+pub invariant_of-table : goal.invariant_of-table
+invariant_of-table c = record { formed = (stored_read (text_with c.args.which) c.args.bytes.now c.read_costs.new.out c.in-Ok.read c.in-Ok.ensures).table }
 
 pub write_table-requires : goal.write_table-requires
 write_table-requires c =
-    let places : List ℕ = c.read_costs.new.out in
-    let table_is : let a = c.args in
-    StoredTable (text_with a.which) a.bytes.now (replicate 4096 0) places (omega (arith, length-replicate {A = ℕ} 4096 0)) c.in-Table.n = stored_table_lem (text_with c.args.which) c.args.bytes.now (replicate 4096 0) c.read_costs.new.out (omega (arith, length-replicate {A = ℕ} 4096 0)) _ _
-    (rw c.in-Table.is at c.read_costs.ensures) in
-    let t = table_is in (t.table, rw c.last_image.ensures (last_other c.args.which _ _ t.table), c.requires)
+    let read = stored_read (text_with c.args.which) c.args.bytes.now c.read_costs.new.out c.in-Ok.read c.in-Ok.ensures in
+    (last_asked c.args.which _ _ read.table _ c.last_image.ensures, c.requires)
 
-pub returns-in-Refused : goal.returns-in-Refused
+pub returns-in-Err : goal.returns-in-Err
 unfolding listing_text
-returns-in-Refused c =
-    let refused_is : let a = c.args in listing_text a.which a.bytes.now ≡ refused_line c.in-Refused.q = stored_refused (text_with c.args.which) c.args.bytes.now (replicate 4096 0) c.read_costs.new.out (omega (arith, length-replicate {A = ℕ} 4096 0)) _
-    (rw c.in-Refused.is at c.read_costs.ensures) in
-    put_same (sym refused_is) c.put_refusal.ensures
+returns-in-Err c =
+    put_same (sym (stored_refusal (text_with c.args.which) c.args.bytes.now c.read_costs.new.out c.in-Err.q c.in-Err.ensures)) c.put_refusal.ensures
 
-pub returns-in-Table : goal.returns-in-Table
+pub returns-in-Ok : goal.returns-in-Ok
 unfolding listing_text
-returns-in-Table c =
-    let places : List ℕ = c.read_costs.new.out in
-    let table_is : let a = c.args in
-    StoredTable (text_with a.which) a.bytes.now (replicate 4096 0) places (omega (arith, length-replicate {A = ℕ} 4096 0)) c.in-Table.n = stored_table_lem (text_with c.args.which) c.args.bytes.now (replicate 4096 0) c.read_costs.new.out (omega (arith, length-replicate {A = ℕ} 4096 0)) _ _
-    (rw c.in-Table.is at c.read_costs.ensures) in
-    put_same (sym table_is.text)
-    (rw c.last_image.ensures at c.write_table.ensures)
+returns-in-Ok c =
+    let read = stored_read (text_with c.args.which) c.args.bytes.now c.read_costs.new.out c.in-Ok.read c.in-Ok.ensures in
+    put_same (sym read.text) (rw c.last_image.ensures at c.write_table.ensures)

@@ -1,8 +1,7 @@
 -- What is said of the bytes s in a form, and that bytes behind cannot matter where s reach as far as reading looks. Assumes nothing.
-use Rattle.std.specs.Prelude.{List, ◌++◌, refl, ◌≡◌, ℕ}
+use Rattle.ground.specs.Refusals.{Check}
+use Rattle.std.specs.Prelude.{List, ◌++◌, refl, ◌≡◌, ℕ, Ok, Err}
 use Rattle.std.proofs.Common.{ap, sym, ◌∙◌, arith}
-use Rattle.ground.specs.declared.Check.{Check}
-use Rattle.ground.specs.declared.Check.TheVariants.{Passed, Refused}
 use Rattle.bits.specs.Laws.Editions.{edition_behind}
 use Rattle.bits.specs.declared.Edition.{Edition}
 use Rattle.bits.specs.declared.Form.{Form}
@@ -30,10 +29,10 @@ module _ (said : ℕ → List ℕ → List ℕ) (s b : List ℕ) where
       ap (λ (c : Check). text_by said form c (s ++ b)) k ∙ go (table_checks form s) refl
     where
       go : (c : Check) → table_checks form s ≡ c → text_by said form c (s ++ b) ≡ text_by said form c s
-      go Passed e =
+      go (Ok tt) e =
           ap (λ (n : ℕ). said n (stored_table form n (s ++ b))) (images-behind form s b r)
           ∙ ap (said (images_of form s)) (table-behind form s b r (table_readable form s e).few)
-      go (Refused q) e = refl
+      go (Err q) e = refl
 
   -- the first byte tells the form
   pub stored_reached : Reaching (cost_form_at s 0) s → stored_text said (s ++ b) ≡ stored_text said s

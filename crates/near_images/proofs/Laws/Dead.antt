@@ -1,5 +1,5 @@
 -- Rows that cannot stay: one choice shows it. Assumes nothing.
-use Rattle.std.specs.Prelude.{false, not, true, ◌&&◌, ◌⊎◌, refl, ◌≡◌, suc, ℕ, ◌*◌, ◌+◌, ◌-◌, ◌<◌, ◌^◌, ◌≤◌, eqb, ltb}
+use Rattle.std.specs.Prelude.{false, not, true, ◌&&◌, ◌⊎◌, refl, ◌≡◌, suc, ℕ, ◌*◌, ◌+◌, ◌<◌, ◌^◌, ◌≤◌, eqb, ltb}
 use Rattle.std.proofs.Common.{inl, inr, ap, sym, ◌∙◌, le_trans, arith, eq-eqb, eqb-true, ltb-false, ltb-true}
 use Rattle.std.proofs.lemmas.Nat.{and_comm}
 use Rattle.std.specs.Int.Bits.{bit_and}

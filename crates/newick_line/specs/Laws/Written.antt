@@ -1,10 +1,9 @@
 -- What the Newick writer leaves in places enough for every line, and the newline behind it. Assumes nothing.
-use Rattle.std.specs.Prelude.{List, [], ◌++◌, ◌∷◌, ◌≡◌, ℕ, ◌<◌, ◌≤◌, length}
+use Rattle.ground.specs.Refusals.{Written}
+use Rattle.std.specs.Prelude.{List, ◌++◌, ◌≡◌, ℕ, ◌<◌, ◌≤◌, length, Ok, Err}
 use Rattle.std.proofs.Common.{ap, sym, ◌∙◌, arith, length-append}
 use Rattle.ground.specs.Outcomes.{Left, Outcome}
 use Rattle.ground.specs.declared.Refusal.{Refusal}
-use Rattle.ground.specs.declared.Written.{Written}
-use Rattle.ground.specs.declared.Written.TheVariants.{Places, Refused}
 use Rattle.theory.specs.LinkTables.{rows_of}
 use Rattle.theory.specs.Tables.{limit}
 use Rattle.links.specs.Links.{Links}
@@ -30,16 +29,16 @@ module _ (n : ℕ) (l v o e : List ℕ) (t : Links limit n (length l) l v) (h : 
   line_fits = omega (arith, short, length-append text newline)
 
   -- the writer never refuses
-  pub line_never : (q : Refusal) → Left (write_outcome n (length l) l v o) (Refused q) e → ⊥
+  pub line_never : (q : Refusal) → Left (write_outcome n (length l) l v o) (Err q) e → ⊥
   line_never q p =
-      let a : Refused q ≡ Places (length text) = p.answered ∙ ap (λ (w : Outcome Written). w.answer) (written n (length l) l v o t (omega (arith, short))) in
+      let a : Err q ≡ Ok (length text) = p.answered ∙ ap (λ (w : Outcome Written). w.answer) (written n (length l) l v o t (omega (arith, short))) in
       let z : ◌≡◌ {A = ℕ} 0 1 = cc in omega arith
 
   -- the text stands in front, and there is a place behind it
-  pub line_written : (used : ℕ) → Left (write_outcome n (length l) l v o) (Places used) e → Put text 0 o used e × (used < length e)
+  pub line_written : (used : ℕ) → Left (write_outcome n (length l) l v o) (Ok used) e → Put text 0 o used e × (used < length e)
   line_written used p =
       let w = written n (length l) l v o t (omega (arith, short)) in
-      let a : Places used ≡ Places (length text) = p.answered ∙ ap (λ (x : Outcome Written). x.answer) w in
+      let a : Ok used ≡ Ok (length text) = p.answered ∙ ap (λ (x : Outcome Written). x.answer) w in
       let u : used ≡ length text = cc in
       let k : Put text 0 o used e =
       record { behind = omega arith; left = p.left ∙ ap (λ (x : Outcome Written). x.places) w ∙ sym (over_at_front o text) } in

@@ -1,8 +1,7 @@
 -- What the notes of a whole text say is what reading the text answers and leaves. Assumes nothing.
-use Rattle.std.specs.Prelude.{true, List, refl, ◌≡◌, min, ℕ, ◌*◌, ◌+◌, ◌-◌, ◌≤◌, length, take}
+use Rattle.ground.specs.Refusals.{Check}
+use Rattle.std.specs.Prelude.{true, List, refl, ◌≡◌, min, ℕ, ◌*◌, ◌+◌, ◌≤◌, length, take, Ok, Err}
 use Rattle.std.proofs.Common.{ap, ◌∙◌}
-use Rattle.ground.specs.declared.Check.{Check}
-use Rattle.ground.specs.declared.Check.TheVariants.{Passed, Refused}
 use Rattle.theory.specs.LinkTables.{Row}
 use Rattle.theory.specs.Tables.{limit}
 use Rattle.tree.specs.LocalRows.{rows_in}
@@ -24,9 +23,9 @@ use Rattle.newick_table.proofs.Laws.Checks.{checks_same, rows_are}
 
 -- ## A tree
 
-rows_same : (c : Check) (n : ℕ) (S T : List Row) (f v : List ℕ) → (c ≡ Passed → S ≡ T) → rows_if c n S f v ≡ rows_if c n T f v
-rows_same Passed n S T f v h = ap (λ (l : List Row). rows_if Passed n l f v) (h refl)
-rows_same (Refused r) n S T f v h = refl
+rows_same : (c : Check) (n : ℕ) (S T : List Row) (f v : List ℕ) → (c ≡ Ok tt → S ≡ T) → rows_if c n S f v ≡ rows_if c n T f v
+rows_same (Ok tt) n S T f v h = ap (λ (l : List Row). rows_if (Ok tt) n l f v) (h refl)
+rows_same (Err r) n S T f v h = refl
 
 module _ (f : Siblings) (w : Tree f) (k : ℕ) (g v : List ℕ) (e : rows_in g v k ≡ take 128 (noted 0 f)) (room : ℕ) where
   abbrev n : ℕ

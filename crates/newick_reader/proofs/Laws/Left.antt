@@ -1,32 +1,28 @@
 -- What an answer says of the checks, and of the rows left. Assumes nothing.
-use Rattle.std.specs.Prelude.{List, refl, ◌≡◌, ℕ, length}
-use Rattle.std.proofs.Common.{ap, arith}
-use Rattle.ground.specs.declared.Check.{Check}
-use Rattle.ground.specs.declared.Check.TheVariants.{Passed, Refused}
+use Rattle.ground.specs.Refusals.{Check}
+use Rattle.std.specs.Prelude.{List, refl, ◌≡◌, ℕ, Ok, Err}
+use Rattle.std.proofs.Common.{ap, arith, sym}
 use Rattle.ground.specs.declared.Refusal.{Refusal}
+use Rattle.newick_reader.specs.declared.TreeRead.{TreeRead}
 use Rattle.theory.specs.LinkTables.{Row}
 use Rattle.theory.specs.Outcomes.{LeftRows}
 use Rattle.tree.specs.Writing.{RowsWritten}
-use Rattle.newick_reader.specs.Outcomes.{rows_if}
-use Rattle.newick_reader.specs.declared.NewickTree.TheVariants.{Table}
-use Rattle.newick_reader.specs.declared.NewickTree.TheVariants as newick
+use Rattle.newick_reader.specs.Outcomes.{NewickTree, rows_if}
 
-pub table-left : (c : Check) (m : ℕ) (T : List Row) (f v : List ℕ) (n N : ℕ) (f' v' : List ℕ) → LeftRows (rows_if c m T f v) (Table n N) f' v'
-    → (c ≡ Passed) × (n ≡ m) × RowsWritten T N f v f' v'
-table-left Passed m T f v n N f' v' l =
-    (refl, images n m N (length T) l.answered, record { counted = rows n m N (length T) l.answered; far-front = l.far-sides; cost-front = l.doubled })
-  where
-    images : (a b c d : ℕ) → Table a c ≡ Table b d → a ≡ b
-    images a b c d e = cc
+read_same : (p q : TreeRead) → ◌≡◌ {A = NewickTree} (Ok p) (Ok q) → p ≡ q
+read_same p q e = cc
 
-    rows : (a b c d : ℕ) → Table a c ≡ Table b d → c ≡ d
-    rows a b c d e = cc
-table-left (Refused q) m T f v n N f' v' l = absurd (let e = l.answered in let z : ◌≡◌ {A = ℕ} 0 1 = cc in omega arith)
+refusal_same : (p q : Refusal) → ◌≡◌ {A = NewickTree} (Err p) (Err q) → p ≡ q
+refusal_same p q e = cc
 
-pub refused-left : (c : Check) (m : ℕ) (T : List Row) (f v : List ℕ) (q : Refusal) (f' v' : List ℕ) → LeftRows (rows_if c m T f v) (newick.Refused q) f' v'
-    → (c ≡ Refused q) × (f' ≡ f) × (v' ≡ v)
-refused-left Passed m T f v q f' v' l = absurd (let e = l.answered in let z : ◌≡◌ {A = ℕ} 0 1 = cc in omega arith)
-refused-left (Refused p) m T f v q f' v' l = (ap Refused (same p q l.answered), l.far-sides, l.doubled)
-  where
-    same : (p q : Refusal) → newick.Refused q ≡ newick.Refused p → p ≡ q
-    same p q e = cc
+pub table-left : (c : Check) (m : ℕ) (T : List Row) (f v : List ℕ) (n N : ℕ) (f' v' : List ℕ) → LeftRows (rows_if c m T f v) (Ok (record { n = n; count = N })) f' v'
+    → (c ≡ Ok tt) × (n ≡ m) × RowsWritten T N f v f' v'
+table-left (Ok _) m T f v n N f' v' l =
+    let e = read_same _ _ l.answered in
+    (refl, ap (λ (r : TreeRead). r.n) e, record { counted = ap (λ (r : TreeRead). r.count) e; far-front = l.far-sides; cost-front = l.doubled })
+table-left (Err q) m T f v n N f' v' l = absurd (let e = l.answered in let z : ◌≡◌ {A = ℕ} 0 1 = cc in omega arith)
+
+pub refused-left : (c : Check) (m : ℕ) (T : List Row) (f v : List ℕ) (q : Refusal) (f' v' : List ℕ) → LeftRows (rows_if c m T f v) (Err q) f' v'
+    → (c ≡ Err q) × (f' ≡ f) × (v' ≡ v)
+refused-left (Ok _) m T f v q f' v' l = absurd (let e = l.answered in let z : ◌≡◌ {A = ℕ} 0 1 = cc in omega arith)
+refused-left (Err p) m T f v q f' v' l = (sym (ap Err (refusal_same q p l.answered)), l.far-sides, l.doubled)

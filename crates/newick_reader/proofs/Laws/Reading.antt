@@ -1,7 +1,6 @@
 -- From what the scan says of a text to what reading it answers. Assumes nothing.
-use Rattle.std.specs.Prelude.{false, List, refl, ◌≡◌, suc, ℕ, ◌*◌, ◌+◌, ◌≤◌, length}
+use Rattle.std.specs.Prelude.{false, List, ◌≡◌, ℕ, ◌*◌, ◌+◌, ◌≤◌, length, Err, Ok}
 use Rattle.std.proofs.Common.{subst, arith}
-use Rattle.ground.specs.Refusals.{refusal}
 use Rattle.theory.specs.Outcomes.{LeftRows}
 use Rattle.newick_text.specs.Bytes.{run}
 use Rattle.newick_text.specs.States.{start}
@@ -9,32 +8,24 @@ use Rattle.newick_text.specs.Ends.{is_done, lived}
 use Rattle.newick_text.proofs.Laws.Place.{first_impossible}
 use Rattle.newick_scan.specs.Says.{Says}
 use Rattle.newick_notes.specs.declared.Noted.{Noted}
-use Rattle.newick_scan.specs.declared.Scanned.{Scanned}
-use Rattle.newick_scan.specs.declared.Scanned.TheVariants.{Stopped, Whole}
+use Rattle.newick_scan.specs.Says.{Scanned}
 use Rattle.newick_reader.specs.Notes.{note_outcome}
-use Rattle.newick_reader.specs.Outcomes.{read_outcome}
+use Rattle.newick_reader.specs.Outcomes.{read_outcome, NewickTree}
 use Rattle.newick_reader.proofs.Laws.Answer.{note_read, whole-count}
-use Rattle.newick_reader.specs.declared.NewickTree.{NewickTree}
-use Rattle.newick_reader.specs.declared.NewickTree.TheVariants.{Refused}
 
 module _ (t : List ℕ) (s : Scanned) (g w : List ℕ) (h : Says t s g w) where
   -- ## Outside the profile
 
-  module _ (k : ℕ) (e : s ≡ Stopped k) where
+  module _ (k : ℕ) (e : s ≡ Err k) where
     stopped : (is_done (run start t) ≡ false) × (k ≡ lived start t)
     stopped = let q = subst (λ x. Says t x g w) e h in (q.0, q.1)
 
     pub stopped_within : k ≤ length t
     stopped_within = omega (arith, stopped.1, (first_impossible t).most)
 
-    pub stopped_read : (f v : List ℕ) → LeftRows (read_outcome t f v) (Refused (refusal 18 (k + 1) 0 0 0)) f v
-    stopped_read f v =
-        let a : k + 1 ≡ suc (lived start t) = omega (arith, stopped.1) in
-        rw (stopped.0, a) (record { answered = refl; far-sides = refl; doubled = refl })
-
   -- ## A whole text
 
-  module _ (n : Noted) (e : s ≡ Whole n) where
+  module _ (n : Noted) (e : s ≡ Ok n) where
     pub whole_fits : (1 ≤ n.rows) × (n.rows ≤ 128) × (n.rows + 3 ≤ 2 * n.names) × (length g ≡ 128) × (length w ≡ 128)
     whole_fits =
         let q = subst (λ x. Says t x g w) e h in

@@ -1,5 +1,5 @@
 -- A text on one way through its bytes: what is noted of the first i, and what is said at the end. Assumes nothing.
-use Rattle.std.specs.Prelude.{false, true, List, refl, ◌≡◌, suc, ℕ, ◌+◌, ◌<◌, ◌≤◌, get_or, take}
+use Rattle.std.specs.Prelude.{false, true, List, refl, ◌≡◌, suc, ℕ, ◌+◌, ◌<◌, ◌≤◌, get_or, take, Ok, Err}
 use Rattle.std.proofs.lemmas.Bool.{false≢true}
 use Rattle.std.proofs.Math.Path.{ap}
 use Rattle.std.proofs.Common.{subst, sym, ◌∙◌, take_all}
@@ -21,7 +21,6 @@ use Rattle.newick_bytes.specs.Outer.{next_outer}
 use Rattle.newick_bytes.specs.declared.Seen.{Seen}
 use Rattle.newick_bytes.specs.declared.Seen.TheVariants.{Start}
 use Rattle.newick_bytes.specs.Laws.Reached.{Reached, dead_here, reached-more, reached_none, run_more, stopped_end, stopped_here, whole_end}
-use Rattle.newick_scan.specs.declared.Scanned.TheVariants.{Stopped, Whole}
 use Rattle.newick_notes.specs.Stacks.{Sized, Stacks}
 use Rattle.newick_notes.specs.Turns as turns
 use Rattle.newick_scan.specs.Noting.{Kept, Noting, kept}
@@ -97,15 +96,15 @@ module _ (t : List ℕ) (i : ℕ) (s : Seen) (o : List ℕ) (x : Kept) (h : Scan
           few = omega (arith, few_byte b (i + 1) x y s n, h.few);
         }
 
-    pub scans_stop : is_dead_seen s' ≡ true → Says t (Stopped i) x.fars x.costs
+    pub scans_stop : is_dead_seen s' ≡ true → Says t (Err i) x.fars x.costs
     scans_stop d =
         let c = h.reached in
         let m = scans_able.room in
         let k = stopped_here t i l c.live (sym (dead_here t i s o c l s' o' (rw e at p) (rw e at q)) ∙ d) in
         (k.0, k.1, m.far-size, m.cost-size)
 
-  pub scans_short : length t ≤ i → is_done_seen s ≡ false → Says t (Stopped i) x.fars x.costs
+  pub scans_short : length t ≤ i → is_done_seen s ≡ false → Says t (Err i) x.fars x.costs
   scans_short l d = let m = scans_able.room in let k = stopped_end h.reached l d in (k.0, k.1, m.far-size, m.cost-size)
 
-  pub scans_whole : length t ≤ i → is_done_seen s ≡ true → Says t (Whole x.noted) x.fars x.costs
+  pub scans_whole : length t ≤ i → is_done_seen s ≡ true → Says t (Ok x.noted) x.fars x.costs
   scans_whole l d = let k = whole_end h.reached l d in (k, done_told x (run start t) k (rw (take_all i t l) at h.notes))

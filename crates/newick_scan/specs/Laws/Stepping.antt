@@ -9,7 +9,7 @@ use Rattle.newick_text.specs.Trees as trees
 use Rattle.newick_text.specs.Tables.{names}
 use Rattle.newick_text.specs.Bytes.{close}
 use Rattle.newick_text.specs.States.{Digits, Open, add_to, blank, costing, depth, ended, head, outermost, vertex, within}
-use Rattle.newick_text.specs.Noting.{fallen, last_far, lower_place, mark, marked, noted_far}
+use Rattle.newick_text.specs.Noting.{last_far, lower_place, mark, marked, noted_far}
 use Rattle.newick_text.proofs.Laws.Live.{Live, only}
 use Rattle.newick_bytes.specs.Kept.{narrow}
 use Rattle.newick_bytes.specs.Laws.Shows.{depth-some}

@@ -1,13 +1,11 @@
 -- What is checked of the notes of a text of the profile is what is checked of its tree. Assumes nothing.
-use Rattle.std.specs.Prelude.{Bool, false, not, ◌||◌, List, refl, ◌≡◌, suc, ℕ, ◌*◌, ◌-◌, ◌<◌, ◌≤◌, eqb, get_or, length, take}
+use Rattle.std.specs.Prelude.{Bool, false, not, ◌||◌, List, refl, ◌≡◌, suc, ℕ, ◌*◌, ◌-◌, ◌<◌, ◌≤◌, eqb, get_or, length, take, Ok}
 use Rattle.std.proofs.Common.{ap, ap₂, ◌∙◌, arith}
 use Rattle.std.proofs.lemmas.Bool.{not-false}
 use Rattle.ground.specs.Laws.Bits.{bit_none}
 use Rattle.ground.specs.Laws.Refusals.{outside_false, refuse_if-passed, then_assoc, then_passed, then_same}
 use Rattle.ground.specs.Members.{is_in}
-use Rattle.ground.specs.Refusals.{outside, refusal, refuse_if, room_check, ◌then◌}
-use Rattle.ground.specs.declared.Check.{Check}
-use Rattle.ground.specs.declared.Check.TheVariants.{Passed}
+use Rattle.ground.specs.Refusals.{outside, refusal, refuse_if, room_check, ◌then◌, Check}
 use Rattle.theory.specs.Checks.{images_check}
 use Rattle.theory.specs.FarSides.{holds}
 use Rattle.theory.specs.LinkTables.{Row, costs, fars}
@@ -58,7 +56,7 @@ capped_checked n T =
     ap₂ (bad_cost limit n) (ap (λ (x : List ℕ). get_or x k 0) (capped-far T)) (capped-cost T k) ∙ capped_bad n (get_or (fars T) k 0) (get_or (costs T) k 0))
     ∙ ap (first_check 12 (λ k. bad_cost limit n (get_or (fars T) k 0) (get_or (costs T) k 0))) (capped-length T)
 
-uncapped : (n : ℕ) (T : List Row) → costs_check limit n T ≡ Passed → capped T ≡ T
+uncapped : (n : ℕ) (T : List Row) → costs_check limit n T ≡ Ok tt → capped T ≡ T
 uncapped n T e =
     capped_same T (λ x m.
     let k = at_row T x m in
@@ -78,7 +76,7 @@ module _ (f : Siblings) (w : Tree f) (k : ℕ) (g v : List ℕ) (e : rows_in g v
   S = noted_table (marked 0 f) k g v
 
   -- once the names passed
-  table_same : Names ≡ Passed → (S ≡ capped (table_of f)) × (fallen 0 2 0 f ≡ fall f)
+  table_same : Names ≡ Ok tt → (S ≡ capped (table_of f)) × (fallen 0 2 0 f ≡ fall f)
   table_same p =
       let a = then_passed (images_check n) _ p in
       let b = then_passed (room_check (2 * n - 3) room) _ a.1 in
@@ -102,11 +100,11 @@ module _ (f : Siblings) (w : Tree f) (k : ℕ) (g v : List ℕ) (e : rows_in g v
       ∙ then_assoc (images_check n) (room_check (2 * n - 3) room then names_check n f) (costs_check limit n (table_of f) then order_check f)
       ∙ ap (λ (c : Check). images_check n then c) (then_assoc (room_check (2 * n - 3) room) (names_check n f) (costs_check limit n (table_of f) then order_check f))
 
-  pub rows_are : tree_checks limit f room ≡ Passed → S ≡ table_of f
+  pub rows_are : tree_checks limit f room ≡ Ok tt → S ≡ table_of f
   rows_are p =
       let a = then_passed (images_check n) _ p in
       let b = then_passed (room_check (2 * n - 3) room) _ a.1 in
       let c = then_passed (names_check n f) _ b.1 in
       let d = then_passed (costs_check limit n (table_of f)) _ c.1 in
-      let q : Names ≡ Passed = rw (a.0, b.0, c.0) refl in
+      let q : Names ≡ (Ok tt) = rw (a.0, b.0, c.0) refl in
       (table_same q).0 ∙ uncapped n (table_of f) d.0

@@ -1,11 +1,10 @@
 -- The tree of an accepted text. Assumes nothing.
 use Rattle.std.proofs.lemmas.Bool.{false≢true, not-false}
-use Rattle.std.specs.Prelude.{not, true, List, refl, ◌≡◌, suc, ℕ, ◌*◌, ◌+◌, ◌-◌, ◌≤◌, eqb, ltb, length}
+use Rattle.std.specs.Prelude.{not, true, List, refl, ◌≡◌, suc, ℕ, ◌*◌, ◌+◌, ◌-◌, ◌≤◌, eqb, ltb, length, Ok}
 use Rattle.std.proofs.Common.{ap, sym, ◌∙◌, arith, eqb-true, ltb-false}
 use Rattle.ground.specs.Members.{is_in}
 use Rattle.ground.specs.Refusals.{room_check}
 use Rattle.ground.specs.Laws.Refusals.{refuse_if-passed, then_passed}
-use Rattle.ground.specs.declared.Check.TheVariants.{Passed}
 use Rattle.theory.specs.Checks.{images_check}
 use Rattle.theory.specs.Laws.Checks.{images-passed}
 use Rattle.links.specs.Laws.FirstChecks.{first-passed}
@@ -36,10 +35,10 @@ pub record Accepted (L : ℕ) (f : Siblings) (room : ℕ) : Type 0 where
   pub few : length (names f) ≤ 64
   pub roomy : 2 * length (names f) - 3 ≤ room
   pub all : AllOnce (length (names f)) f
-  pub costly : costs_check L (length (names f)) (table_of f) ≡ Passed
+  pub costly : costs_check L (length (names f)) (table_of f) ≡ Ok tt
   pub rising : RisingTree f
 
-pub tree_accepted : (L : ℕ) (f : Siblings) (room : ℕ) → Tree f → tree_checks L f room ≡ Passed → Accepted L f room
+pub tree_accepted : (L : ℕ) (f : Siblings) (room : ℕ) → Tree f → tree_checks L f room ≡ Ok tt → Accepted L f room
 tree_accepted L f room w e =
     let n = length (names f) in
     let a = then_passed (images_check n) _ e in
@@ -100,7 +99,7 @@ done_is (ended f) e = absurd (false≢true e)
 done_is (done f) e = refl
 done_is dead e = absurd (false≢true e)
 
-pub said : (L : ℕ) (t : List ℕ) (room : ℕ) → read_checks L t room ≡ Passed → Said L t room
+pub said : (L : ℕ) (t : List ℕ) (room : ℕ) → read_checks L t room ≡ Ok tt → Said L t room
 said L t room e =
     let a = then_passed (profile_check t) _ e in
     let d = done_is (run start t) (not-false (is_done (run start t)) (refuse_if-passed (not (is_done (run start t))) _ a.0)) in

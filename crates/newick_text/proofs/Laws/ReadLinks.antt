@@ -1,5 +1,5 @@
 -- The table of an accepted text is a link table. Assumes nothing.
-use Rattle.std.specs.Prelude.{Bool, false, not, true, ◌&&◌, refl, ◌≡◌, suc, zero, ℕ, ◌*◌, ◌+◌, ◌<◌, ◌^◌, ◌≤◌, eqb, ltb, get_or, length}
+use Rattle.std.specs.Prelude.{Bool, false, not, true, ◌&&◌, refl, ◌≡◌, suc, zero, ℕ, ◌*◌, ◌+◌, ◌<◌, ◌^◌, ◌≤◌, eqb, ltb, get_or, length, Ok}
 use mathlib.Core.List.{List, Memᴰ, [], ◌++◌, ◌∷◌}
 use Rattle.std.proofs.Common.{ap, subst, sym, ◌∙◌, arith, pow_pos, eqb-true, ltb-false, ne_eqb}
 use Rattle.std.proofs.lemmas.Bool.{eqb-false}
@@ -7,7 +7,6 @@ use borrow.Table.Steps.{cases}
 use Rattle.ground.specs.Counts.{one_if}
 use Rattle.ground.specs.Laws.Maps.{map-mem, mem-map}
 use Rattle.ground.specs.Laws.Tests.{or_false}
-use Rattle.ground.specs.declared.Check.TheVariants.{Passed}
 use Rattle.theory.specs.FarSides.{inner, own}
 use Rattle.theory.specs.LinkTables.{LinkTable, Row, costs, far, fars}
 use Rattle.bad_rows.specs.BadRows.{bad_cost}
@@ -75,5 +74,5 @@ tree_links L room (image i c r) w a =
     later : (m : ℕ) → 1 ≤ m → one_if (eqb i (suc m)) + occ r m ≡ 1 → occ r m ≡ 1
     later m h e = omega (arith, e, ap one_if (ne_eqb i (suc m) (λ q. omega (arith, w.one))))
 
-pub read_links : (L : ℕ) (t : List ℕ) (room : ℕ) → read_checks L t room ≡ Passed → LinkTable L (length (names (tree_in t))) (table_of (tree_in t))
+pub read_links : (L : ℕ) (t : List ℕ) (room : ℕ) → read_checks L t room ≡ Ok tt → LinkTable L (length (names (tree_in t))) (table_of (tree_in t))
 read_links L t room e = let s = said L t room e in tree_links L room (tree_in t) s.fine s.accepted

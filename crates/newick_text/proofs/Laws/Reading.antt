@@ -1,9 +1,8 @@
 -- Writing undoes reading, and reading undoes writing. Assumes nothing.
-use Rattle.std.specs.Prelude.{false, not, true, List, refl, ◌≡◌, suc, ℕ, ◌*◌, ◌-◌, ◌<◌, ◌≤◌, get_or, length}
+use Rattle.std.specs.Prelude.{false, not, true, List, refl, ◌≡◌, suc, ℕ, ◌*◌, ◌-◌, ◌<◌, ◌≤◌, get_or, length, Ok}
 use Rattle.std.proofs.Common.{ap, sym, ◌∙◌, arith, le-ltb, ne_eqb}
 use borrow.Table.Steps.{cases}
 use Rattle.ground.specs.Members.{is_in}
-use Rattle.ground.specs.declared.Check.TheVariants.{Passed}
 use Rattle.theory.specs.FarSides.{inner}
 use Rattle.theory.specs.LinkTables.{LinkTable, Row, costs, fars}
 use Rattle.bad_rows.specs.BadRows.{bad_cost}
@@ -24,11 +23,11 @@ use Rattle.newick_text.proofs.Laws.Reads.{tree_read}
 -- ## One text
 
 -- writing what was read gives the same text
-pub write_read : (L : ℕ) (t : List ℕ) (room : ℕ) → read_checks L t room ≡ Passed → newick (table_of (tree_in t)) ≡ t
+pub write_read : (L : ℕ) (t : List ℕ) (room : ℕ) → read_checks L t room ≡ Ok tt → newick (table_of (tree_in t)) ≡ t
 write_read L t room e = let s = said L t room e in ap text (tree_again L room (tree_in t) s.fine s.accepted) ∙ sym s.spelled
 
 -- one link table has one text
-pub one-text : (L : ℕ) (t u : List ℕ) (room : ℕ) → read_checks L t room ≡ Passed → read_checks L u room ≡ Passed → table_of (tree_in t) ≡ table_of (tree_in u) → t ≡ u
+pub one-text : (L : ℕ) (t u : List ℕ) (room : ℕ) → read_checks L t room ≡ Ok tt → read_checks L u room ≡ Ok tt → table_of (tree_in t) ≡ table_of (tree_in u) → t ≡ u
 one-text L t u room p q e = sym (write_read L t room p) ∙ ap newick e ∙ write_read L u room q
 
 -- ## Reading undoes writing
@@ -43,7 +42,7 @@ module _ (L n : ℕ) (T : List Row) (t : LinkTable L n T) (some : 3 ≤ n) (few 
   abbrev f : Siblings
   f = link_tree T
 
-  tree_passes : tree_checks L f room ≡ Passed
+  tree_passes : tree_checks L f room ≡ Ok tt
   tree_passes =
       let w = written in
       rw (
@@ -60,7 +59,7 @@ module _ (L n : ℕ) (T : List Row) (t : LinkTable L n T) (some : 3 ≤ n) (few 
       refl
 
   -- what is written of a link table is read as that table
-  pub read_written : (read_checks L (newick T) room ≡ Passed) × (table_of (tree_in (newick T)) ≡ T)
+  pub read_written : (read_checks L (newick T) room ≡ Ok tt) × (table_of (tree_in (newick T)) ≡ T)
   read_written =
       let d : run start (newick T) ≡ done f = tree_read f written.fine in
       (rw d tree_passes, rw d written.table)

@@ -8,7 +8,7 @@ use Rattle.ground.specs.Filters.{Each}
 use Rattle.ground.specs.Laws.Bits.{bit-some}
 use Rattle.theory.specs.LinkTables.{Row}
 use Rattle.theory.specs.Routes.{contains}
-use Rattle.newick_text.specs.Trees.{Head, Siblings, add, named}
+use Rattle.newick_text.specs.Trees.{Head, Siblings, add}
 use Rattle.newick_text.specs.Tables.{insert, rows, sorted}
 use Rattle.newick_text.specs.Order.{Rising}
 use Rattle.newick_text.specs.LinkTrees.{grow, part}

@@ -17,7 +17,7 @@ use Rattle.text.specs.Decimal.{decimal}
 use Rattle.newick_text.specs.LinkTrees.{newick}
 use Rattle.newick_writer.specs.Bytes.{head_bytes, longest_text, row_bytes}
 use Rattle.newick_writer.specs.Laws.Bytes.{text-bytes}
-use Rattle.newick_writer.specs.Laws.Summing.{more-digits, one-digit, one_image_lem, other-bytes}
+use Rattle.newick_writer.specs.Laws.Summing.{more-digits, one-digit, one_image_lem, other_bytes}
 
 -- a number below a power of ten has no more digits than this says
 digits-below : (k x : ℕ) → x < 2 ^ 64 → x < 10 ^ suc k → length (decimal x) ≤ suc k
@@ -36,7 +36,7 @@ record Late (S : ℕ) : Type 0 where
   two : head_bytes S ≤ 2
 
 heads : (n S : ℕ) → n ≤ 64 → S < 2 ^ n → (head_bytes S ≤ 1) ⊎ Late S
-heads n S f h = cases (eqb (ones S) 1) (λ e. one (ones_one n S h (eqb-true (ones S) 1 e))) (λ e. inl (omega (arith, other-bytes S (eqb-false (ones S) 1 e))))
+heads n S f h = cases (eqb (ones S) 1) (λ e. one (ones_one n S h (eqb-true (ones S) 1 e))) (λ e. inl (omega (arith, other_bytes S (eqb-false (ones S) 1 e))))
   where
     one : (i : ℕ) × (i < n) × (S ≡ 2 ^ i) → (head_bytes S ≤ 1) ⊎ Late S
     one (i, l, e) =

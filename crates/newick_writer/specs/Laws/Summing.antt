@@ -1,5 +1,5 @@
 -- How the bytes are summed, digit by digit and row by row. Assumes nothing.
-use Rattle.std.specs.Prelude.{List, [], ◌∷◌, refl, ◌≡◌, suc, ℕ, ◌%◌, ◌+◌, ◌-◌, ◌/◌, ◌<◌, ◌^◌, ◌≤◌, eqb, drop, get_or, length}
+use Rattle.std.specs.Prelude.{List, [], ◌∷◌, refl, ◌≡◌, suc, zero, ℕ, ◌%◌, ◌*◌, ◌+◌, ◌-◌, ◌/◌, ◌<◌, ◌^◌, ◌≤◌, eqb, max, drop, get_or, length}
 use Rattle.std.proofs.Common.{ap, sym, ◌∙◌, add-one, arith, drop_of_length-le, length-append, pow_pos, drop-cons, eq-eqb, ne_eqb}
 use Rattle.std.specs.Int.Count.{ones}
 use borrow.Table.Steps.{cases}
@@ -21,6 +21,21 @@ one-digit x h = ap length (decimal_small x h)
 pub more-digits : (x : ℕ) → 10 ≤ x → x < 2 ^ 64 → length (decimal x) ≡ length (decimal (x / 10)) + 1
 more-digits x h l = ap length (decimal-more x h l) ∙ length-append (decimal (x / 10)) (digit (x % 10) ∷ [])
 
+ten_some : (k : ℕ) → 0 < 10 ^ k
+ten_some zero = omega arith
+ten_some (suc k) = omega (arith, ten_some k)
+
+digits_between : (k x : ℕ) → x < 2 ^ 64 → 10 ^ k ≤ x → x < 10 * 10 ^ k → length (decimal x) ≡ k + 1
+digits_between zero x f l m = one-digit x (omega arith)
+digits_between (suc k) x f l m =
+    let p = ten_some k in
+    omega (arith, more-digits x (omega arith) f, digits_between k (x / 10) (omega arith) (omega arith) (omega arith))
+
+-- 0 has as many digits as 1
+pub digit_count : (k x : ℕ) → x < 2 ^ 64 → 10 ^ k ≤ max x 1 → max x 1 < 10 * 10 ^ k → k + 1 ≡ length (decimal x)
+digit_count zero x f l m = sym (one-digit x (omega arith))
+digit_count (suc k) x f l m = sym (digits_between (suc k) x f (omega (arith, ten_some k)) (omega arith))
+
 -- ## A row
 
 pub ones_alone : (m : ℕ) → ones (2 ^ m) ≡ 1
@@ -33,15 +48,15 @@ one_image_lem m h =
     let e : suc m - 1 ≡ m = omega arith in
     rw (image_of_lem m h, e, eq-eqb (2 ^ m) (2 ^ m) refl) refl
 
-pub other-bytes : (S : ℕ) → (ones S ≡ 1 → ⊥) → 1 ≡ head_bytes S
+pub other_bytes : (S : ℕ) → (ones S ≡ 1 → ⊥) → 1 ≡ head_bytes S
 unfolding head_bytes
-other-bytes S h = rw (ne_eqb S (image_side (image_of S)) (λ e. h (ap ones e ∙ ones_alone (image_of S - 1)))) refl
+other_bytes S h = rw (ne_eqb S (image_side (image_of S)) (λ e. h (ap ones e ∙ ones_alone (image_of S - 1)))) refl
 
 pub more-images : (S : ℕ) → 2 ≤ ones S → head_bytes S ≡ 1
-more-images S h = sym (other-bytes S (λ e. omega arith))
+more-images S h = sym (other_bytes S (λ e. omega arith))
 
-pub alone-bytes : (S : ℕ) → S < 2 ^ 64 → ones S ≡ 1 → length (decimal (image_of S)) ≡ head_bytes S
-alone-bytes S f e =
+pub alone_bytes : (S : ℕ) → S < 2 ^ 64 → ones S ≡ 1 → length (decimal (image_of S)) ≡ head_bytes S
+alone_bytes S f e =
     let r = ones_one 64 S f e in
     let i : image_of S ≡ suc r.0 = ap image_of r.2 ∙ image_of_lem r.0 r.1 in
     ap (λ (x : ℕ). length (decimal x)) i ∙ sym (ap head_bytes r.2 ∙ one_image_lem r.0 r.1)
@@ -54,9 +69,9 @@ pub row_is : (S c : ℕ) → head_bytes S + length (decimal c) + 2 ≡ row_bytes
 unfolding row_bytes
 row_is S c = omega arith
 
-pub row-most : (r : Row) → row_bytes r ≤ 42
+pub row_most : (r : Row) → row_bytes r ≤ 42
 unfolding row_bytes
-row-most r = omega (arith, head_most r.0, decimal-most r.1)
+row_most r = omega (arith, head_most r.0, decimal-most r.1)
 
 -- ## All rows: those from k on
 

@@ -1,33 +1,11 @@
 -- Every kind of answer crosses and nothing is lost: it can be read back from its numbers. Those of stored tables are in KeptStored.antt.
 -- Assumes nothing.
-use Rattle.std.specs.Prelude.{cond, ◌⊎◌, refl, ◌≡◌, ℕ, ◌<◌, eqb}
+use Rattle.std.specs.Prelude.{cond, ◌⊎◌, ◌≡◌, ℕ, eqb}
 use Rattle.std.proofs.Common.{inl, inr, ap, sym, ◌∙◌, arith, ne_eqb}
-use Rattle.ground.specs.declared.Answer.{Answer}
-use Rattle.ground.specs.declared.Answer.TheVariants.{Value}
 use Rattle.ground.specs.declared.Refusal.{Refusal}
-use Rattle.ground.specs.declared.SignedAnswer.{SignedAnswer}
-use Rattle.ground.specs.declared.Written.{Written}
-use Rattle.ground.specs.declared.Written.TheVariants.{Places}
-use Rattle.compare.specs.declared.Comparison.{Comparison}
-use Rattle.compare.specs.declared.Comparison.TheVariants.{Compared}
-use Rattle.consensus.specs.declared.Shared.{Shared}
-use Rattle.consensus.specs.declared.Shared.TheVariants.{Rows}
 use Rattle.numbers.specs.Heads.{refused}
 use Rattle.numbers.specs.Kept.{Kept, Numbered}
-use Rattle.numbers.specs.Levels.{of_levels}
-use Rattle.numbers.specs.Numbers.{of_comparison, of_index, of_order, of_path, of_rows, of_shared}
-use Rattle.numbers.specs.declared.KemotuikiComparison.{KemotuikiComparison}
 use Rattle.numbers.specs.declared.KemotuikiHead.{KemotuikiHead}
-use Rattle.numbers.specs.declared.KemotuikiIndex.{KemotuikiIndex}
-use Rattle.numbers.specs.declared.KemotuikiLevels.{KemotuikiLevels}
-use Rattle.numbers.specs.declared.KemotuikiOrder.{KemotuikiOrder}
-use Rattle.numbers.specs.declared.KemotuikiPath.{KemotuikiPath}
-use Rattle.numbers.specs.declared.KemotuikiRows.{KemotuikiRows}
-use Rattle.ground.specs.declared.Answer.TheVariants as answer
-use Rattle.ground.specs.declared.SignedAnswer.TheVariants as signed
-use Rattle.ground.specs.declared.Written.TheVariants as written
-use Rattle.compare.specs.declared.Comparison.TheVariants as compared
-use Rattle.consensus.specs.declared.Shared.TheVariants as shared
 
 -- the refusal
 abbrev pub refusal_of : KemotuikiHead → Refusal

@@ -1,8 +1,7 @@
 -- The answer of a replay crosses and nothing is lost, the images and rows of a refused event included. Assumes nothing.
+use Rattle.ground.specs.Refusals.{Check}
 use Rattle.std.proofs.Common.{inl, inr, ap, ◌∙◌}
-use Rattle.std.specs.Prelude.{refl, ◌≡◌}
-use Rattle.ground.specs.declared.Check.{Check}
-use Rattle.ground.specs.declared.Check.TheVariants.{Passed, Refused}
+use Rattle.std.specs.Prelude.{refl, ◌≡◌, Ok, Err}
 use Rattle.leaving.specs.declared.Replayed.{Replayed}
 use Rattle.numbers.specs.Kept.{Kept, Numbered}
 use Rattle.numbers.specs.Laws.Kept.{ReadBack, kept}
@@ -10,15 +9,15 @@ use Rattle.numbers.specs.Replays.{of_check, of_replayed}
 use Rattle.numbers.specs.declared.KemotuikiHead.{KemotuikiHead}
 use Rattle.numbers.specs.declared.KemotuikiReplay.{KemotuikiReplay}
 
-pub check_kept : Kept (λ (k : KemotuikiHead). k) of_check (λ m. Refused)
-check_kept = kept (λ k. k) of_check (λ m. Refused) (λ k. Passed) (λ m q. refl) each
+pub check_kept : Kept (λ (k : KemotuikiHead). k) of_check (λ m. Err)
+check_kept = kept (λ k. k) of_check (λ m. Err) (λ k. (Ok tt)) (λ m q. refl) each
   where
-    each : (c : Check) → ReadBack (λ (k : KemotuikiHead). k) of_check (λ m. Refused) (λ k. Passed) c
-    each Passed = inr (refl, refl)
-    each (Refused q) = inl (0, q, refl, refl)
+    each : (c : Check) → ReadBack (λ (k : KemotuikiHead). k) of_check (λ m. Err) (λ k. (Ok tt)) c
+    each (Ok tt) = inr (refl, refl)
+    each (Err q) = inl (0, q, refl, refl)
 
 -- no second answer crosses as the same numbers
-pub replay-kept : (x y : Replayed) → Numbered (λ m. Refused) x.stop → Numbered (λ m. Refused) y.stop → of_replayed x ≡ of_replayed y → x ≡ y
+pub replay-kept : (x y : Replayed) → Numbered (λ m. Err) x.stop → Numbered (λ m. Err) y.stop → of_replayed x ≡ of_replayed y → x ≡ y
 replay-kept x y m o e =
     let stop : x.stop ≡ y.stop = check_kept.once x.stop y.stop m o (ap (λ (k : KemotuikiReplay). k.head) e) in
     let images : x.images ≡ y.images = ap (λ (k : KemotuikiReplay). k.images) e in

@@ -1,19 +1,18 @@
 -- The checks of the order call pass exactly for what may be asked. Assumes nothing.
-use Rattle.std.specs.Prelude.{◌||◌, List, ◌↔◌, ◌≡◌, ℕ, ◌-◌, ◌<◌, ltb}
+use Rattle.std.specs.Prelude.{◌||◌, List, ◌↔◌, ◌≡◌, ℕ, ◌-◌, ◌<◌, ltb, Ok}
 use Rattle.std.proofs.Common.{arith}
 use Rattle.std.proofs.Math.Dec.{eqb}
 use borrow.Author.Tests.{eqb-false, le-ltb, ltb-false, ne_eqb}
 use Rattle.ground.specs.Refusals.{outside, room_check, ◌then◌}
 use Rattle.ground.specs.Laws.Refusals.{outside_false, refuse_if-passed, then_passed}
 use Rattle.ground.specs.Laws.Tests.{or_false}
-use Rattle.ground.specs.declared.Check.TheVariants.{Passed}
 use Rattle.theory.specs.Tables.{cost}
 use Rattle.tables.specs.Checks.{costs_check, size_check}
 use Rattle.tables.proofs.Laws.Formed.{cost-table}
 use Rattle.order.specs.Outcome.{OrderAsked, bad_ends, ends_check, order_checks}
 
 module _ (L n : ℕ) (t : List ℕ) (first last room : ℕ) where
-  pub passed_asked : order_checks L n t first last room ≡ Passed → OrderAsked L n t first last room
+  pub passed_asked : order_checks L n t first last room ≡ Ok tt → OrderAsked L n t first last room
   unfolding order_checks
   passed_asked e =
       let p = then_passed (size_check n t) (room_check n room then costs_check L (cost t n) n then ends_check n first last) e in
@@ -33,7 +32,7 @@ module _ (L n : ℕ) (t : List ℕ) (first last room : ℕ) where
         differ = eqb-false first last b.1;
       }
 
-  pub asked_passed : OrderAsked L n t first last room → order_checks L n t first last room ≡ Passed
+  pub asked_passed : OrderAsked L n t first last room → order_checks L n t first last room ≡ Ok tt
   unfolding order_checks
   asked_passed a =
       let p = then_passed (size_check n t) (costs_check L (cost t n) n) ((cost-table L n t).1 a.table) in
@@ -48,7 +47,7 @@ module _ (L n : ℕ) (t : List ℕ) (first last room : ℕ) where
         ne_eqb first last a.differ,
       )
 
-  pub asked : (order_checks L n t first last room ≡ Passed) ↔ OrderAsked L n t first last room
+  pub asked : (order_checks L n t first last room ≡ Ok tt) ↔ OrderAsked L n t first last room
   asked = (passed_asked, asked_passed)
 
   -- first and last, counted from 0, are two different images

@@ -4,9 +4,6 @@ use Rattle.bits.specs.Laws.Numbers.{length-bits_of}
 use Rattle.packer.specs.Laws.Putting.{put_then, room-started, room_then}
 use Rattle.packer.proofs.start.Goals as goal
 
-pub put-marked-requires : goal.put-marked-requires
-put-marked-requires c = (c.requires.0, room-started c.args.form.head (omega (arith, c.requires.1)))
-
 pub put-requires : goal.put-requires
 put-requires c =
     (omega arith, rw c.put-marked.auto.out (room_then 7 (room-started (c.args.form.head + 7) c.requires.1) c.put-marked.ensures (rw length-bits_of (omega arith))))

@@ -99,6 +99,17 @@ module _ (h add m : ℕ) (s w : List ℕ) (k : KeepRoom add m s w) where
           ∙ costly-append (kept h add (rows_in s w i)) (kept (left h (rows_in s w i)) add rest)
           ∙ ap (λ R. costly (kept h add (rows_in s w i)) ++ R) none ∙ append-nil (costly (kept h add (rows_in s w i))))
 
+  pub keeping_stops : (i : ℕ) (s' w' : List ℕ) (togo : ℕ) → Keeping h add i m s w togo s' w' → togo ≡ 0 → KeepRows h add m s w i s' w'
+  keeping_stops i s' w' togo c e = keeping_end i s' w' togo c (λ l. e)
+
+  pub keeping_ends : (i : ℕ) (s' w' : List ℕ) (togo : ℕ) → Keeping h add i m s w togo s' w' → m ≤ i → KeepRows h add m s w m s' w'
+  keeping_ends i s' w' togo c l =
+      let q : i ≡ m = omega (arith, c.at) in
+      rw q at (keeping_end i s' w' togo c (λ h. absurd (omega arith)))
+
+-- what the loop names
+pub ruleset ends = (keeping_stops, keeping_ends)
+
 -- ## One row more at the end
 
 pub add_none : (s w : List ℕ) (m S c : ℕ) → c ≡ 0 → AddRow s w m S c m s w

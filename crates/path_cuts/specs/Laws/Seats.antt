@@ -10,5 +10,9 @@ module _ (d : ℕ → ℕ → ℕ) (l : List ℕ) (p x z : ℕ) (b : x ≡ seat 
   unfolding height
   seats_height = rw (b, c, add-one p, f)
 
+  pub height_by : height (placed d (seat l)) p (suc p) ≡ d 0 x + d 0 z - d x z
+  unfolding height
+  height_by = rw (b, c, add-one p, f)
+
   pub seats_own : d 0 z + d x z - d 0 x ≡ own_cost (placed d (seat l)) p
   seats_own = rw (b, c, add-one p, f)

@@ -1,5 +1,5 @@
 -- Which images can be grafted, by the test and as facts. Assumes nothing.
-use Rattle.std.specs.Prelude.{Bool, false, true, ◌≡◌, suc, ℕ, ◌+◌, ◌-◌}
+use Rattle.std.specs.Prelude.{Bool, false, true, ◌≡◌, suc, ℕ, ◌+◌}
 use Rattle.std.proofs.Common.{arith, eq-eqb, eqb-true, le-leb, leb-true}
 use Rattle.ground.specs.Laws.Tests.{and_l, and_r}
 use Rattle.recognition.specs.Laws.Below.{all-below, below_all}

@@ -24,3 +24,6 @@ pub about-most : (number table : ℕ) → length (about_table number table) ≤ 
 unfolding about_table bytes_of
 about-most number table =
     cases (eqb number 0 || eqb table 0) (λ e. rw e (omega arith)) (λ e. rw e (simp length-append (omega (arith, field-most table))))
+
+-- for code that writes it
+pub ruleset by_number = (about-accepted, about_none, about-most)

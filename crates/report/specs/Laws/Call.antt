@@ -1,20 +1,18 @@
 -- The report's own check, and what it leaves. Assumes nothing.
-use Rattle.std.specs.Prelude.{List, refl, ◌≡◌, ℕ, ltb, length}
+use Rattle.ground.specs.Refusals.{Check}
+use Rattle.std.specs.Prelude.{List, refl, ◌≡◌, ℕ, ltb, length, Ok, Err}
 use Rattle.std.proofs.Common.{sym, ◌∙◌, ltb-false}
 use Rattle.ground.specs.Laws.Refusals.{refuse_if-passed}
 use Rattle.ground.specs.Laws.Tests.{or_false}
-use Rattle.ground.specs.declared.Check.{Check}
-use Rattle.ground.specs.declared.Check.TheVariants.{Passed, Refused}
 use Rattle.ground.specs.declared.Refusal.{Refusal}
 use Rattle.theory.specs.Tables.{limit}
 use Rattle.seen.specs.Columns.{Room}
 use Rattle.figures.specs.Figures.{no_figures}
-use Rattle.report.specs.Outcome.{LeftReport, outcome, report_outcome, room_check, short}
+use Rattle.report.specs.Outcome.{LeftReport, outcome, report_outcome, room_check, short, Report}
 use Rattle.figures.specs.Checks.{most_sides}
 use Rattle.figures.specs.Reading.{read_all}
-use Rattle.report.specs.declared.TermReport.{TermReport}
 
-pub room-passed : (f t s : List ℕ) → room_check (length f) (length t) (length s) ≡ Passed → Room most_sides f t s
+pub room-passed : (f t s : List ℕ) → room_check (length f) (length t) (length s) ≡ Ok tt → Room most_sides f t s
 room-passed f t s e =
     let a = or_false (ltb (length f) most_sides) _ (refuse_if-passed (short (length f) (length t) (length s)) _ e) in
     let b = or_false (ltb (length t) most_sides) (ltb (length s) most_sides) a.1 in
@@ -22,14 +20,14 @@ room-passed f t s e =
 
 module _ (bytes f t s : List ℕ) (c : Check) (e : c ≡ room_check (length f) (length t) (length s)) where
   -- refused with 3: nothing is altered
-  pub left-short : (r : Refusal) → c ≡ Refused r
+  pub left-short : (r : Refusal) → c ≡ Err r
       → LeftReport (report_outcome limit bytes f t s)
       (record { figures = no_figures; table = 0; stop = c }) f t s
   left-short r p = rw (sym e ∙ p, p) (record { answered = refl; far-sides = refl; tree_numbers = refl; cost_sums = refl })
 
-  pub left_read : (x : TermReport) (f' t' s' : List ℕ) → c ≡ Passed → LeftReport (outcome limit Passed (read_all limit bytes) f t s) x f' t' s'
+  pub left_read : (x : Report) (f' t' s' : List ℕ) → c ≡ Ok tt → LeftReport (outcome limit (Ok tt) (read_all limit bytes) f t s) x f' t' s'
       → LeftReport (report_outcome limit bytes f t s) x f' t' s'
   left_read x f' t' s' p l = rw (sym e ∙ p) l
 
-  pub call_room : c ≡ Passed → Room most_sides f t s
+  pub call_room : c ≡ Ok tt → Room most_sides f t s
   call_room p = room-passed f t s (sym e ∙ p)

@@ -1,13 +1,11 @@
 -- The tables read stand one behind the other, and are cost tables over one n. Assumes nothing.
 use mathlib.Core.List.Memᴰ
-use Rattle.std.specs.Prelude.{List, [], ◌++◌, ◌∷◌, refl, ◌≡◌, suc, zero, ℕ, ◌+◌, ◌<◌, ◌≤◌, ltb, drop, length}
+use Rattle.std.specs.Prelude.{List, [], ◌++◌, ◌∷◌, refl, ◌≡◌, suc, zero, ℕ, ◌+◌, ◌<◌, ◌≤◌, ltb, drop, length, Ok, Err}
 use Rattle.std.proofs.Common.{ap, sym, ◌∙◌, arith, drop_of_length-le, length-append, length-drop, drop-drop, ltb-false, ltb-true}
 use borrow.Table.Steps.{cases}
 use Rattle.ground.specs.Laws.Filters.{each_end}
 use Rattle.ground.specs.Laws.Refusals.{refuse_if-passed, then_passed}
-use Rattle.ground.specs.Refusals.{◌then◌}
-use Rattle.ground.specs.declared.Check.{Check}
-use Rattle.ground.specs.declared.Check.TheVariants.{Passed, Refused}
+use Rattle.ground.specs.Refusals.{◌then◌, Check}
 use Rattle.theory.specs.Tables.{CostTable, limit}
 use Rattle.seen.specs.Seen.{seen}
 use Rattle.figures.specs.Figures.{sides_at}
@@ -23,7 +21,7 @@ use Rattle.report.specs.Laws.Onward.{next_within, on_some}
 use Rattle.report.specs.Laws.Next.{same_passed}
 
 -- a table that passed its checks: a cost table, over the n of those before
-next_sound : (ts : List Table) (b : List ℕ) → Sound limit ts → next_check limit ts b ≡ Passed → Sound limit (ts ++ (table_at b ∷ []))
+next_sound : (ts : List Table) (b : List ℕ) → Sound limit ts → next_check limit ts b ≡ Ok tt → Sound limit (ts ++ (table_at b ∷ []))
 unfolding next_check
 next_sound ts b s e =
     let tb = table_at b in
@@ -63,8 +61,8 @@ read_so bytes (suc k) ts f e w =
     on : (c : Check) → next_check limit ts b ≡ c → used_by ts < length bytes → Next
         → ReadSo bytes (go_on c ts (read_on limit k (ts ++ (table_at b ∷ [])) (drop (table_at b).used b))).read
         (go_on c ts (read_on limit k (ts ++ (table_at b ∷ [])) (drop (table_at b).used b))).stop
-    on (Refused r) q h ih = record { follows = f; few = omega arith; within = w; ends = refused r (omega arith) h q refl }
-    on Passed q h ih =
+    on (Err r) q h ih = record { follows = f; few = omega arith; within = w; ends = refused r (omega arith) h q refl }
+    on (Ok tt) q h ih =
         let tb = table_at b in
         let d : drop tb.used b ≡ drop (used_by (ts ++ (tb ∷ []))) bytes =
         drop-drop tb.used (used_by ts) bytes ∙ ap (λ (j : ℕ). drop j bytes) (sym (sum_end ts tb)) in

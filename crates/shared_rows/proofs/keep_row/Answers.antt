@@ -6,11 +6,3 @@ use Rattle.shared_rows.proofs.keep_row.Goals as goal
 pub overflow_add-result : goal.overflow_add-result
 overflow_add-result c =
     let q : c.one_same.result ≤ 1 = rw c.one_same.ensures (same_le _ _) in omega (arith, q)
-
-pub returns : goal.returns
-returns c =
-    record {
-      count = ap (λ (k : ℕ). c.args.at + k) c.one_same.ensures;
-      fars = refl;
-      costs = ap (set c.args.costs.now c.args.at) c.met_cost.ensures;
-    }

@@ -5,7 +5,7 @@ use Rattle.shared_rows.proofs.met_cost.Goals as goal
 
 pub returns-then-x-y : goal.returns-then-x-y
 unfolding met_cost
-returns-then-x-y c = rw (eq-eqb _ _ c.if-x-y.true) c.lower.ensures
+returns-then-x-y c = rw (eq-eqb _ _ c.if-x-y.true) c.min.ensures
 
 pub returns-else-x-y : goal.returns-else-x-y
 unfolding met_cost

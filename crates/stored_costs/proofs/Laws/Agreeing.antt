@@ -1,5 +1,5 @@
 -- More images have more entries, and entries that agree say the same: the same checks and the same table. Assumes nothing.
-use Rattle.std.specs.Prelude.{refl, ◌≡◌, max, min, suc, zero, ℕ, ◌%◌, ◌*◌, ◌-◌, ◌/◌, ◌<◌, ◌≤◌, eqb}
+use Rattle.std.specs.Prelude.{refl, ◌≡◌, max, min, suc, zero, ℕ, ◌%◌, ◌*◌, ◌/◌, ◌<◌, ◌≤◌, eqb}
 use Rattle.std.proofs.Common.{div-lt_iff_lt-mul, mod-lt, mul-le-mul_left, arith}
 use Rattle.std.proofs.lemmas.Bool.{eqb-false}
 use borrow.Table.Steps.{cases}

@@ -3,13 +3,11 @@
 use mathlib.Core.List.{List, ◌++◌}
 use Rattle.std.proofs.Math.Path.{ap, refl}
 use Rattle.std.proofs.Common.{◌∙◌, arith, length-drop}
-use Rattle.std.specs.Prelude.{◌≡◌, ℕ, ◌*◌, ◌+◌, ◌/◌, ◌<◌, ◌≤◌, length, take}
+use Rattle.std.specs.Prelude.{◌≡◌, ℕ, ◌*◌, ◌+◌, ◌/◌, ◌<◌, ◌≤◌, length, take, Ok, Err}
 use Rattle.std.proofs.Math.ListN.{drop}
 use Rattle.std.proofs.Math.Seq.{drop-append-le}
 use Rattle.ground.specs.Outcomes.{Outcome, front_if}
-use Rattle.ground.specs.Refusals.{◌then◌}
-use Rattle.ground.specs.declared.Check.{Check}
-use Rattle.ground.specs.declared.Check.TheVariants.{Passed, Refused}
+use Rattle.ground.specs.Refusals.{◌then◌, Check}
 use Rattle.bits.specs.Bits.{value_of}
 use Rattle.bits.specs.Forms.{bytes_for, field_value, fill_width}
 use Rattle.bits.specs.Kinds.{end_check, position_check}
@@ -21,10 +19,9 @@ use Rattle.cost_forms.specs.Form.{cost_end, cost_used}
 use Rattle.cost_forms.specs.Said.{entry_of, fill_of, images_of, stored_table}
 use Rattle.stored_costs.proofs.Laws.Agreeing.{agreeing_checks, agreeing_tables, end_grows}
 use Rattle.stored_costs.proofs.Laws.Passed.{read_at_passed, start-passed}
-use Rattle.stored_costs.specs.Outcomes.{read_outcome, table_if}
+use Rattle.stored_costs.specs.Outcomes.{read_outcome, table_if, StoredCosts}
 use Rattle.stored_costs.specs.Reading.{body_checks, read_at_checks, read_checks, start_checks, values_check}
 use Rattle.stored_costs.specs.Stored.{read_into}
-use Rattle.stored_costs.specs.declared.StoredCosts.{StoredCosts}
 use Rattle.ground.specs.Laws.Refusals.{then_same}
 
 -- the bytes s reach as far as reading looks: to the end of n, and where n is one of a table to the end of the table
@@ -103,12 +100,12 @@ module _ (form : Form) (position : ℕ) (out : List ℕ) where
     where
       go : (c : Check) → read_at_checks form bytes position (length out) ≡ c
           → left_from form out c (drop (position / 8) bytes ++ b) ≡ left_from form out c (drop (position / 8) bytes)
-      go Passed e =
+      go (Ok tt) e =
           let s = drop (position / 8) bytes in
           ap (λ (n : ℕ). read_into n (cost_used form n) (stored_table form n (s ++ b)) out) (images-behind form s b reach)
           ∙ ap (λ (t : List ℕ). read_into (images_of form s) (cost_used form (images_of form s)) t out)
           (table-behind form s b reach (read_at_passed form bytes position (length out) e).2.few)
-      go (Refused r) e = refl
+      go (Err r) e = refl
 
   -- so no byte matters behind as many as the longest table has
   pub read_first : (bytes : List ℕ) → read_outcome form bytes position out ≡ read_outcome form (take (position / 8 + cost_used form 64) bytes) position out

@@ -1,11 +1,9 @@
 -- Reading the table that the bytes s begin with into places enough for every table: 3 is never the answer. Assumes nothing.
-use Rattle.std.specs.Prelude.{List, ◌++◌, refl, ◌≡◌, ℕ, ◌*◌, ◌+◌, ◌≤◌, length, take}
+use Rattle.std.specs.Prelude.{List, ◌++◌, refl, ◌≡◌, ℕ, ◌*◌, ◌+◌, ◌≤◌, length, take, Ok, Err}
 use Rattle.std.proofs.Common.{ap, sym, ◌∙◌, arith, take_at, le-ltb}
 use Rattle.ground.specs.Outcomes.{Left}
-use Rattle.ground.specs.Refusals.{outside, room_check, ◌then◌}
+use Rattle.ground.specs.Refusals.{outside, room_check, ◌then◌, Check}
 use Rattle.ground.specs.Laws.Refusals.{outside_false, refuse_if-passed}
-use Rattle.ground.specs.declared.Check.{Check}
-use Rattle.ground.specs.declared.Check.TheVariants.{Passed, Refused}
 use Rattle.ground.specs.declared.Refusal.{Refusal}
 use Rattle.theory.specs.Checks.{images_check}
 use Rattle.theory.specs.Tables.{CostTable, cost, limit}
@@ -25,14 +23,12 @@ use Rattle.stored_costs.proofs.Laws.Told.{form_fits, form_limit, told_costs}
 use Rattle.stored_costs.specs.Outcomes.{read_either}
 use Rattle.stored_costs.specs.Reading.{body_checks, read_at_checks, read_checks, table_checks, values_check}
 use Rattle.stored_costs.specs.Stored.{Readable}
-use Rattle.stored_costs.specs.declared.StoredCosts.TheVariants.{Table}
-use Rattle.stored_costs.specs.declared.StoredCosts.TheVariants as stored
 
 -- a check that passes wherever the one before it does can be left out
-without : (e i r b : Check) → (i ≡ Passed → r ≡ Passed) → ((e then i then r) then b) ≡ (e then i then b)
-without (Refused q) i r b h = refl
-without Passed (Refused q) r b h = refl
-without Passed Passed r b h = rw (h refl) refl
+without : (e i r b : Check) → (i ≡ Ok tt → r ≡ Ok tt) → ((e then i then r) then b) ≡ (e then i then b)
+without (Err q) i r b h = refl
+without (Ok u) (Err q) r b h = refl
+without (Ok u) (Ok w) r b h = rw (h refl) refl
 
 module _ (form : Form) (s : List ℕ) where
   pub enough_room : (room : ℕ) → 4096 ≤ room → read_checks form s room ≡ table_checks form s
@@ -47,14 +43,14 @@ module _ (form : Form) (s : List ℕ) where
   front_checks room h = rw (le-ltb (length s) 0 (omega arith)) (enough_room room h)
 
   -- bytes that pass say a table
-  pub table_readable : table_checks form s ≡ Passed → Readable form s 4096
+  pub table_readable : table_checks form s ≡ Ok tt → Readable form s 4096
   table_readable e = read_passed form s 4096 (enough_room 4096 (omega arith) ∙ e)
 
-  pub readable_table : Readable form s 4096 → table_checks form s ≡ Passed
+  pub readable_table : Readable form s 4096 → table_checks form s ≡ Ok tt
   readable_table r = sym (enough_room 4096 (omega arith)) ∙ passed_read form s 4096 r
 
 -- which is a cost table, in whichever form
-pub table_said_lem : (s : List ℕ) → table_checks (cost_form_at s 0) s ≡ Passed
+pub table_said_lem : (s : List ℕ) → table_checks (cost_form_at s 0) s ≡ Ok tt
     → CostTable limit (images_of (cost_form_at s 0) s) (stored_table (cost_form_at s 0) (images_of (cost_form_at s 0) s) s)
 table_said_lem s e =
     let form = cost_form_at s 0 in
@@ -65,7 +61,7 @@ table_said_lem s e =
 -- what was stored, whatever follows it: it tells its form, and passes as the table that it is
 pub record TableStored (e : Edition) (n : ℕ) (t s : List ℕ) : Type 0 where
   pub told : edition_of s ≡ e
-  pub passed : table_checks (cost_form e) s ≡ Passed
+  pub passed : table_checks (cost_form e) s ≡ Ok tt
   pub images : images_of (cost_form e) s ≡ n
   pub table : stored_table (cost_form e) n s ≡ t
 
@@ -81,23 +77,23 @@ table_stored e n t behind c = record {
 -- ## What the call leaves in places enough for every table
 
 module _ (s o d : List ℕ) (h : 4096 ≤ length o) where
-  pub front-refused : (q : Refusal) → Left (read_either s 0 o) (stored.Refused q) d → table_checks (cost_form_at s 0) s ≡ Refused q
+  pub front-refused : (q : Refusal) → Left (read_either s 0 o) (Err q) d → table_checks (cost_form_at s 0) s ≡ Err q
   front-refused q p =
       sym (front_checks (cost_form_at s 0) s (length o) h) ∙ judged-refused (cost_form_at s 0) s 0 (length o) q (sym p.answered)
 
   -- the table that was read stands in front
   pub record TableRead (n : ℕ) : Type 0 where
     pub few : n ≤ 64
-    pub passed : table_checks (cost_form_at s 0) s ≡ Passed
+    pub passed : table_checks (cost_form_at s 0) s ≡ Ok tt
     pub images : images_of (cost_form_at s 0) s ≡ n
     pub stands : take (n * n) d ≡ stored_table (cost_form_at s 0) n s
     pub table : CostTable limit n (take (n * n) d)
 
-  pub front_read : (n used : ℕ) → Left (read_either s 0 o) (Table n used) d → TableRead n
+  pub front_read : (n used : ℕ) → Left (read_either s 0 o) (Ok (record { n = n; used = used })) d → TableRead n
   front_read n used p =
       let form = cost_form_at s 0 in
       let a = table-at form s 0 (length o) n used (sym p.answered) in
-      let k : table_checks form s ≡ Passed = sym (front_checks form s (length o) h) ∙ a.passed in
+      let k : table_checks form s ≡ (Ok tt) = sym (front_checks form s (length o) h) ∙ a.passed in
       let m = images_of form s in
       let t = stored_table form m s in
       let w : take (m * m) d ≡ t = ap (take (m * m)) (rw a.passed at p.left) ∙ take_at t _ (m * m) (length-table (entry_of form s) m) in

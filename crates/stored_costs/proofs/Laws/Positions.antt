@@ -1,5 +1,5 @@
 -- Reading at a position: the rest of the bytes, what was written, and the bytes used. Assumes nothing.
-use Rattle.std.specs.Prelude.{List, ◌++◌, refl, ◌≡◌, ℕ, ◌%◌, ◌*◌, ◌/◌, ◌<◌, ◌^◌, ◌≤◌, drop, length, take}
+use Rattle.std.specs.Prelude.{List, ◌++◌, refl, ◌≡◌, ℕ, ◌%◌, ◌*◌, ◌/◌, ◌<◌, ◌^◌, ◌≤◌, drop, length, take, Ok}
 use Rattle.std.proofs.Common.{ap, sym, ◌∙◌, length-append}
 use native.Mathlib.Omega.{arith}
 use Rattle.std.proofs.Math.Seq.{drop-append_seam}
@@ -14,10 +14,8 @@ use Rattle.cost_forms.specs.Said.{stored_table, images_of}
 use Rattle.stored_costs.proofs.Laws.Passed.{passed_read, table-at}
 use Rattle.stored_costs.specs.Laws.ReadBack.{written_costs_of, written_images, written_readable}
 use Rattle.stored_costs.specs.Laws.WriteBack.{read_written}
-use Rattle.stored_costs.specs.Outcomes.{judged, read_outcome, table_if}
+use Rattle.stored_costs.specs.Outcomes.{judged, read_outcome, table_if, StoredCosts}
 use Rattle.stored_costs.specs.Reading.{read_checks}
-use Rattle.stored_costs.specs.declared.StoredCosts.{StoredCosts}
-use Rattle.stored_costs.specs.declared.StoredCosts.TheVariants.{Table}
 use Rattle.bits.specs.declared.Form.{Form}
 use Rattle.stored_costs.specs.Stored.{Readable, read_into}
 
@@ -60,7 +58,7 @@ module _ (form : Form) where
       ∙ ap (λ (x : List ℕ). read_into n (cost_used form n) x out) m
 
   -- the bytes used are the form of the table that was read
-  pub used_bytes : (bytes : List ℕ) (position room n used : ℕ) → AllBytes bytes → judged form bytes position room ≡ Table n used
+  pub used_bytes : (bytes : List ℕ) (position room n used : ℕ) → AllBytes bytes → judged form bytes position room ≡ Ok (record { n = n; used = used })
       → Marked form (drop (position / 8) bytes)
       → cost_bytes form n (cost (stored_table form n (drop (position / 8) bytes)) n) ≡ take used (drop (position / 8) bytes)
   used_bytes bytes position room n used b e m =
@@ -70,7 +68,7 @@ module _ (form : Form) where
 
   -- one stored form for one table: bytes that are read as the same table are the same
   pub same_bytes : (a b : List ℕ) (p q r s n u v : ℕ) → AllBytes a → AllBytes b
-      → judged form a p r ≡ Table n u → judged form b q s ≡ Table n v
+      → judged form a p r ≡ Ok (record { n = n; used = u }) → judged form b q s ≡ Ok (record { n = n; used = v })
       → Marked form (drop (p / 8) a) → Marked form (drop (q / 8) b)
       → stored_table form n (drop (p / 8) a) ≡ stored_table form n (drop (q / 8) b)
       → take u (drop (p / 8) a) ≡ take v (drop (q / 8) b)

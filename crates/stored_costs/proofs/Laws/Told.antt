@@ -2,7 +2,6 @@
 use Rattle.std.specs.Prelude.{List, ◌++◌, refl, ◌≡◌, ℕ, ◌*◌, ◌/◌, ◌<◌, ◌^◌, ◌≤◌, drop, length}
 use Rattle.std.proofs.Common.{ap, sym, ◌∙◌, arith}
 use Rattle.std.proofs.Math.Seq.{drop-append_seam}
-use Rattle.ground.specs.Outcomes.{Outcome}
 use Rattle.theory.specs.Tables.{CostTable, cost, limit}
 use Rattle.bits.specs.Editions.{Marked, ToldApart, edition_of}
 use Rattle.bits.specs.Laws.Editions.{told_form, told_marked}
@@ -13,7 +12,6 @@ use Rattle.cost_forms.specs.Laws.Form.{bits_costs_then}
 use Rattle.stored_costs.proofs.Laws.Positions.{read_rest, written_at}
 use Rattle.stored_costs.specs.Outcomes.{read_either, read_outcome}
 use Rattle.stored_costs.specs.Stored.{read_into}
-use Rattle.stored_costs.specs.declared.StoredCosts.{StoredCosts}
 
 pub costs-apart : ToldApart cost_form
 costs-apart = record { plain = (refl, refl); marked = (refl, refl) }

@@ -11,6 +11,3 @@ abbrev pub invariant-loop-i : goal.invariant-loop-i
 invariant-loop-i l = (l.i ≤ l.n)
     × (pairs_check (value_check l.least l.form.limit (entry_cost (entry_of l.form l.bytes) l.n)) l.n ≡ check_all
     (λ k. check_all (value_check l.least l.form.limit (entry_cost (entry_of l.form l.bytes) l.n) k) (k + 1) (l.n - (k + 1))) l.i (l.n - l.i))
-
-abbrev pub decreases-loop-i : goal.decreases-loop-i
-decreases-loop-i l = l.n - l.i

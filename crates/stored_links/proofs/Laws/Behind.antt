@@ -3,12 +3,10 @@
 use mathlib.Core.List.{List, ◌++◌}
 use Rattle.std.proofs.Math.Path.{ap}
 use Rattle.std.proofs.Common.{ap₂, ◌∙◌, mul-le-mul, arith, length-drop}
-use Rattle.std.specs.Prelude.{refl, ◌≡◌, min, ℕ, ◌*◌, ◌+◌, ◌-◌, ◌/◌, ◌<◌, ◌≤◌, drop, length, take}
+use Rattle.std.specs.Prelude.{refl, ◌≡◌, min, ℕ, ◌*◌, ◌+◌, ◌-◌, ◌/◌, ◌<◌, ◌≤◌, drop, length, take, Ok, Err}
 use Rattle.std.proofs.lemmas.List.{drop-append-le}
 use Rattle.ground.specs.Laws.Refusals.{then_passed, then_same}
-use Rattle.ground.specs.Refusals.{room_check, ◌then◌}
-use Rattle.ground.specs.declared.Check.{Check}
-use Rattle.ground.specs.declared.Check.TheVariants.{Passed, Refused}
+use Rattle.ground.specs.Refusals.{room_check, ◌then◌, Check}
 use Rattle.bits.specs.Bits.{value_of}
 use Rattle.bits.specs.Forms.{bytes_for, fill_width}
 use Rattle.bits.specs.Kinds.{end_check, position_check}
@@ -25,7 +23,7 @@ use Rattle.link_forms.specs.Said.{cost_at, costs_of, count_of, far_at, fars_of, 
 -- the bytes s reach as far as reading looks: to the end of the row count, and where n and the row count are ones of a table to the end of the table
 pub record Reaching (form : Form) (s : List ℕ) : Type 0 where
   pub begun : bytes_for (form.head + 14) ≤ length s
-  pub whole : head_checks form s ≡ Passed → used_of form s ≤ length s
+  pub whole : head_checks form s ≡ Ok tt → used_of form s ≤ length s
 
 -- with the whole table
 pub whole-reaches : (form : Form) (s : List ℕ) → used_of form s ≤ length s → Reaching form s
@@ -85,7 +83,7 @@ module _ (form : Form) (s b : List ℕ) (reach : Reaching form s) where
       then_same (end_check s (bytes_for (form.head + 14))) (end_behind s b (bytes_for (form.head + 14)) reach.begun)
       (λ p. rw (images-behind, count-behind) refl)
 
-  body_behind : head_checks form s ≡ Passed
+  body_behind : head_checks form s ≡ Ok tt
       → body_checks form (images_of form (s ++ b)) (count_of form (s ++ b)) (s ++ b) ≡ body_checks form (images_of form s) (count_of form s) s
   body_behind p = rw (images-behind, count-behind) (body_within (images_of form s) (count_of form s) (reach.whole p))
 
@@ -97,11 +95,11 @@ module _ (form : Form) (s b : List ℕ) (reach : Reaching form s) where
       then_same (head_checks form s) head_behind
       (λ p. then_same (room_check (2 * images_of form s - 3) room) (ap (λ (n : ℕ). room_check (2 * n - 3) room) images-behind) (λ q. body_behind p))
 
-  pub fars-behind : head_checks form s ≡ Passed
+  pub fars-behind : head_checks form s ≡ Ok tt
       → fars_of form (images_of form (s ++ b)) (count_of form (s ++ b)) (s ++ b) ≡ fars_of form (images_of form s) (count_of form s) s
   fars-behind p = rw (images-behind, count-behind) (fars_within (images_of form s) (count_of form s) (reach.whole p))
 
-  costs-behind : head_checks form s ≡ Passed
+  costs-behind : head_checks form s ≡ Ok tt
       → costs_of form (images_of form (s ++ b)) (count_of form (s ++ b)) (s ++ b) ≡ costs_of form (images_of form s) (count_of form s) s
   costs-behind p = rw (images-behind, count-behind) (costs_within (images_of form s) (count_of form s) (reach.whole p))
 
@@ -123,7 +121,7 @@ module _ (form : Form) (position : ℕ) (f v : List ℕ) where
     where
       go : (c : Check) → read_at_checks form bytes position (min (length f) (length v)) ≡ c
           → rows_if c form (drop (position / 8) bytes ++ b) f v ≡ rows_if c form (drop (position / 8) bytes) f v
-      go Passed e =
+      go (Ok tt) e =
           let s = drop (position / 8) bytes in
           let n = images_of form s in
           let N = count_of form s in
@@ -131,7 +129,7 @@ module _ (form : Form) (position : ℕ) (f v : List ℕ) where
           let p = (then_passed (position_check bytes position) (read_checks form s room) e).1 in
           let h = (then_passed (head_checks form s) (room_check (2 * n - 3) room then body_checks form n N s) p).0 in
           rw (fars-behind form s b reach h, costs-behind form s b reach h, images-behind form s b reach, count-behind form s b reach) refl
-      go (Refused r) e = refl
+      go (Err r) e = refl
 
   -- so no byte matters behind as many as the longest table has
   pub read_first : (bytes : List ℕ) → read_outcome form bytes position f v ≡ read_outcome form (take (position / 8 + link_used form 64 125) bytes) position f v

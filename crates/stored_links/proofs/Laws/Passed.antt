@@ -1,10 +1,8 @@
 -- What it says that the reader's checks pass, and that nothing else is needed for it. Assumes nothing.
-use Rattle.std.specs.Prelude.{List, refl, ◌≡◌, ℕ, ◌*◌, ◌+◌, ◌-◌, ◌≤◌, ltb, length}
+use Rattle.std.specs.Prelude.{List, refl, ◌≡◌, ℕ, ◌*◌, ◌+◌, ◌-◌, ◌≤◌, ltb, length, Ok, Err}
 use Rattle.std.proofs.Common.{sym, ◌∙◌, arith, le-ltb, ltb-false}
-use Rattle.ground.specs.Refusals.{room_check, ◌then◌}
+use Rattle.ground.specs.Refusals.{room_check, ◌then◌, Check}
 use Rattle.ground.specs.Laws.Refusals.{refuse_if-passed, then_passed}
-use Rattle.ground.specs.declared.Check.{Check}
-use Rattle.ground.specs.declared.Check.TheVariants.{Passed, Refused}
 use Rattle.bits.specs.Kinds.{end_check, fill_check}
 use Rattle.theory.specs.LinkTables.{LinkTable, rows_of}
 use Rattle.bits.specs.Forms.{bytes_for}
@@ -20,7 +18,7 @@ use Rattle.stored_links.specs.Stored.{Stored}
 
 -- ## Refusals 9, 1, 10, and 9, 11, 12, 13
 
-pub head_passed : (form : Form) (s : List ℕ) → head_checks form s ≡ Passed
+pub head_passed : (form : Form) (s : List ℕ) → head_checks form s ≡ Ok tt
     → (bytes_for (form.head + 14) ≤ length s) × (3 ≤ images_of form s) × (images_of form s ≤ 64) × (images_of form s ≤ count_of form s)
     × (count_of form s ≤ 2 * images_of form s - 3)
 head_passed form s e =
@@ -28,17 +26,17 @@ head_passed form s e =
     let o = count-passed (images_of form s) (count_of form s) q.1 in
     (ltb-false _ _ (refuse_if-passed (ltb (length s) (bytes_for (form.head + 14))) _ q.0), o.0, o.1, o.2, o.3)
 
-pub end_passed : (s : List ℕ) (needed : ℕ) → end_check s needed ≡ Passed → needed ≤ length s
+pub end_passed : (s : List ℕ) (needed : ℕ) → end_check s needed ≡ Ok tt → needed ≤ length s
 end_passed s needed e = ltb-false _ _ (refuse_if-passed (ltb (length s) needed) _ e)
 
-pub room-passed : (needed room : ℕ) → room_check needed room ≡ Passed → needed ≤ room
+pub room-passed : (needed room : ℕ) → room_check needed room ≡ Ok tt → needed ≤ room
 room-passed needed room e = ltb-false _ _ (refuse_if-passed (ltb room needed) _ e)
 
-pub fill_passed : (fill : ℕ) → fill_check fill ≡ Passed → fill ≡ 0
+pub fill_passed : (fill : ℕ) → fill_check fill ≡ Ok tt → fill ≡ 0
 fill_passed fill e = let z = ltb-false 0 fill (refuse_if-passed (ltb 0 fill) _ e) in omega (arith, z)
 
-pub body_passed : (form : Form) (n N : ℕ) (s : List ℕ) → body_checks form n N s ≡ Passed
-    → (link_used form n N ≤ length s) × (fill_of form n N s ≡ 0) × (row_checks form.limit n (fars_of form n N s) (costs_of form n N s) ≡ Passed)
+pub body_passed : (form : Form) (n N : ℕ) (s : List ℕ) → body_checks form n N s ≡ Ok tt
+    → (link_used form n N ≤ length s) × (fill_of form n N s ≡ 0) × (row_checks form.limit n (fars_of form n N s) (costs_of form n N s) ≡ Ok tt)
 body_passed form n N s e =
     let r = row_checks form.limit n (fars_of form n N s) (costs_of form n N s) in
     let p = then_passed (end_check s (link_used form n N)) (fill_check (fill_of form n N s) then r) e in
@@ -51,15 +49,15 @@ module _ (form : Form) (s : List ℕ) where
   same_length : (n N : ℕ) → length (fars_of form n N s) ≡ length (costs_of form n N s)
   same_length n N = length-listed (far_at form n s) N ∙ sym (length-listed (cost_at form n s) N)
 
-  pub passed-rows : (n N : ℕ) → row_checks form.limit n (fars_of form n N s) (costs_of form n N s) ≡ Passed
+  pub passed-rows : (n N : ℕ) → row_checks form.limit n (fars_of form n N s) (costs_of form n N s) ≡ Ok tt
       → LinkTable form.limit n (rows_of (fars_of form n N s) (costs_of form n N s))
   passed-rows n N e = (row_checks_lem form.limit n (fars_of form n N s) (costs_of form n N s) (same_length n N)).0 e
 
   pub rows-passed : (n N : ℕ) → LinkTable form.limit n (rows_of (fars_of form n N s) (costs_of form n N s))
-      → row_checks form.limit n (fars_of form n N s) (costs_of form n N s) ≡ Passed
+      → row_checks form.limit n (fars_of form n N s) (costs_of form n N s) ≡ Ok tt
   rows-passed n N t = (row_checks_lem form.limit n (fars_of form n N s) (costs_of form n N s) (same_length n N)).1 t
 
-  pub read_passed : (room : ℕ) → read_checks form s room ≡ Passed → Stored form (images_of form s) (count_of form s) s × (2 * images_of form s - 3 ≤ room)
+  pub read_passed : (room : ℕ) → read_checks form s room ≡ Ok tt → Stored form (images_of form s) (count_of form s) s × (2 * images_of form s - 3 ≤ room)
   read_passed room e =
       let n = images_of form s in
       let N = count_of form s in
@@ -83,7 +81,7 @@ module _ (form : Form) (s : List ℕ) where
       )
 
   -- the checks of what stands there pass, without 3 and, where there is room, with it
-  pub passed-table : (n N : ℕ) → Stored form n N s → table_checks form s ≡ Passed
+  pub passed-table : (n N : ℕ) → Stored form n N s → table_checks form s ≡ Ok tt
   passed-table n N r =
       rw (r.images, r.counted)
       (rw (
@@ -97,17 +95,17 @@ module _ (form : Form) (s : List ℕ) where
       ) (rows-passed n N r.rows))
 
   -- with so many places in each output 3 is never the answer
-  pub room_goes : (room : ℕ) → (head_checks form s ≡ Passed → 2 * images_of form s - 3 ≤ room) → read_checks form s room ≡ table_checks form s
+  pub room_goes : (room : ℕ) → (head_checks form s ≡ Ok tt → 2 * images_of form s - 3 ≤ room) → read_checks form s room ≡ table_checks form s
   room_goes room h = go (head_checks form s) h
     where
       b : Check
       b = body_checks form (images_of form s) (count_of form s) s
 
-      go : (c : Check) → (c ≡ Passed → 2 * images_of form s - 3 ≤ room) → (c then room_check (2 * images_of form s - 3) room then b) ≡ (c then b)
-      go Passed k = rw (le-ltb room (2 * images_of form s - 3) (k refl))
-      go (Refused r) k = refl
+      go : (c : Check) → (c ≡ Ok tt → 2 * images_of form s - 3 ≤ room) → (c then room_check (2 * images_of form s - 3) room then b) ≡ (c then b)
+      go (Ok tt) k = rw (le-ltb room (2 * images_of form s - 3) (k refl))
+      go (Err r) k = refl
 
-  pub passed_read : (n N room : ℕ) → Stored form n N s → 2 * n - 3 ≤ room → read_checks form s room ≡ Passed
+  pub passed_read : (n N room : ℕ) → Stored form n N s → 2 * n - 3 ≤ room → read_checks form s room ≡ Ok tt
   passed_read n N room r k = room_goes room (λ e. rw r.images k) ∙ passed-table n N r
 
   -- so the functions below may be called

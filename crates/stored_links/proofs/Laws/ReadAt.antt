@@ -1,8 +1,8 @@
 -- Reading at the start of a byte: what stands there is read, whatever stands ahead and behind. Assumes nothing.
+use Rattle.ground.specs.Refusals.{Check}
 use Rattle.std.specs.Prelude.{List, ◌++◌, refl, ◌≡◌, min, ℕ, ◌%◌, ◌*◌, ◌-◌, ◌/◌, ◌<◌, ◌^◌, ◌≤◌, drop, length, take}
 use Rattle.std.proofs.Common.{ap, ap₂, sym, ◌∙◌, arith, length-append, le-ltb}
 use Rattle.std.proofs.Math.Seq.{drop-append_seam}
-use Rattle.ground.specs.declared.Check.{Check}
 use Rattle.bits.specs.Bits.{AllBytes}
 use Rattle.bits.specs.Editions.{Marked}
 use Rattle.bits.specs.Laws.Written.{all_bytes_drop}

@@ -6,7 +6,6 @@ use Rattle.std.specs.Prelude.{◌≡◌, suc, ℕ, ◌*◌, ◌+◌, ◌-◌, �
 use Rattle.std.proofs.Math.ListN.{get_or, length, length-append}
 use Rattle.theory.proofs.Laws.RowCount.{row_count}
 use Rattle.theory.specs.LinkTables.{rows_of}
-use Rattle.theory.specs.Readings.{rows}
 use Rattle.bits.specs.Bits.{bits, bits_of, part, value_of}
 use Rattle.bits.specs.Forms.{fill_width}
 use Rattle.bits.specs.Laws.Numbers.{length-bits_of, value-bits}
@@ -19,7 +18,6 @@ use Rattle.link_forms.specs.Form.{link_bytes, link_used, row_at}
 use Rattle.link_forms.specs.Laws.Form.{all_rows, bits_links_then, front_bits, length_all_rows, length_front, length_links}
 use Rattle.link_forms.specs.Laws.Rows.{cost-found, far-found}
 use Rattle.link_forms.specs.Said.{cost_at, costs_of, count_of, far_at, fars_of, fill_of, images_of}
-use types.Part.{whole}
 use Rattle.bits.specs.declared.Form.{Form}
 use Rattle.stored_links.specs.Stored.{Stored}
 

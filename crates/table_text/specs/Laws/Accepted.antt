@@ -1,14 +1,10 @@
 -- What the calls that a listing makes have shown by then, and what they have left. Assumes nothing.
-use Rattle.std.specs.Prelude.{List, refl, ◌≡◌, ℕ, ◌≤◌, length, take}
+use Rattle.ground.specs.Refusals.{Check, Written}
+use Rattle.std.specs.Prelude.{List, refl, ◌≡◌, ℕ, ◌≤◌, length, take, Ok, Err}
 use Rattle.std.proofs.Common.{ap, sym, ◌∙◌, arith, length-take-le, take_at}
 use Rattle.std.proofs.lemmas.List.{length-map}
-use Rattle.ground.specs.declared.Check.{Check}
-use Rattle.ground.specs.declared.Check.TheVariants.{Passed, Refused}
 use Rattle.ground.specs.declared.Refusal.{Refusal}
 use Rattle.ground.specs.Outcomes.{Left, Outcome}
-use Rattle.ground.specs.declared.Written.{Written}
-use Rattle.ground.specs.declared.Written.TheVariants.{Places}
-use Rattle.ground.specs.declared.Written.TheVariants as written
 use Rattle.theory.proofs.Laws.RowCount.{row_count}
 use Rattle.theory.specs.LinkTables.{costs, far, fars, rows_of}
 use Rattle.theory.specs.Outcomes.{LeftRows}
@@ -73,12 +69,12 @@ only_tree n t f v c a b =
     exact_check_lem limit n t c.some c.few (length f) (length v) (omega (arith, c.few)) (omega (arith, c.few)) ∙ table_sized limit n t c.sized
 
 pub table-refused : (n : ℕ) (t f v f' v' : List ℕ) (q : Refusal) → CostTable limit n t → 125 ≤ length f → 125 ≤ length v
-    → LeftRows (exact_outcome limit n t f v) (written.Refused q) f' v' → tree_check limit n t ≡ Refused q
+    → LeftRows (exact_outcome limit n t f v) (Err q) f' v' → tree_check limit n t ≡ Err q
 table-refused n t f v f' v' q c a b l = go (tree_check limit n t) (rw (only_tree n t f v c a b) at l.answered)
   where
-    go : (k : Check) → written.Refused q ≡ (outcome k (exact_rows limit n t) f v).answer → k ≡ Refused q
-    go Passed e = absurd (let z : ◌≡◌ {A = ℕ} 0 1 = cc in omega arith)
-    go (Refused p) e = let s : p ≡ q = cc in ap Refused s
+    go : (k : Check) → Err q ≡ (outcome k (exact_rows limit n t) f v).answer → k ≡ Err q
+    go (Ok tt) e = absurd (let z : ◌≡◌ {A = ℕ} 0 1 = cc in omega arith)
+    go (Err p) e = let s : p ≡ q = cc in ap Err s
 
 -- the rows r that were left in front: a link table, the exact reading of the table
 pub record RowsRead (n : ℕ) (t : List ℕ) (r : ℕ) (f v : List ℕ) : Type 0 where
@@ -86,12 +82,12 @@ pub record RowsRead (n : ℕ) (t : List ℕ) (r : ℕ) (f v : List ℕ) : Type 0
   pub far-length : length (take r f) ≡ r
   pub cost-length : length (take r v) ≡ r
   pub links : Links limit n (length (take r f)) (take r f) (take r v)
-  pub passed : tree_check limit n t ≡ Passed
+  pub passed : tree_check limit n t ≡ Ok tt
   pub far-sides : take r f ≡ fars (exact_rows limit n t)
   pub doubled : take r v ≡ costs (exact_rows limit n t)
 
 pub table_read : (n : ℕ) (t f v f' v' : List ℕ) (r : ℕ) → CostTable limit n t → 125 ≤ length f → 125 ≤ length v
-    → LeftRows (exact_outcome limit n t f v) (Places r) f' v' → RowsRead n t r f' v'
+    → LeftRows (exact_outcome limit n t f v) (Ok r) f' v' → RowsRead n t r f' v'
 table_read n t f v f' v' r c a b l =
     let T = exact_rows limit n t in
     let g = go (tree_check limit n t) (rw (only_tree n t f v c a b) at l.answered) (rw (only_tree n t f v c a b) at l.far-sides)
@@ -110,18 +106,18 @@ table_read n t f v f' v' r c a b l =
       doubled = g.2;
     }
   where
-    go : (k : Check) → Places r ≡ (outcome k (exact_rows limit n t) f v).answer → f' ≡ (outcome k (exact_rows limit n t) f v).far_list
+    go : (k : Check) → Ok r ≡ (outcome k (exact_rows limit n t) f v).answer → f' ≡ (outcome k (exact_rows limit n t) f v).far_list
         → v' ≡ (outcome k (exact_rows limit n t) f v).cost_list
-        → (r ≡ length (exact_rows limit n t)) × (take r f' ≡ fars (exact_rows limit n t)) × (take r v' ≡ costs (exact_rows limit n t)) × (k ≡ Passed)
-    go Passed e x y =
+        → (r ≡ length (exact_rows limit n t)) × (take r f' ≡ fars (exact_rows limit n t)) × (take r v' ≡ costs (exact_rows limit n t)) × (k ≡ Ok tt)
+    go (Ok tt) e x y =
         let T = exact_rows limit n t in
         let s : r ≡ length T = cc in
         (s, ap (take r) x ∙ take_at (fars T) _ r (length-map T far ∙ sym s), ap (take r) y ∙ take_at (costs T) _ r (length-map T (λ q. q.1) ∙ sym s), refl)
-    go (Refused p) e x y = absurd (let z : ◌≡◌ {A = ℕ} 0 1 = cc in omega arith)
+    go (Err p) e x y = absurd (let z : ◌≡◌ {A = ℕ} 0 1 = cc in omega arith)
 
 -- ## The text of the table
 
-pub text-refused : (last n : ℕ) (t : List ℕ) (q : Refusal) → tree_check limit n t ≡ Refused q → table_text last n t ≡ refused_line q
+pub text-refused : (last n : ℕ) (t : List ℕ) (q : Refusal) → tree_check limit n t ≡ Err q → table_text last n t ≡ refused_line q
 text-refused last n t q e = rw e refl
 
 pub text_read : (last n : ℕ) (t : List ℕ) (r : ℕ) (f v : List ℕ) → RowsRead n t r f v

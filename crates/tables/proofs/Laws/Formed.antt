@@ -1,5 +1,5 @@
 -- The checks 1, 2, 4, 5, 6, 20 pass exactly for the cost tables of document 02. Assumes nothing.
-use Rattle.std.specs.Prelude.{not, List, ◌↔◌, ◌≡◌, ℕ, ◌*◌, ◌<◌, eqb, ltb, length}
+use Rattle.std.specs.Prelude.{not, List, ◌↔◌, ◌≡◌, ℕ, ◌*◌, ◌<◌, eqb, ltb, length, Ok}
 use Rattle.std.proofs.Common.{ap, sym, ◌∙◌, arith, eq-eqb, eqb-true, le-ltb, ltb-false, ltb-true}
 use Rattle.std.proofs.lemmas.Bool.{eqb-false, not-false}
 use borrow.Table.Steps.{cases}
@@ -7,7 +7,6 @@ use Rattle.ground.specs.Lowest.{check_all}
 use Rattle.ground.specs.Laws.Lowest.{all-passed, passed-all}
 use Rattle.ground.specs.Refusals.{◌then◌}
 use Rattle.ground.specs.Laws.Refusals.{refuse_if-passed, then_passed}
-use Rattle.ground.specs.declared.Check.TheVariants.{Passed}
 use Rattle.theory.specs.Checks.{images_check}
 use Rattle.theory.specs.Laws.Checks.{images-passed}
 use Rattle.theory.specs.Tables.{CostTable, WellFormed, cost}
@@ -15,7 +14,7 @@ use Rattle.tables.specs.Checks.{costs_check, diagonal_check, entries_check, entr
 use Rattle.tables.proofs.Laws.Pairs.{pairs_passed, passed_pairs}
 use Rattle.tables.specs.Formed.{Sized}
 
-pub size-passed : (n : ℕ) (t : List ℕ) → size_check n t ≡ Passed → Sized n t
+pub size-passed : (n : ℕ) (t : List ℕ) → size_check n t ≡ Ok tt → Sized n t
 size-passed n t e =
     let p = then_passed (images_check n) (length_check n t) e in
     let q = images-passed n p.0 in
@@ -25,13 +24,13 @@ size-passed n t e =
       sized = eqb-true (length t) (n * n) (not-false (eqb (length t) (n * n)) (refuse_if-passed (not (eqb (length t) (n * n))) _ p.1));
     }
 
-pub passed-size : (n : ℕ) (t : List ℕ) → Sized n t → size_check n t ≡ Passed
+pub passed-size : (n : ℕ) (t : List ℕ) → Sized n t → size_check n t ≡ Ok tt
 passed-size n t s = rw (le-ltb n 3 s.some, le-ltb 64 n s.few, eq-eqb (length t) (n * n) s.sized)
 
 -- ## 4, 5, 6 and 20
 
 module _ (d : ℕ → ℕ → ℕ) (n : ℕ) where
-  mirrored : symmetry_check d n ≡ Passed → (i j : ℕ) → i < n → j < n → d i j ≡ d j i
+  mirrored : symmetry_check d n ≡ Ok tt → (i j : ℕ) → i < n → j < n → d i j ≡ d j i
   mirrored e i j hi hj =
       cases (ltb i j) (λ t. upper i j (ltb-true i j t) hj)
       (λ t. cases (eqb i j) (λ u. let s = eqb-true i j u in ap (λ (x : ℕ). d x j) s ∙ ap (d j) (sym s))
@@ -43,14 +42,14 @@ module _ (d : ℕ → ℕ → ℕ) (n : ℕ) where
           eqb-true (d i j) (d j i) (not-false (eqb (d i j) (d j i)) (refuse_if-passed (not (eqb (d i j) (d j i))) _ m))
 
   -- 20, of any numbers
-  pub off_diagonal_passed : off_diagonal_check d n ≡ Passed → (i j : ℕ) → i < j → j < n → 0 < d i j
+  pub off_diagonal_passed : off_diagonal_check d n ≡ Ok tt → (i j : ℕ) → i < j → j < n → 0 < d i j
   off_diagonal_passed e i j l hj = ltb-false (d i j) 1 (refuse_if-passed (ltb (d i j) 1) _ (pairs_passed (least_check 1 d) n e i j l hj))
 
-  pub passed_off_diagonal : ((i j : ℕ) → i < j → j < n → 0 < d i j) → off_diagonal_check d n ≡ Passed
+  pub passed_off_diagonal : ((i j : ℕ) → i < j → j < n → 0 < d i j) → off_diagonal_check d n ≡ Ok tt
   passed_off_diagonal h = passed_pairs (least_check 1 d) n (λ i j l k. rw (le-ltb (d i j) 1 (h i j l k)))
 
 module _ (L : ℕ) (d : ℕ → ℕ → ℕ) (n : ℕ) where
-  pub costs-passed : costs_check L d n ≡ Passed → WellFormed L d n
+  pub costs-passed : costs_check L d n ≡ Ok tt → WellFormed L d n
   costs-passed e =
       let p = then_passed (entries_check L d n) (diagonal_check d n then symmetry_check d n then off_diagonal_check d n) e in
       let q = then_passed (diagonal_check d n) (symmetry_check d n then off_diagonal_check d n) p.1 in
@@ -68,7 +67,7 @@ module _ (L : ℕ) (d : ℕ → ℕ → ℕ) (n : ℕ) where
             (λ t. omega (arith, mirrored d n r.0 i j hi hj, above j i (let u = ltb-false i j t in omega (arith, h)) hi));
       }
 
-  pub passed-costs : WellFormed L d n → costs_check L d n ≡ Passed
+  pub passed-costs : WellFormed L d n → costs_check L d n ≡ Ok tt
   passed-costs c =
       rw (
         passed-all (λ i. check_all (entry_check L d i) 0 n) 0 n
@@ -81,7 +80,7 @@ module _ (L : ℕ) (d : ℕ → ℕ → ℕ) (n : ℕ) where
 -- ## Together
 
 -- the checks pass exactly when t is a cost table
-pub cost-table : (L n : ℕ) (t : List ℕ) → ((size_check n t then costs_check L (cost t n) n) ≡ Passed) ↔ CostTable L n t
+pub cost-table : (L n : ℕ) (t : List ℕ) → ((size_check n t then costs_check L (cost t n) n) ≡ Ok tt) ↔ CostTable L n t
 cost-table L n t = (
   λ e.
       let p = then_passed (size_check n t) (costs_check L (cost t n) n) e in

@@ -6,7 +6,4 @@ use Rattle.tables.specs.Checks.{zero_check}
 use Rattle.tables.proofs.check_diagonal.Given as goal
 
 abbrev pub invariant-loop-i : goal.invariant-loop-i
-invariant-loop-i l = (l.i ≤ l.n) × (check_all (zero_check (cost l.t l.n)) 0 l.n ≡ check_all (zero_check (cost l.t l.n)) l.i (l.n - l.i))
-
-abbrev pub decreases-loop-i : goal.decreases-loop-i
-decreases-loop-i l = l.n - l.i
+invariant-loop-i l = (check_all (zero_check (cost l.t l.n)) 0 l.n ≡ check_all (zero_check (cost l.t l.n)) l.i (l.n - l.i))

@@ -6,7 +6,4 @@ use Rattle.tables.specs.Checks.{entry_check}
 use Rattle.tables.proofs.check_entries.Given as goal
 
 abbrev pub invariant-loop-i : goal.invariant-loop-i
-invariant-loop-i l = (l.i ≤ l.n) × (check_all (λ i'. check_all (entry_check l.most (cost l.t l.n) i') 0 l.n) 0 l.n ≡ check_all (λ i'. check_all (entry_check l.most (cost l.t l.n) i') 0 l.n) l.i (l.n - l.i))
-
-abbrev pub decreases-loop-i : goal.decreases-loop-i
-decreases-loop-i l = l.n - l.i
+invariant-loop-i l = (check_all (λ i'. check_all (entry_check l.most (cost l.t l.n) i') 0 l.n) 0 l.n ≡ check_all (λ i'. check_all (entry_check l.most (cost l.t l.n) i') 0 l.n) l.i (l.n - l.i))

@@ -6,7 +6,4 @@ use Rattle.tables.specs.Checks.{pair_check}
 use Rattle.tables.proofs.check_pair_row.Given as goal
 
 abbrev pub invariant-loop-j : goal.invariant-loop-j
-invariant-loop-j l = (l.j ≤ l.n) × (check_all (pair_check l.least (cost l.t l.n) l.i) (l.i + 1) (l.n - (l.i + 1)) ≡ check_all (pair_check l.least (cost l.t l.n) l.i) l.j (l.n - l.j))
-
-abbrev pub decreases-loop-j : goal.decreases-loop-j
-decreases-loop-j l = l.n - l.j
+invariant-loop-j l = (check_all (pair_check l.least (cost l.t l.n) l.i) (l.i + 1) (l.n - (l.i + 1)) ≡ check_all (pair_check l.least (cost l.t l.n) l.i) l.j (l.n - l.j))

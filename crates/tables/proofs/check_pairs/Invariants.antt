@@ -9,6 +9,3 @@ abbrev pub invariant-loop-i : goal.invariant-loop-i
 invariant-loop-i l = (l.i ≤ l.n)
     × (check_all (λ i'. check_all (pair_check l.least (cost l.t l.n) i') (i' + 1) (l.n - (i' + 1))) 0 l.n ≡ check_all
     (λ i'. check_all (pair_check l.least (cost l.t l.n) i') (i' + 1) (l.n - (i' + 1))) l.i (l.n - l.i))
-
-abbrev pub decreases-loop-i : goal.decreases-loop-i
-decreases-loop-i l = l.n - l.i

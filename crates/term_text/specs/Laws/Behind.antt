@@ -1,10 +1,8 @@
 -- Bytes behind as many as the longest tables have cannot matter to the reading of so many tables. Assumes nothing.
-use Rattle.std.specs.Prelude.{List, [], ◌++◌, ◌∷◌, refl, ◌≡◌, suc, zero, ℕ, ◌*◌, ◌≤◌, drop, length}
+use Rattle.std.specs.Prelude.{List, [], ◌++◌, ◌∷◌, refl, ◌≡◌, suc, zero, ℕ, ◌*◌, ◌≤◌, drop, length, Ok, Err}
 use Rattle.std.proofs.Common.{ap, sym, ◌∙◌, arith, length-drop}
 use Rattle.std.proofs.lemmas.List.{drop-append-le}
-use Rattle.ground.specs.Refusals.{◌then◌}
-use Rattle.ground.specs.declared.Check.{Check}
-use Rattle.ground.specs.declared.Check.TheVariants.{Passed, Refused}
+use Rattle.ground.specs.Refusals.{◌then◌, Check}
 use Rattle.bits.specs.Editions.{edition_of}
 use Rattle.bits.specs.Laws.Editions.{edition_behind}
 use Rattle.bits.specs.declared.Edition.{Edition}
@@ -54,13 +52,13 @@ module _ (L k : ℕ) (ih : Behind L k) (ts : List Table) (s b : List ℕ) (h : l
         ∙ ap (table_of n (cost_used form n)) (table-behind form s b r few)
 
     taken : images_of form s ≤ 64
-        → onward L k ts Passed (table_in form (s ++ b)) (drop (table_in form (s ++ b)).used (s ++ b))
-        ≡ onward L k ts Passed (table_in form s) (drop (table_in form s).used s)
+        → onward L k ts (Ok tt) (table_in form (s ++ b)) (drop (table_in form (s ++ b)).used (s ++ b))
+        ≡ onward L k ts (Ok tt) (table_in form s) (drop (table_in form s).used s)
     taken few =
         let t = table_in form s in
         let u : t.used ≤ longest_table = omega (arith, end_grows form (images_of form s) 64 few, short) in
-        ap (λ (x : Table). onward L k ts Passed x (drop x.used (s ++ b))) (table_same few)
-        ∙ ap (onward L k ts Passed t) (drop-append-le t.used s b (omega (arith, u, h)))
+        ap (λ (x : Table). onward L k ts (Ok tt) x (drop x.used (s ++ b))) (table_same few)
+        ∙ ap (onward L k ts (Ok tt) t) (drop-append-le t.used s b (omega (arith, u, h)))
         ∙ ap (go_on (same_check ts t.images then many_check L (ts ++ (t ∷ []))) ts)
         (ih (ts ++ (t ∷ [])) (drop t.used s) b (omega (arith, u, h, length-drop t.used s)))
 
@@ -73,8 +71,8 @@ module _ (L k : ℕ) (ih : Behind L k) (ts : List Table) (s b : List ℕ) (h : l
         go : (c : Check) → table_checks form s ≡ c
             → onward L k ts c (table_in form (s ++ b)) (drop (table_in form (s ++ b)).used (s ++ b))
             ≡ onward L k ts c (table_in form s) (drop (table_in form s).used s)
-        go Passed e = taken (table_readable form s e).few
-        go (Refused q) e = refl
+        go (Ok tt) e = taken (table_readable form s e).few
+        go (Err q) e = refl
 
   -- the first byte tells the form
   one-behind : onward_in L k ts (cost_form_at (s ++ b) 0) (s ++ b) ≡ onward_in L k ts (cost_form_at s 0) s

@@ -1,8 +1,8 @@
 -- How long the lines of a report can be: there is room for every one of them. Assumes nothing.
-use Rattle.std.specs.Prelude.{List, [], ◌∷◌, ℕ, ◌*◌, ◌≤◌, length}
+use Rattle.report.specs.Outcome.{Report}
+use Rattle.ground.specs.Refusals.{Check}
+use Rattle.std.specs.Prelude.{List, [], ◌∷◌, ℕ, ◌*◌, ◌≤◌, length, Ok, Err}
 use Rattle.std.proofs.Common.{arith, length-append}
-use Rattle.ground.specs.declared.Check.{Check}
-use Rattle.ground.specs.declared.Check.TheVariants.{Passed, Refused}
 use Rattle.ground.specs.declared.Refusal.{Refusal}
 use Rattle.text.proofs.Laws.Lengths.{field-most}
 use Rattle.text.proofs.Laws.Numbers.{decimal-most}
@@ -10,7 +10,6 @@ use Rattle.text.specs.Words.{bytes_of}
 use Rattle.listing_lines.specs.Lines.{refused_line}
 use Rattle.seen.specs.Seen.{Entry}
 use Rattle.figures.specs.declared.Figures.{Figures}
-use Rattle.report.specs.declared.TermReport.{TermReport}
 use Rattle.term_text.specs.Lines.{end_line, entry_line, entry_lines, figures_line, pairs_line, sides_line}
 use Rattle.term_text.specs.Text.{report_text, report_with, room}
 
@@ -44,11 +43,11 @@ refused-most q =
 
 end_most : (k : ℕ) (c : Check) → length (end_line k c) ≤ 140
 unfolding end_line bytes_of
-end_most k Passed = omega arith
-end_most k (Refused q) = simp length-append (omega (arith, field-most k, refused-most q))
+end_most k (Ok tt) = omega arith
+end_most k (Err q) = simp length-append (omega (arith, field-most k, refused-most q))
 
 -- a report of at most 1,024 far sides
-pub report_most : (r : TermReport) (E : List Entry) → length E ≤ 1024 → length (report_text r E) ≤ room
+pub report_most : (r : Report) (E : List Entry) → length E ≤ 1024 → length (report_text r E) ≤ room
 unfolding report_with
 report_most r E h =
     simp length-append

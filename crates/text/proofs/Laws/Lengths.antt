@@ -17,3 +17,6 @@ fields-most (x ∷ l) = simp length-append (omega (arith, field-most x, fields-m
 -- a word with numbers behind it fits where there is room for the longest numbers
 pub word_fields_fit : (w l : List ℕ) (p : ℕ) (o : List ℕ) → p + length w + 21 * length l ≤ length o → Fits (w ++ fields l) p o
 word_fields_fit w l p o h = omega (arith, length-append w (fields l), fields-most l)
+
+-- for code that writes numbers into room for the longest
+pub ruleset longest = (decimal-most, field-most, fields-most)

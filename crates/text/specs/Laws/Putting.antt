@@ -1,7 +1,8 @@
 -- Text written piece by piece: one piece more, and all of them. Assumes nothing.
-use Rattle.std.specs.Prelude.{List, [], ◌++◌, ◌∷◌, refl, ◌≡◌, ℕ, ◌+◌, ◌<◌, length, set}
-use Rattle.std.proofs.Common.{ap, sym, ◌∙◌, add-one, arith, length-append, length-drop, length-take-le}
-use Rattle.std.proofs.lemmas.List.{set_split}
+use Rattle.std.specs.Prelude.{List, [], ◌++◌, ◌∷◌, refl, ◌≡◌, ℕ, ◌+◌, ◌<◌, ◌≤◌, ◌⊎◌, length, set}
+use Rattle.std.proofs.Common.{inl, inr, append_assoc, append-nil, drop, drop_at, drop-drop, take, take_at, ap, sym, ◌∙◌, add-one, arith, length-append, length-drop, length-take-le}
+use Rattle.std.proofs.lemmas.Bool.{cases_lt}
+use Rattle.std.proofs.lemmas.List.{drop_all, length-take, set_split, take_all}
 use Rattle.ground.specs.Buffers.{front}
 use Rattle.bits.specs.Bits.{over_at}
 use Rattle.bits.specs.Laws.Parts.{over_at_none, over_at_twice}
@@ -47,6 +48,42 @@ rest_last r t = record { behind = omega (arith, t.behind, r.ends); left = t.left
 
 pub rest_end : {p : ℕ} {o text : List ℕ} {p₀ : ℕ} {o₀ : List ℕ} → Rest [] p o text p₀ o₀ → Put text p₀ o₀ p o
 rest_end {p} {o} r = record { behind = omega (arith, r.ends); left = sym (over_at_none o p) ∙ r.whole }
+
+-- ## One piece behind another
+
+-- a list is cut behind its first two parts, or behind its end
+cut_behind : (a k b : List ℕ) (n : ℕ) → (n ≡ length (a ++ k)) ⊎ ((b ≡ []) × (length (a ++ k) ≤ n)) → (take n (a ++ (k ++ b)) ≡ a ++ k) × (drop n (a ++ (k ++ b)) ≡ b)
+cut_behind a k b n (inl e) = rw (← append_assoc a k b) (take_at (a ++ k) b n (sym e), drop_at (a ++ k) b n (sym e))
+cut_behind a k b n (inr (e, h)) = rw (← append_assoc a k b, e, append-nil (a ++ k)) (take_all n (a ++ k) h, drop_all n (a ++ k) h)
+
+over_behind : (l : List ℕ) (p : ℕ) (k m : List ℕ) (n : ℕ) → n ≡ p + length k → over_at (over_at l p k) n m ≡ over_at l p (k ++ m)
+unfolding over_at
+over_behind l p k m n e =
+    let a = take p l in
+    let b = drop (p + length k) l in
+    let w : List ℕ = a ++ (k ++ b) in
+    let c : (take n w ≡ a ++ k) × (drop n w ≡ b) = cut_behind a k b n (elim (cases_lt (length l) p) [ inl h ↦ inr (drop_all (p + length k) l (omega arith), omega (arith, length-append a k, length-take p l)) | inr h ↦ inl (omega (arith, length-append a k, length-take-le p l h)) ]) in
+    let d : drop (n + length m) w ≡ drop (p + length (k ++ m)) l =
+    sym (drop-drop (length m) n w) ∙ ap (drop (length m)) c.1 ∙ drop-drop (length m) (p + length k) l ∙ ap (λ (i : ℕ). drop i l) (omega (arith, length-append k m)) in
+    rw (c.0, d) (simp append_assoc)
+
+pub over_split : (o : List ℕ) (p : ℕ) (s m : List ℕ) → over_at o p (s ++ m) ≡ over_at (over_at o p s) (p + length s) m
+over_split o p s m = sym (over_behind o p s m (p + length s) refl)
+
+pub put_then : {s m : List ℕ} {p : ℕ} {o : List ℕ} {q : ℕ} {i : List ℕ} {p' : ℕ} {o' : List ℕ}
+    → Put s p o q i → Put m q i p' o' → Put (s ++ m) p o p' o'
+put_then {s} {m} {p} {o} {q} {i} {p'} {o'} a b = record {
+  behind = omega (arith, a.behind, b.behind, length-append s m);
+  left = b.left ∙ ap (λ (x : List ℕ). over_at x q m) a.left ∙ over_behind o p s m q a.behind;
+}
+
+-- nothing is written
+pub over_nothing : (o : List ℕ) (p : ℕ) → over_at o p [] ≡ o
+over_nothing o p = over_at_none o p
+
+-- nothing behind it
+pub put_end : {s : List ℕ} {p : ℕ} {o : List ℕ} {p' : ℕ} {o' : List ℕ} → Put s p o p' o' → Put (s ++ []) p o p' o'
+put_end {s} t = rw (append-nil s) t
 
 -- ## One byte
 

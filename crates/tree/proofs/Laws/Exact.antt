@@ -1,18 +1,13 @@
 -- What the checks and the rows of one table say, for the crates that stand on the promise of this one: which tables pass, whose tree
 -- the rows are, and what a call with room enough leaves. Assumes nothing.
-use Rattle.std.specs.Prelude.{List, ◌↔◌, ◌≡◌, ℕ, ◌*◌, ◌-◌, ◌≤◌, drop, length, take}
+use Rattle.std.specs.Prelude.{List, ◌↔◌, ◌≡◌, ℕ, ◌*◌, ◌-◌, ◌≤◌, drop, length, take, Ok, Err}
 use Rattle.std.proofs.Common.{ap, sym, ◌∙◌, arith, take_at}
 use Rattle.std.proofs.Math.Path.{refl}
 use Rattle.std.proofs.lemmas.List.{length-map}
 use borrow.Author.Tests.{eq-eqb, le-ltb}
-use Rattle.ground.specs.Refusals.{places_if, ◌then◌}
+use Rattle.ground.specs.Refusals.{places_if, ◌then◌, Check, Written}
 use Rattle.ground.specs.Laws.Refusals.{then_assoc, then_passed}
-use Rattle.ground.specs.declared.Check.{Check}
-use Rattle.ground.specs.declared.Check.TheVariants.{Passed, Refused}
 use Rattle.ground.specs.declared.Refusal.{Refusal}
-use Rattle.ground.specs.declared.Written.{Written}
-use Rattle.ground.specs.declared.Written.TheVariants.{Places}
-use Rattle.ground.specs.declared.Written.TheVariants as written
 use Rattle.theory.specs.Demands.{OneTree}
 use Rattle.theory.proofs.Demands.{exact_reading, one_tree}
 use Rattle.theory.specs.LinkTables.{Row, far, fars}
@@ -33,7 +28,7 @@ unfolding table_check
 table_sized L n t e = rw (eq-eqb (length t) (n * n) e)
 
 -- a check that passed says nothing among others
-passed_between : (x y z w : Check) → y ≡ Passed → ((x then (y then z)) then w) ≡ (x then (z then w))
+passed_between : (x y z w : Check) → y ≡ Ok tt → ((x then (y then z)) then w) ≡ (x then (z then w))
 passed_between x y z w e = rw e (then_assoc x z w)
 
 module _ (L n : ℕ) (t : List ℕ) where
@@ -66,18 +61,18 @@ module _ (L n : ℕ) (t : List ℕ) where
   -- ## A call with room enough
 
   -- what a refusal tells the caller
-  pub read_refused : {r : Written} {f : List ℕ} {q : Refusal} → SidesRead L n t r f → r ≡ written.Refused q → table_check L n t ≡ Refused q
+  pub read_refused : {r : Written} {f : List ℕ} {q : Refusal} → SidesRead L n t r f → r ≡ Err q → table_check L n t ≡ Err q
   read_refused {q = q} p e = go (table_check L n t) refl (sym e ∙ p.answered)
     where
-      go : (c : Check) → table_check L n t ≡ c → written.Refused q ≡ places_if (table_check L n t) (length (exact_sides L n t)) → table_check L n t ≡ Refused q
-      go Passed s h = absurd (let z = rw s at h in let o : ◌≡◌ {A = ℕ} 0 1 = cc in omega arith)
-      go (Refused x) s h = let z = rw s at h in let o : x ≡ q = cc in s ∙ ap Refused o
+      go : (c : Check) → table_check L n t ≡ c → Err q ≡ places_if (table_check L n t) (length (exact_sides L n t)) → table_check L n t ≡ Err q
+      go (Ok tt) s h = absurd (let z = rw s at h in let o : ◌≡◌ {A = ℕ} 0 1 = cc in omega arith)
+      go (Err x) s h = let z = rw s at h in let o : x ≡ q = cc in s ∙ ap Err o
 
   -- ## Of 3 to 64 images
 
   module _ (least : 3 ≤ n) (most : n ≤ 64) where
     -- the checks of a table are passed exactly by the wired ones
-    pub table-passed : (table_check L n t ≡ Passed) ↔ Wired L n t
+    pub table-passed : (table_check L n t ≡ Ok tt) ↔ Wired L n t
     unfolding table_check tree_check
     table-passed = (
       λ e.
@@ -110,21 +105,21 @@ module _ (L n : ℕ) (t : List ℕ) where
 
         go : (c : Check) → table_check L n t ≡ c → r ≡ (outcome (table_check L n t) T f v).answer → f' ≡ (outcome (table_check L n t) T f v).far_list
             → SidesRead L n t r f'
-        go Passed s p q = record {
-          answered = rw s (rw s at p ∙ ap Places (sym (length-map T far)));
+        go (Ok tt) s p q = record {
+          answered = rw s (rw s at p ∙ ap Ok (sym (length-map T far)));
           stand = λ _. rw (rw s at q) (take_at (fars T) (drop (length (fars T)) f) (length (fars T)) refl);
         }
-        go (Refused x) s p q = record {
+        go (Err x) s p q = record {
           answered = rw s (rw s at p);
           stand = λ h. absurd (let z = sym s ∙ h in let o : ◌≡◌ {A = ℕ} 0 1 = cc in omega arith);
         }
 
     -- what an accepted call tells the caller
-    pub read_accepted : {r : Written} {f : List ℕ} {k : ℕ} → SidesRead L n t r f → r ≡ Places k → SidesStand L n t k f
+    pub read_accepted : {r : Written} {f : List ℕ} {k : ℕ} → SidesRead L n t r f → r ≡ Ok k → SidesStand L n t k f
     read_accepted {f = f} {k = k} p e = go (table_check L n t) refl (sym e ∙ p.answered)
       where
-        go : (c : Check) → table_check L n t ≡ c → Places k ≡ places_if (table_check L n t) (length (exact_sides L n t)) → SidesStand L n t k f
-        go Passed s h =
+        go : (c : Check) → table_check L n t ≡ c → Ok k ≡ places_if (table_check L n t) (length (exact_sides L n t)) → SidesStand L n t k f
+        go (Ok tt) s h =
             let z = rw s at h in
             let m : k ≡ length (exact_sides L n t) = cc in
             let o = exact_tree (table-passed.0 s) in
@@ -136,4 +131,4 @@ module _ (L n : ℕ) (t : List ℕ) where
               few = omega (arith, length-map (exact_rows L n t) far, o.most, m);
               ascending = rw q o.tree.ascending;
             }
-        go (Refused x) s h = absurd (let z = rw s at h in let o : ◌≡◌ {A = ℕ} 0 1 = cc in omega arith)
+        go (Err x) s h = absurd (let z = rw s at h in let o : ◌≡◌ {A = ℕ} 0 1 = cc in omega arith)

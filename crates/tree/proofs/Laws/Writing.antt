@@ -1,18 +1,15 @@
 -- The rows are written as the outcome says and stand where the caller looks for them, and what the checks have shown by then.
 -- Assumes nothing.
-use Rattle.std.specs.Prelude.{List, ◌↔◌, refl, ◌≡◌, ℕ, ◌*◌, ◌-◌, ◌≤◌, ltb, drop, length, take}
+use Rattle.std.specs.Prelude.{List, ◌↔◌, refl, ◌≡◌, ℕ, ◌*◌, ◌-◌, ◌≤◌, ltb, drop, length, take, Ok, Err}
 use Rattle.std.proofs.Common.{ap, ap₂, sym, ◌∙◌, arith, drop_at, take_at, le-ltb, ltb-false}
 use Rattle.std.proofs.lemmas.List.{length-map}
 use Rattle.ground.specs.Buffers.{front, over}
-use Rattle.ground.specs.Laws.Buffers.{over-front}
+use Rattle.ground.specs.Laws.Buffers.{over-front, over_none, over-more}
 use Rattle.ground.specs.Counts.{count}
-use Rattle.ground.specs.Refusals.{◌then◌}
+use Rattle.ground.specs.Refusals.{◌then◌, Check}
 use Rattle.ground.specs.Laws.Refusals.{refuse_if-passed, then_passed}
 use Rattle.ground.specs.Laws.Tests.{or_false}
-use Rattle.ground.specs.declared.Check.{Check}
-use Rattle.ground.specs.declared.Check.TheVariants.{Passed, Refused}
 use Rattle.ground.specs.declared.Refusal.{Refusal}
-use Rattle.ground.specs.declared.Written.TheVariants.{Places}
 use Rattle.theory.proofs.Demands.{measured_reading}
 use Rattle.theory.specs.Laws.JoinedRows.{rows_of-all}
 use Rattle.theory.specs.LinkTables.{Row, costs, far, fars, rows_of}
@@ -26,8 +23,10 @@ use Rattle.lowered_rows.specs.Laws.LocalRows.{rows_in-costs, rows_in-fars, rows_
 use Rattle.lowered_rows.specs.LocalRows.{rows_in}
 use Rattle.tree.specs.Readings.{exact_check, measured_check, outcome, outputs_room_check, short}
 use Rattle.wiring.specs.Check.{wiring_check}
-use Rattle.ground.specs.declared.Written.TheVariants as written
 use Rattle.tree.specs.Writing.{Ready, RowsStand, RowsWritten}
+
+-- what `write_rows` names
+pub ruleset place_by_place = (over_none, over-more)
 
 -- rows in local arrays, written over the first places
 pub rows-over : (T : List Row) (count : ℕ) (g w f v f' v' : List ℕ) → rows_in g w count ≡ T → count ≤ length g → count ≤ length w
@@ -51,10 +50,10 @@ pub held_count : (L : ℕ) (d : ℕ → ℕ → ℕ) (n count : ℕ) (g w : List
 held_count L d n count g w h c p =
     omega (arith, sym (rows_in-length g w count) ∙ ap length p.is, (measured_reading L d n h c).drawn.most)
 
-pub room-passed : (need f v : ℕ) → need ≤ f → need ≤ v → outputs_room_check need f v ≡ Passed
+pub room-passed : (need f v : ℕ) → need ≤ f → need ≤ v → outputs_room_check need f v ≡ Ok tt
 room-passed need f v a b = rw (le-ltb f need a, le-ltb v need b)
 
-pub measured-passed : (L n : ℕ) (t : List ℕ) (f v : ℕ) → (measured_check L n t f v ≡ Passed) ↔ Ready L n t f v
+pub measured-passed : (L n : ℕ) (t : List ℕ) (f v : ℕ) → (measured_check L n t f v ≡ Ok tt) ↔ Ready L n t f v
 measured-passed L n t f v = (
   λ e.
       let p = then_passed (size_check n t) (outputs_room_check (2 * n - 3) f v then costs_check L (cost t n) n) e in
@@ -70,18 +69,18 @@ measured-passed L n t f v = (
       rw (p.0, room-passed (2 * n - 3) f v r.far-room r.cost-room) p.1,
 )
 
-pub exact_ready : (L n : ℕ) (t : List ℕ) (f v : ℕ) → exact_check L n t f v ≡ Passed → Ready L n t f v
+pub exact_ready : (L n : ℕ) (t : List ℕ) (f v : ℕ) → exact_check L n t f v ≡ Ok tt → Ready L n t f v
 exact_ready L n t f v e = (measured-passed L n t f v).0 (then_passed (measured_check L n t f v) (wiring_check (cost t n) n) e).0
 
 -- ## What a call leaves
 
-pub left-refused : {x : Check} {r : Refusal} (y : Check) (T : List Row) (f v : List ℕ) → x ≡ Refused r → x ≡ y
-    → LeftRows (outcome y T f v) (written.Refused r) f v
+pub left-refused : {x : Check} {r : Refusal} (y : Check) (T : List Row) (f v : List ℕ) → x ≡ Err r → x ≡ y
+    → LeftRows (outcome y T f v) (Err r) f v
 left-refused y T f v e q = rw (← q, e) (record { answered = refl; far-sides = refl; doubled = refl })
 
-pub left_written : {x : Check} (y : Check) (T : List Row) (r : ℕ) (f v f' v' : List ℕ) → x ≡ Passed → x ≡ y → RowsWritten T r f v f' v'
-    → LeftRows (outcome y T f v) (Places r) f' v'
-left_written y T r f v f' v' e q w = rw (← q, e) (record { answered = ap Places w.counted; far-sides = w.far-front; doubled = w.cost-front })
+pub left_written : {x : Check} (y : Check) (T : List Row) (r : ℕ) (f v f' v' : List ℕ) → x ≡ Ok tt → x ≡ y → RowsWritten T r f v f' v'
+    → LeftRows (outcome y T f v) (Ok r) f' v'
+left_written y T r f v f' v' e q w = rw (← q, e) (record { answered = ap Ok w.counted; far-sides = w.far-front; doubled = w.cost-front })
 
 -- ## What the caller finds
 
@@ -102,10 +101,9 @@ written_stand T r f v f' v' w =
     }
 
 -- a call that gives a number of rows has passed its checks, and left those rows
-pub left_stand : (c : Check) (T : List Row) (r : ℕ) (f v f' v' : List ℕ) → LeftRows (outcome c T f v) (Places r) f' v' → (c ≡ Passed) × RowsStand T r f v f' v'
-left_stand Passed T r f v f' v' l =
-    (refl, written_stand T r f v f' v' (record { counted = places_same r (length T) l.answered; far-front = l.far-sides; cost-front = l.doubled }))
-  where
-    places_same : (a b : ℕ) → Places a ≡ Places b → a ≡ b
-    places_same a b e = cc
-left_stand (Refused q) T r f v f' v' l = absurd (let e = l.answered in let z : ◌≡◌ {A = ℕ} 0 1 = cc in omega arith)
+pub left_stand : (c : Check) (T : List Row) (r : ℕ) (f v f' v' : List ℕ) → LeftRows (outcome c T f v) (Ok r) f' v' → (c ≡ Ok tt) × RowsStand T r f v f' v'
+left_stand (Ok tt) T r f v f' v' l =
+    let e = l.answered in
+    let counted : r ≡ length T = cc in
+    (refl, written_stand T r f v f' v' (record { counted = counted; far-front = l.far-sides; cost-front = l.doubled }))
+left_stand (Err q) T r f v f' v' l = absurd (let e = l.answered in let z : ◌≡◌ {A = ℕ} 0 1 = cc in omega arith)

@@ -9,10 +9,9 @@ pub write_rows-requires : goal.write_rows-requires
 write_rows-requires c =
     let h = c.measured_rows-count.ensures in
     let p = c.requires in
-    let n = held_count limit _ _ _ _ _ p.0.some p.0.formed h in
-    (omega (arith, h.few, h.far-room), omega (arith, h.few, h.cost-room), le_trans n p.1, le_trans n p.2)
+    let t = c.args.t.now.formed in
+    let n = held_count limit _ _ _ _ _ t.some t.formed h in
+    (omega (arith, h.few, h.far-room), omega (arith, h.few, h.cost-room), le_trans n p.0, le_trans n p.1)
 
 pub returns : goal.returns
-returns c =
-    let h = c.measured_rows-count.ensures in
-    rows_written limit _ _ _ _ _ _ _ _ _ h c.write_rows.ensures.0 c.write_rows.ensures.1
+returns c = rows_written limit _ _ _ _ _ _ _ _ _ c.measured_rows-count.ensures c.write_rows.ensures.0 c.write_rows.ensures.1

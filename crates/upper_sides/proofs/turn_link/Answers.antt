@@ -1,5 +1,5 @@
 -- `upper_sides::turn_link` meets its contract: one side more has gone by. Assumes nothing.
-use Rattle.std.proofs.Common.{arith, length-set, rules, ◌<◌, ◌^◌}
+use Rattle.std.proofs.Common.{rules, ◌<◌, ◌^◌}
 use Rattle.upper_sides.specs.Laws.Uppers.{both_less, linking_more}
 use Rattle.upper_sides.proofs.turn_link.Goals as goal
 
@@ -8,16 +8,9 @@ overflow_sub-both c =
     let fits : c.args.seen < 2 ^ 64 = search rules in
     let p = c.requires in both_less _ _ _ _ _ p.1 p.2 fits p.3
 
-pub mark-requires : goal.mark-requires
-mark-requires c =
-    let p = c.requires in (omega (arith, p.1, p.2), simp length-set p.3.room)
-
-pub shape_of-links : goal.shape_of-links
-shape_of-links c = simp length-set at c.mark.ensures.room
-
 pub returns : goal.returns
 returns c =
     let fits : c.args.seen < 2 ^ 64 = search rules in
     let p = c.requires in
     linking_more _ _ _ _ _ p.1 p.2 fits p.3 _ _
-    (rw c.byte.ensures c.next.ensures) c.mark.ensures
+    (c.next.ensures) c.mark.ensures

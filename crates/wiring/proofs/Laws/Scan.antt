@@ -1,5 +1,5 @@
 -- The scan for refusal 7 looks at fours that begin with image 0 only, and finds the first of all fours that fail (Law G). Assumes nothing.
-use Rattle.std.specs.Prelude.{Bool, List, [], map, ◌++◌, ◌∷◌, ◌≡◌}
+use Rattle.std.specs.Prelude.{Bool, List, [], map, ◌++◌, ◌∷◌, ◌≡◌, Ok, Err}
 use Rattle.std.proofs.Common.{ap, sym, ◌∙◌, arith}
 use Rattle.std.proofs.Math.Path.{refl}
 use Prim.Native.Nat.{suc, zero, ℕ, ◌-◌, ◌<◌}
@@ -7,15 +7,15 @@ use borrow.Table.Steps.{cases}
 use Rattle.ground.specs.Filters.{filter}
 use Rattle.ground.specs.Laws.Filters.{filter-append}
 use Rattle.ground.specs.Lowest.{check_all}
-use Rattle.ground.specs.Laws.Lowest.{all_same}
+use Rattle.ground.specs.Laws.Lowest.{all_ends, all_goes, all_same, all_stops}
 use Rattle.ground.specs.Ranges.{from, gather}
-use Rattle.ground.specs.Refusals.{◌then◌}
-use Rattle.ground.specs.declared.Check.{Check}
-use Rattle.ground.specs.declared.Check.TheVariants.{Passed, Refused}
+use Rattle.ground.specs.Refusals.{◌then◌, Check}
 use Rattle.theory.specs.FourPoint.{Four, fails, four, fours₁, fours₂, fours₃}
 use Rattle.theory.proofs.Laws.ImageOne.{image_one}
 use Rattle.theory.proofs.Laws.Sorted.{none_failing}
-use Rattle.theory.specs.Tables.{WellFormed}
+use Rattle.theory.specs.Tables.{WellFormed, limit}
+use Rattle.tables.specs.Entries.{costs_in}
+use Rattle.tables.specs.declared.costs.Costs.{Costs}
 use Rattle.wiring.specs.Check.{first_four, wiring_check}
 use Rattle.wiring.specs.Scan.{four_check, last_scan, second_scan, third_scan}
 
@@ -25,7 +25,7 @@ first-append : (l r : List Four) → first_four (l ++ r) ≡ (first_four l then 
 first-append [] r = refl
 first-append (q ∷ l) r = refl
 
-pub first-passed : (l : List Four) → first_four l ≡ Passed → l ≡ []
+pub first-passed : (l : List Four) → first_four l ≡ Ok tt → l ≡ []
 first-passed [] e = refl
 first-passed (q ∷ l) e = absurd (let z : ◌≡◌ {A = ℕ} 0 1 = cc in omega arith)
 
@@ -76,5 +76,12 @@ scan_wiring L d (suc k) c h = sym (second_is d (suc k) 0) ∙ go (first_four fro
     whole = ap first_four (filter-append (fails d) (fours₁ (suc k) 0) (gather (from 1 k) (fours₁ (suc k)))) ∙ first-append front rest
 
     go : (x : Check) → first_four front ≡ x → first_four front ≡ wiring_check d (suc k)
-    go (Refused r) e = e ∙ sym (whole ∙ ap (λ y. y then first_four rest) e)
-    go Passed e = e ∙ sym (ap first_four ((none_failing L d (suc k) c).1 (image_one L d (suc k) c (first-passed front e))))
+    go (Err r) e = e ∙ sym (whole ∙ ap (λ y. y then first_four rest) e)
+    go (Ok tt) e = e ∙ sym (ap first_four ((none_failing L d (suc k) c).1 (image_one L d (suc k) c (first-passed front e))))
+
+-- The fours with image 0 in front decide for all.
+pub decides : (t : Costs) → second_scan (costs_in t) t.n 0 ≡ wiring_check (costs_in t) t.n
+decides t = scan_wiring limit (costs_in t) t.n t.formed.formed (omega (arith, t.formed.some))
+
+-- what `check_wiring` names
+pub ruleset in_turn_decided = (all_goes, all_stops, all_ends, decides)

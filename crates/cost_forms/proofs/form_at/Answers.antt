@@ -1,5 +1,0 @@
--- `stored_costs::form_at` meets its contract: the edition that is told, as a form. Assumes nothing.
-use Rattle.cost_forms.proofs.form_at.Goals as goal
-
-pub returns : goal.returns
-returns c = rw c.edition_at.ensures at c.form_of.ensures

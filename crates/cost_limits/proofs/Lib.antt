@@ -1,0 +1,2 @@
+-- What is true of the checks.
+pub mod Passed

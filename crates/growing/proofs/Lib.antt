@@ -1,0 +1,2 @@
+-- What the three parts of the new rows ask, and what they make.
+pub mod Parts

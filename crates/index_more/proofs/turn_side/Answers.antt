@@ -1,8 +1,0 @@
--- `index_more::turn_side` meets its contract. Assumes nothing.
-use Rattle.std.proofs.Common.{arith, ◌∙◌}
-use Rattle.index_more.proofs.turn_side.Goals as goal
-
-pub returns : goal.returns
-returns c =
-    let p = c.requires in
-    omega (arith, c.lower.ensures, c.entry-x.ensures.0 ∙ p.0.formed.same p.2 p.3, c.entry-y.ensures.0)

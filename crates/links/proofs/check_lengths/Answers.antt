@@ -1,9 +1,0 @@
--- `links::check_lengths` meets its contract: it stops at the first refusal, as the chain does. Assumes nothing.
-use Rattle.ground.specs.Laws.Refusals.{then_goes, then_stops}
-use Rattle.links.proofs.check_lengths.Goals as goal
-
-pub returns-in-Refused : goal.returns-in-Refused
-returns-in-Refused c = then_stops _ _ c.in-Refused.is c.refuse_if-sides.ensures
-
-pub returns-in-Passed : goal.returns-in-Passed
-returns-in-Passed c = then_goes _ _ c.in-Passed.is c.refuse_if-sides.ensures c.refuse_if.ensures

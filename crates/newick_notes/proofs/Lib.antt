@@ -1,0 +1,2 @@
+-- One image more is named.
+pub mod Marks

@@ -1,0 +1,2 @@
+-- What is said of the refusal whose row decides it.
+pub mod ByPlace

@@ -1,0 +1,2 @@
+-- Which saying of a list is a number's.
+pub mod Turns

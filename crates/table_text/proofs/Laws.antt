@@ -1,0 +1,2 @@
+-- What the calls leave in arrays of zeros.
+pub mod Read

@@ -1,8 +1,0 @@
--- `wiring::check_four` meets its contract. Assumes nothing.
-use Rattle.wiring.proofs.check_four.Goals as goal
-
-pub returns-then-is_failing : goal.returns-then-is_failing
-returns-then-is_failing c = rw (← c.is_failing.ensures, c.if-is_failing.true)
-
-pub returns : goal.returns
-returns c = rw (← c.is_failing.ensures, c.if-is_failing.false)
