@@ -13,6 +13,7 @@ pub mod Listed
 pub mod Members
 pub mod Next
 pub mod NextGroups
+pub mod OneMore
 pub mod Smallest
 pub mod Storing
 pub mod Written

@@ -26,10 +26,11 @@ pub fn may_open(depth: usize, count: usize) -> bool
 }
 
 // Whether an image may begin with the byte: 1 to 9, and in the first place 1.
-pub fn may_begin(depth: usize, count: usize, b: u8) -> bool
+pub fn may_begin(depth: usize, count: usize, b: usize) -> bool
     ensures { result ≡ begun depth count b }
 {
-    b'1' <= b && b <= b'9' && (!is_first(depth, count) || b == b'1')
+    let first = usize::from(b'1');
+    first <= b && b <= usize::from(b'9') && (!is_first(depth, count) || b == first)
 }
 
 // Whether an image may have a second digit.

@@ -52,7 +52,7 @@ fn after_start(b: u8) -> Seen
 fn begin_image(depth: usize, count: usize, b: u8) -> Seen
     ensures { result ≡ image_begun depth count b }
 {
-    if newick_allowed::may_begin(depth, count, b) {
+    if newick_allowed::may_begin(depth, count, usize::from(b)) {
         return Seen::Image {
             x: usize::from(b - b'0'),
             depth,
@@ -173,8 +173,8 @@ fn after_ended(b: u8) -> Seen
     }
 }
 
-// What the next byte makes of what was read.
-pub fn step(s: Seen, b: u8, outer: &mut [usize]) -> Seen
+// What the next byte makes of what was read, as a byte.
+fn step_by(s: Seen, b: u8, outer: &mut [usize]) -> Seen
     requires { Bounded s × (length outer.old ≡ 64) }
     ensures { (result ≡ next_seen s b outer.old) × (outer.new ≡ next_outer s b outer.old) }
 {
@@ -188,6 +188,18 @@ pub fn step(s: Seen, b: u8, outer: &mut [usize]) -> Seen
         Seen::Ended => after_ended(b),
         Seen::Done | Seen::Dead => Seen::Dead,
     }
+}
+
+// What the next byte makes of what was read. A number above 255 is no byte, and nothing goes on by it.
+#[tactic(auto, using(crate::specs::Laws::Beyond::beyond_seen, crate::specs::Laws::Beyond::beyond_outer))]
+pub fn step(s: Seen, b: usize, outer: &mut [usize]) -> Seen
+    requires { Bounded s × (length outer.old ≡ 64) }
+    ensures { (result ≡ next_seen s b outer.old) × (outer.new ≡ next_outer s b outer.old) }
+{
+    if b < 256 {
+        return step_by(s, b as u8, outer);
+    }
+    Seen::Dead
 }
 
 // Whether no text of the profile begins so.

@@ -74,11 +74,11 @@ fn lower_place(p: usize, q: usize) -> usize
 }
 
 // Behind the digits of an image it is named.
-pub fn name(x: usize, b: u8, w: Noted) -> Noted
+pub fn name(x: usize, b: usize, w: Noted) -> Noted
     requires { (1 ≤ x) × (w.names < 18446744073709551615) }
     ensures { result ≡ named_by b x w }
 {
-    if b != b':' {
+    if b != usize::from(b':') {
         return w;
     }
     Noted {

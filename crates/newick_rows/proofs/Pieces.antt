@@ -1,6 +1,10 @@
--- What `newick_rows::put_below` writes of a row: the vertices before it, how it begins, what is inside it, and its cost. Assumes nothing.
+-- What `newick_rows::put_below` writes of a row: the vertices before it, how it begins, what is inside it, its cost, and what is left behind each.
+-- Assumes nothing.
 use Rattle.std.specs.Prelude.{List, [], ◌++◌, ◌∷◌, ◌≡◌, ℕ, ◌+◌, ◌-◌, ◌<◌, ◌≤◌, ltb, get_or, length}
 use Rattle.std.proofs.Common.{ap, arith, length-append}
+use Rattle.text.specs.Putting.{Rest}
+use Rattle.text.specs.Laws.Pieces.{rest_same}
+use Rattle.text.specs.Laws.Putting.{rest_begin}
 use Rattle.newick_text.specs.Trees.{listed}
 use Rattle.newick_rows.specs.Below.{Sized, below, cost_text, opening, tree_text}
 use Rattle.newick_rows.specs.Chains.{Chained, chain}
@@ -8,17 +12,24 @@ use Rattle.newick_rows.proofs.Laws.Chains.{before_most, chain_pieces, inner-chai
 
 -- u the upper rows, b and w the chains, l the far sides, v the doubled costs; row k, and the byte e behind it
 module _ (u b w l v : List ℕ) (k e : ℕ) where
-  abbrev earlier : List ℕ
+  abbrev pub whole : List ℕ
+  whole = listed e (chain u l v k)
+
+  abbrev pub earlier : List ℕ
   earlier = listed 44 (chain u l v (get_or b (k - 1) 0))
 
-  abbrev begins : List ℕ
+  abbrev pub begins : List ℕ
   begins = opening (ltb 0 (get_or w k 0)) (get_or l (k - 1) 0)
 
-  abbrev inside : List ℕ
+  abbrev pub inside : List ℕ
   inside = listed 41 (chain u l v (get_or w k 0))
 
-  abbrev cost : List ℕ
+  abbrev pub cost : List ℕ
   cost = cost_text (get_or v (k - 1) 0) e
+
+  -- all four are still to be written where the call begins
+  pub begun : (at : ℕ) (out : List ℕ) → Chained u b w → (k ≡ 0 → ⊥) → k ≤ length u → Rest (earlier ++ (begins ++ (inside ++ cost))) at out whole at out
+  begun at out h some known = rest_same (chain_pieces u b w h l v k e some known) (rest_begin whole at out)
 
   module _ (s : Sized u l v) (z : Chained u b w) (some : k ≡ 0 → ⊥) (known : k ≤ length l) where
     pub row_pieces : listed e (chain u l v k) ≡ earlier ++ (begins ++ (inside ++ cost))

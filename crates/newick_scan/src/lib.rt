@@ -82,7 +82,7 @@ fn note(
 {
     match s {
         Seen::Vertex { depth, .. } => begin(depth, b, place, w, masks, lasts, places),
-        Seen::Image { x, .. } => newick_notes::name(x, b, w),
+        Seen::Image { x, .. } => newick_notes::name(x, usize::from(b), w),
         Seen::Cost { x, depth, .. } => end(x, depth, b, w, masks, lasts, places, fars, costs),
         _ => w,
     }
@@ -101,7 +101,7 @@ pub fn scan(text: &[u8], fars: &mut [u64], costs: &mut [u32]) -> Result<Noted, u
     let mut w = newick_notes::nothing();
     let mut s = Seen::Start;
     for (i, byte) in text.iter().enumerate() {
-        let next = newick_bytes::step(s, *byte, &mut outer);
+        let next = newick_bytes::step(s, *byte as usize, &mut outer);
         if newick_bytes::is_dead(next) {
             return Err(i);
         }

@@ -84,10 +84,11 @@ fn slices_case(rt: &impl Print, bytes: &[u8], arguments: &mut Arguments<'_>) -> 
 fn put_bytes(bytes: &[u8], count: usize, out: &mut [u8]) -> usize {
     let mut end = count;
     for byte in bytes {
-        if end < out.len() {
-            out[end] = *byte;
-            end += 1;
+        if out.len() <= end {
+            return end;
         }
+        out[end] = *byte;
+        end += 1;
     }
     end
 }

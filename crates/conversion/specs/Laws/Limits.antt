@@ -50,11 +50,11 @@ fit_renumbered L f n =
     one i j false = refl
 
 -- the form with the lower of its limit and another
-abbrev stricter : Form → ℕ → Form
+abbrev pub stricter : Form → ℕ → Form
 stricter form L = record { head = form.head; mark = form.mark; width = form.width; limit = min form.limit L }
 
 -- no entry is above the lower limit: neither 4 nor 17
-stricter-passed : (form : Form) (L : ℕ) (s : List ℕ) → table_checks (stricter form L) s ≡ Ok tt → entry_checks form L s ≡ Ok tt
+pub stricter-passed : (form : Form) (L : ℕ) (s : List ℕ) → table_checks (stricter form L) s ≡ Ok tt → entry_checks form L s ≡ Ok tt
 unfolding images_of entry_of fill_of
 stricter-passed form L s e =
     let n = images_of form s in
@@ -98,21 +98,6 @@ stricter-refused form L s r e p =
     let m : min form.limit L ≡ form.limit = omega (arith, ltb-false L form.limit h) in
     absurd (passed-refused v.0 (ap (λ (x : ℕ). stored_check x (entry_cost f n) n) (sym m) ∙ under)))
 
--- so, as the reader asks with places enough for every table: where the lower limit let all pass, and where it refused
-pub passed_stricter : (form : Form) (L : ℕ) (s : List ℕ) → read_checks (stricter form L) s 4096 ≡ Ok tt → entry_checks form L s ≡ Ok tt
-passed_stricter form L s e = stricter-passed form L s (sym (enough_room (stricter form L) s 4096 (omega arith)) ∙ e)
-
-pub refused_stricter : (form : Form) (L : ℕ) (s : List ℕ) (r : Refusal) → read_checks (stricter form L) s 4096 ≡ Err r
-    → (table_checks form s then Err (refusal 17 r.a r.b 0 0)) ≡ entry_checks form L s
-refused_stricter form L s r e = go (table_checks form s) refl
-  where
-    under : table_checks (stricter form L) s ≡ Err r
-    under = sym (enough_room (stricter form L) s 4096 (omega arith)) ∙ e
-
-    go : (c : Check) → table_checks form s ≡ c → (table_checks form s then Err (refusal 17 r.a r.b 0 0)) ≡ entry_checks form L s
-    go (Ok tt) p = ap (λ (x : Check). x then Err (refusal 17 r.a r.b 0 0)) p ∙ sym (stricter-refused form L s r under p)
-    go (Err q) p = rw p refl
-
 -- so, where the lower limit refused: what the form's own refuses, and else 17
 pub stricter_again : (form : Form) (L : ℕ) (s : List ℕ) (r : Refusal) → table_checks (stricter form L) s ≡ Err r
     → (table_checks form s then Err (refusal 17 r.a r.b 0 0)) ≡ entry_checks form L s
@@ -121,3 +106,11 @@ stricter_again form L s r e = go (table_checks form s) refl
     go : (c : Check) → table_checks form s ≡ c → (table_checks form s then Err (refusal 17 r.a r.b 0 0)) ≡ entry_checks form L s
     go (Ok tt) p = ap (λ (x : Check). x then Err (refusal 17 r.a r.b 0 0)) p ∙ sym (stricter-refused form L s r e p)
     go (Err q) p = rw p refl
+
+-- so, as the reader asks with places enough for every table: where the lower limit let all pass, and where it refused
+pub passed_stricter : (form : Form) (L : ℕ) (s : List ℕ) → read_checks (stricter form L) s 4096 ≡ Ok tt → entry_checks form L s ≡ Ok tt
+passed_stricter form L s e = stricter-passed form L s (sym (enough_room (stricter form L) s 4096 (omega arith)) ∙ e)
+
+pub refused_stricter : (form : Form) (L : ℕ) (s : List ℕ) (r : Refusal) → read_checks (stricter form L) s 4096 ≡ Err r
+    → (table_checks form s then Err (refusal 17 r.a r.b 0 0)) ≡ entry_checks form L s
+refused_stricter form L s r e = stricter_again form L s r (sym (enough_room (stricter form L) s 4096 (omega arith)) ∙ e)

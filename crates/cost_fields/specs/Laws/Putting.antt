@@ -32,7 +32,7 @@ module _ (w : ℕ) (f : ℕ → ℕ) where
       (ap (λ (vs : List ℕ). field_bits (fields_of w vs)) (listed_more f k) ∙ fields-more w (listed f k) (f k)
       ∙ ap (λ (x : ℕ). field_bits (fields_of w (listed f k)) ++ bits_of w x) (sym e)) p q
 
-  length_listed_bits : (k : ℕ) → length (field_bits (fields_of w (listed f k))) ≡ w * k
+  pub length_listed_bits : (k : ℕ) → length (field_bits (fields_of w (listed f k))) ≡ w * k
   length_listed_bits k = length_fields w (listed f k) ∙ ap (λ (x : ℕ). w * x) (length-listed f k)
 
   -- room for one entry more of m
@@ -61,7 +61,7 @@ module _ (w : ℕ) (d : ℕ → ℕ → ℕ) (n : ℕ) where
       → Put (field_bits (fields_of w (entries d n))) old new g r
   rows_put_end {old = old} {new = new} {g = g} {r = r} e p = subst (λ (k : ℕ). Put (field_bits (fields_of w (entries_to d n k))) old new g r) e p
 
-  length_rows_bits : (i : ℕ) → length (field_bits (fields_of w (entries_to d n i))) ≡ w * row_start n i
+  pub length_rows_bits : (i : ℕ) → length (field_bits (fields_of w (entries_to d n i))) ≡ w * row_start n i
   length_rows_bits i = length_fields w (entries_to d n i) ∙ ap (λ (x : ℕ). w * x) (length-entries d n i)
 
   -- room for one row more

@@ -1,15 +1,17 @@
 -- The writer's checks pass exactly for the cost tables within the form's limit that the lent bytes have room for. Assumes nothing.
-use Rattle.std.specs.Prelude.{List, ◌≡◌, ℕ, ◌≤◌, ltb, Ok}
-use Rattle.std.proofs.Common.{le-ltb, ltb-false}
-use Rattle.ground.specs.Refusals.{room_check, ◌then◌}
-use Rattle.ground.specs.Laws.Refusals.{refuse_if-passed, then_passed}
+use Rattle.std.specs.Prelude.{List, refl, ◌≡◌, ℕ, ◌≤◌, ltb, length, Ok, Err}
+use Rattle.std.proofs.Common.{ap, subst, le-ltb, ltb-false}
+use Rattle.ground.specs.Refusals.{room_check, ◌then◌, Check, Written}
+use Rattle.ground.specs.Laws.Refusals.{refuse_if-passed, then_assoc, then_passed}
+use Rattle.ground.specs.Outcomes.{Left, Outcome}
+use Rattle.ground.specs.declared.Refusal.{Refusal}
 use Rattle.theory.specs.Laws.Limits.{table_wide}
 use Rattle.theory.specs.Tables.{CostTable, cost, limit}
 use Rattle.tables.specs.Checks.{costs_check, size_check}
 use Rattle.tables.proofs.Laws.Formed.{cost-table}
 use Rattle.cost_limits.specs.Laws.Fitting.{passed_fit, table-narrow}
 use Rattle.cost_limits.specs.Checks.{fit_check}
-use Rattle.cost_writer.specs.Writing.{store_checks, write_checks}
+use Rattle.cost_writer.specs.Writing.{store_checks, stored_if, write_checks}
 use Rattle.cost_forms.specs.Form.{cost_used}
 use Rattle.bits.specs.declared.Form.{Form}
 
@@ -33,3 +35,18 @@ module _ (form : Form) (n : ℕ) (t : List ℕ) (room : ℕ) where
 
   pub passed_write : form.limit ≤ limit → CostTable form.limit n t → cost_used form n ≤ room → write_checks form n t room ≡ Ok tt
   passed_write l c h = rw ((cost-table limit n t).1 (table_wide form.limit limit n t l c)) (passed_store c h)
+
+-- ## Whatever a and b check together, and then the room
+
+module _ (a b : Check) (form : Form) (n : ℕ) (t out : List ℕ) where
+  together : stored_if ((a then b) then room_check (cost_used form n) (length out)) form n t out
+      ≡ stored_if (a then b then room_check (cost_used form n) (length out)) form n t out
+  together = ap (λ (c : Check). stored_if c form n t out) (then_assoc a b (room_check (cost_used form n) (length out)))
+
+  pub together_refused : {r : Refusal} → (a then b) ≡ Err r
+      → Left (stored_if (a then b then room_check (cost_used form n) (length out)) form n t out) (Err r) out
+  together_refused {r} h = subst (λ (o : Outcome Written). Left o (Err r) out) together (rw h (record { answered = refl; left = refl }))
+
+  pub together_passed : {w : Written} {d : List ℕ} → (a then b) ≡ Ok tt → Left (stored_if (room_check (cost_used form n) (length out)) form n t out) w d
+      → Left (stored_if (a then b then room_check (cost_used form n) (length out)) form n t out) w d
+  together_passed {w} {d} h p = subst (λ (o : Outcome Written). Left o w d) together (rw h p)

@@ -1,4 +1,4 @@
--- How the loop that counts inner far sides meets their count. Assumes nothing.
+-- How a loop over far sides, one more at a time, meets the count of the inner ones. The code counts them by a filter (Counted). Assumes nothing.
 use Rattle.std.specs.Prelude.{List, [], ◌∷◌, refl, ◌≡◌, ℕ, ◌+◌, ◌<◌, ◌≤◌, get_or, length, take}
 use Rattle.std.proofs.Common.{ap, ◌∙◌, add-one, length-append, take_all, take-suc}
 use borrow.Table.Steps.{cases}

@@ -4,7 +4,7 @@ use Rattle.std.proofs.Math.Path.{ap}
 use Rattle.std.proofs.Common.{sym, ◌∙◌}
 use Prim.Native.Nat.{max, ℕ, ◌+◌, ◌<◌, ◌≤◌}
 use native.Mathlib.Omega.{arith}
-use borrow.Author.Tests.{eq-eqb, eqb-false, eqb-true, ltb-false, ltb-true}
+use borrow.Author.Tests.{eq-eqb, eqb-false, eqb-true, le-ltb, lt-ltb, ltb-false, ltb-true}
 use borrow.Table.Steps.{cases}
 use mathlib.Core.Bool.{false≢true}
 use Rattle.theory.proofs.Laws.FourPoint.{well_formed_less}
@@ -39,6 +39,19 @@ module _ (d : ℕ → ℕ → ℕ) (j : ℕ) where
   pub nearest_end : (i : ℕ) {p : ℕ} → i ≤ j → j ≤ i → Nearest d j i p → Nearest d j j p
   nearest_end i a b h = let q : i ≡ j = omega arith in rw q at h
 
+  pub nearer-taken : (p i : ℕ) {x y : ℕ} → x ≡ d j i → y ≡ d j p → x < y → i ≡ nearer d j p i
+  unfolding nearer
+  nearer-taken p i e f l = rw (← e, ← f, lt-ltb _ _ l)
+
+  pub nearer-left : (p i : ℕ) {x y : ℕ} → x ≡ d j i → y ≡ d j p → y ≤ x → p ≡ nearer d j p i
+  unfolding nearer
+  nearer-left p i e f l = rw (← e, ← f, le-ltb _ _ l)
+
+  -- x is the entry of j and i, z what it ought to be, which is the larger of the other two
+  pub joins_by : (p i : ℕ) {x z : ℕ} → x ≡ d j i → z ≡ max (d p i) (d j p) → eqb x z ≡ joins_at d j p i
+  unfolding joins_at
+  joins_by p i e f = rw (← e, ← f)
+
   -- the test of all images before j, one image more at a time
   pub joins_none : (p : ℕ) → every 0 (joins_at d j p) ≡ true
   joins_none p = every_none (joins_at d j p)
@@ -53,6 +66,13 @@ module _ (d : ℕ → ℕ → ℕ) (j : ℕ) where
   pub joins_ends : (p i : ℕ) → i ≤ j → j ≤ i → every i (joins_at d j p) ≡ true → true ≡ joins d j p
   unfolding joins
   joins_ends p i l h e = every_ends i j (joins_at d j p) l h e
+
+-- the larger of two numbers, found by one comparison
+pub joins-far : {x y a b : ℕ} → x ≡ a → y ≡ b → x < y → y ≡ max a b
+joins-far e f l = omega (arith, e, f, l)
+
+pub joins-near : {x y a b : ℕ} → x ≡ a → y ≡ b → y ≤ x → x ≡ max a b
+joins-near e f l = omega (arith, e, f, l)
 
 -- what the loops over the images before j name
 pub ruleset nearest_turns = (nearest-first, nearest-more, nearest_end)

@@ -62,7 +62,7 @@ module _ (L : ℕ) (d : ℕ → ℕ → ℕ) (k h : ℕ) where
 
 module _ (L : ℕ) (d : ℕ → ℕ → ℕ) (n k : ℕ) where
   -- image k itself is never the next height, so that a loop may go up to it
-  next_end : WellFormed L d n → k < n → (h j : ℕ) {m : ℕ} → j ≤ k + 1 → k + 1 ≤ j → m ≡ next_to L d k (suc h) j → m ≡ next_height L d k (suc h)
+  pub next_end : WellFormed L d n → k < n → (h j : ℕ) {m : ℕ} → j ≤ k + 1 → k + 1 ≤ j → m ≡ next_to L d k (suc h) j → m ≡ next_height L d k (suc h)
   unfolding next_height next_to least_on
   next_end c l h j a b e = let q : j ≡ suc k = omega arith in e ∙ rw (q, c.self l, lt-leb (suc h) 0 (omega arith)) refl
 

@@ -127,6 +127,15 @@ module _ (L : ℕ) (d : ℕ → ℕ → ℕ) (n : ℕ) where
             heights-front = w.heights_are ∙ ap (λ x. front (heights_to L d n x) v₀) e ∙ ap (λ x. front x v₀) heights-all;
           }
 
+      pub written_lengths : (k p : ℕ) (g v : List ℕ) → WrittenTo L d n k g₀ v₀ g v p → k ≤ n → (length g ≡ length g₀) × (length v ≡ length v₀)
+      written_lengths k p g v w l =
+          let m : length (heights_to L d n k) ≤ n - 1 =
+          omega (arith, heights_fewer k l, ap length heights-all, length-map (groups d n) (height d n), groups-most L d n c t) in (
+            front_same (found_to L d n k) g₀ (omega (arith, same_count k, m)) w.groups_are,
+            front_same (heights_to L d n k) v₀ (omega (arith, m))
+                w.heights_are,
+          )
+
 -- ## The same of a cost table, as the loop over the images names it
 
 unfoldable pub Writing : Costs → ℕ → List ℕ → List ℕ → List ℕ → List ℕ → ℕ → Type 0

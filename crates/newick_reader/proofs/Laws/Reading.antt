@@ -1,6 +1,7 @@
 -- From what the scan says of a text to what reading it answers. Assumes nothing.
-use Rattle.std.specs.Prelude.{false, List, ◌≡◌, ℕ, ◌*◌, ◌+◌, ◌≤◌, length, Err, Ok}
+use Rattle.std.specs.Prelude.{false, List, refl, ◌≡◌, suc, ℕ, ◌*◌, ◌+◌, ◌≤◌, length, Err, Ok}
 use Rattle.std.proofs.Common.{subst, arith}
+use Rattle.ground.specs.Refusals.{refusal}
 use Rattle.theory.specs.Outcomes.{LeftRows}
 use Rattle.newick_text.specs.Bytes.{run}
 use Rattle.newick_text.specs.States.{start}
@@ -22,6 +23,11 @@ module _ (t : List ℕ) (s : Scanned) (g w : List ℕ) (h : Says t s g w) where
 
     pub stopped_within : k ≤ length t
     stopped_within = omega (arith, stopped.1, (first_impossible t).most)
+
+    pub stopped_read : (f v : List ℕ) → LeftRows (read_outcome t f v) (Err (refusal 18 (k + 1) 0 0 0)) f v
+    stopped_read f v =
+        let a : k + 1 ≡ suc (lived start t) = omega (arith, stopped.1) in
+        rw (stopped.0, a) (record { answered = refl; far-sides = refl; doubled = refl })
 
   -- ## A whole text
 

@@ -17,6 +17,7 @@ use Rattle.routes.specs.Laws.Accepted.{few_rows}
 use Rattle.climbing.specs.Laws.UpperRows.{upper_later, upper-most, uppers-length}
 use Rattle.routes.specs.Orders.{upper_checks}
 use Rattle.routes.specs.Outcomes.{upper_outcome}
+use Rattle.text.specs.Putting.{Fits}
 use Rattle.newick_text.specs.LinkTrees.{newick}
 use Rattle.newick_rows.specs.Below.{tree_text}
 use Rattle.newick_rows.proofs.Laws.Below.{tree_text_lem}
@@ -27,6 +28,10 @@ use Rattle.newick_writer.specs.Writing.{Known, room_outcome, table_checks, write
 
 pub room-passed : (needed room : ℕ) → room_check needed room ≡ Ok tt → needed ≤ room
 room-passed needed room e = ltb-false room needed (refuse_if-passed (ltb room needed) (refusal 3 0 0 0 0) e)
+
+-- text fits at the front where its bytes have room
+pub room_fits : (m o : List ℕ) → room_check (length m) (length o) ≡ Ok tt → Fits m 0 o
+room_fits m o e = omega (arith, room-passed (length m) (length o) e)
 
 -- ## What the upper rows were asked for, in 128 places
 
@@ -46,23 +51,39 @@ module _ (n N : ℕ) (l v : List ℕ) where
       then_same (size_checks n N l v) refl
       (λ e. rw (le-ltb (length o) (2 * n - 3) (omega (arith, q, (sizes_passed n N l v e).few))) refl)
 
+  -- what was left in the places o
+  module _ (o : List ℕ) (q : length o ≡ 128) {w : Written} {e : List ℕ} (t : Left (upper_outcome limit n N l v o) w e) where
+    pub uppers-refused : {r : Refusal} → w ≡ Err r → table_checks n N l v ≡ Err r
+    uppers-refused {r} s = sym (upper_checks_lem o q) ∙ said_refused (upper_checks limit n N l v (length o)) (length (uppers l)) r (sym s ∙ t.answered)
+
+    passed : {k : ℕ} → w ≡ Ok k → upper_checks limit n N l v (length o) ≡ Ok tt
+    passed {k} s = (said_places (upper_checks limit n N l v (length o)) (length (uppers l)) k (sym s ∙ t.answered)).0
+
+    pub uppers_links : {k : ℕ} → w ≡ Ok k → Links limit n N l v
+    uppers_links s = (link_checks_lem limit n N l v).0 (sym (upper_checks_lem o q) ∙ passed s)
+
+    pub uppers-left : {k : ℕ} → w ≡ Ok k → take (length l) e ≡ uppers l
+    uppers-left s =
+        ap (take (length l)) (t.left ∙ ap (λ (y : Check). front_if y (uppers l) o) (passed s)) ∙ take_at (uppers l) _ (length l) (uppers-length 1 l)
+
   -- ## A link table
 
   module _ (t : Links limit n N l v) where
-    few_here : (1 ≤ length l) × (length l ≤ 125) × (length l ≡ length v)
+    pub few_here : (1 ≤ length l) × (length l ≤ 125) × (length l ≡ length v)
     few_here = let f = few_rows limit n N l v t in (omega (arith, f.0, t.counted), omega (arith, f.2, t.counted), omega (arith, t.counted, t.costed))
 
     -- its text by upper rows, and how many bytes this has
-    newick_is : newick (rows_of l v) ≡ tree_text (uppers l) l v
+    pub newick_is : newick (rows_of l v) ≡ tree_text (uppers l) l v
     newick_is =
         let f = few_here in
         let e : length (rows_of l v) ≡ suc (length l - 1) = rows-length l v f.2 ∙ omega (arith, f.0) in
         tree_text_lem limit n t.few (rows_of l v) t.table t.some (omega arith) (length l - 1) e
         ∙ rw (rows_of-fars l v f.2, rows_of-costs l v f.2) refl
 
-    known : Known (uppers l) l v
-    known =
-        let f = few_here in record {
+    pub known : {u : List ℕ} → u ≡ uppers l → Known u l v
+    known {u} e =
+        let f = few_here in
+        rw e (record {
           some = f.0;
           sized = record { few = f.1; costed = sym f.2; ruled = uppers-length 1 l };
           upward = record {
@@ -70,33 +91,31 @@ module _ (n N : ℕ) (l v : List ℕ) where
             later = λ i h g. upper_later l i (omega (arith, uppers-length 1 l)) g;
           };
           bytes = ap length (sym newick_is) ∙ text-bytes limit n t.few (rows_of l v) t.table t.some;
-        }
+        })
 
     -- what is written of it by upper rows is the outcome
-    write_known : (out : List ℕ) {e : List ℕ} {r : Written} → Left (room_outcome (uppers l) l v out) r e → Left (write_outcome n N l v out) r e
-    write_known out {e} {r} w =
-        rw ((link_checks_lem limit n N l v).1 t)
-        (subst (λ (x : List ℕ). Left (written_if (room_check (length x) (length out)) x out) r e) (sym newick_is) w)
+    pub write_known : (out : List ℕ) {u e : List ℕ} {r : Written} → u ≡ uppers l → Left (room_outcome u l v out) r e → Left (write_outcome n N l v out) r e
+    write_known out {u} {e} {r} q w =
+        let m : tree_text u l v ≡ newick (rows_of l v) = ap (λ (x : List ℕ). tree_text x l v) q ∙ sym newick_is in
+        let s = subst (λ (x : List ℕ). Left (written_if (room_check (length x) (length out)) x out) r e) m w in
+        rw ((link_checks_lem limit n N l v).1 t) s
+
+  -- refused before its room is looked at
+  pub write_stopped : {r : Refusal} (out : List ℕ) → table_checks n N l v ≡ Err r → Left (write_outcome n N l v out) (Err r) out
+  write_stopped out e = rw e (record { answered = refl; left = refl })
 
   -- ## What the upper rows that were found, in 128 places, say of the table and of what is written by them
 
   module _ {w : Written} {e : List ℕ} (t : Left (upper_outcome limit n N l v (replicate 128 0)) w e) {k : ℕ} (s : w ≡ Ok k) where
-    abbrev lent : List ℕ
-    lent = replicate 128 0
-
-    passed : upper_checks limit n N l v (length lent) ≡ Ok tt
-    passed = (said_places (upper_checks limit n N l v (length lent)) (length (uppers l)) k (sym s ∙ t.answered)).0
-
     links_here : Links limit n N l v
-    links_here = (link_checks_lem limit n N l v).0 (sym (upper_checks_lem lent (length-replicate {A = ℕ} 128 0)) ∙ passed)
+    links_here = uppers_links (replicate 128 0) (length-replicate {A = ℕ} 128 0) t s
 
     uppers_here : take (length l) e ≡ uppers l
-    uppers_here =
-        ap (take (length l)) (t.left ∙ ap (λ (y : Check). front_if y (uppers l) lent) passed) ∙ take_at (uppers l) _ (length l) (uppers-length 1 l)
+    uppers_here = uppers-left (replicate 128 0) (length-replicate {A = ℕ} 128 0) t s
 
     pub uppers_known : Known (take (length l) e) l v
-    uppers_known = rw uppers_here (known links_here)
+    uppers_known = known links_here uppers_here
 
     pub uppers_written : (out : List ℕ) {r : Written} {f : List ℕ} → Left (room_outcome (take (length l) e) l v out) r f
         → Left (write_outcome n N l v out) r f
-    uppers_written out p = write_known links_here out (rw uppers_here at p)
+    uppers_written out p = write_known links_here out uppers_here p

@@ -1,5 +1,7 @@
 -- The answer of a term report crosses and nothing is lost, the figures of the tables before a refused one included. Assumes nothing.
-use Rattle.report.specs.Outcome.{Report}
+use Rattle.report.specs.Outcome.{Report, seen_as}
+use Rattle.report.proofs.Promises.{seen_once}
+use Rattle.report.specs.declared.TermReport.{TermReport}
 use Rattle.ground.specs.Refusals.{Check}
 use Rattle.std.specs.Prelude.{cond, refl, ◌≡◌, ℕ, eqb, Ok, Err}
 use Rattle.std.proofs.Common.{ap, ap₂, sym, ◌∙◌, ne_eqb}
@@ -48,6 +50,9 @@ read_back x m = go x.stop refl
         let stop : stop_of (of_end x.table x.stop) ≡ x.stop = rw (e, ne_eqb q.number 0 (m.numbered q e)) refl in
         ap₂ (λ (k : ℕ) (c : Check). record { figures = x.figures; table = k; stop = c }) table stop
 
--- no second answer crosses as the same numbers
-pub report_kept : (x y : Report) → Ends x → Ends y → of_report x ≡ of_report y → x ≡ y
-report_kept x y m o e = sym (read_back x m) ∙ ap report_in e ∙ read_back y o
+-- no second report crosses as the same numbers, and so no second answer of the code
+pub seen_kept : (x y : Report) → Ends x → Ends y → of_report x ≡ of_report y → x ≡ y
+seen_kept x y m o e = sym (read_back x m) ∙ ap report_in e ∙ read_back y o
+
+pub report_kept : (x y : TermReport) → Ends (seen_as x) → Ends (seen_as y) → of_report (seen_as x) ≡ of_report (seen_as y) → x ≡ y
+report_kept x y m o e = seen_once x y (seen_kept (seen_as x) (seen_as y) m o e)
