@@ -26,19 +26,17 @@ fn is_better(t: &Costs<'_>, f: usize, x: usize, w: usize, b: usize) -> bool
     b == f || is_less(t.entry(x, w), t.entry(f, w), t.entry(x, b), t.entry(f, b))
 }
 
-// The better of w and b, and b where w is placed. It returns early, so that a placed image costs the loop one test and no copy of b.
+// The better of w and b, and b where w is placed.
 #[tactic(auto, unfolding(crate::specs::Next::turn_next))]
 fn turn_next(t: &Costs<'_>, f: usize, x: usize, placed: u64, w: usize, b: usize) -> usize
     requires { (f < t.now.n) × (x < t.now.n) × (w < t.now.n) × (b < t.now.n) }
     ensures { result ≡ turn_next (costs_in t.now) f x placed w b }
 {
-    if ground::side(placed, w) != 0 {
-        return b;
+    if ground::side(placed, w) == 0 && is_better(t, f, x, w, b) {
+        w
+    } else {
+        b
     }
-    if is_better(t, f, x, w, b) {
-        return w;
-    }
-    b
 }
 
 // The next image to the left of x: of those whose bit in placed is 0, the one with the least difference, the lowest number on a tie.
